@@ -1,0 +1,13 @@
+pub mod Answers
+pub mod ErrorName
+pub mod IdName
+pub mod Integers
+pub mod Masks
+pub mod Ordered
+pub mod PlainScalar
+pub mod PlainType
+pub mod PlainValue
+pub mod Storable
+pub mod TypeOf
+pub mod TypeText
+pub mod Writes

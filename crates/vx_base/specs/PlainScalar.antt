@@ -1,0 +1,34 @@
+-- A value with its type as plain data, and which value fits which type.
+use Rattle.std.specs.Prelude.{Bool}
+use Rattle.std.specs.Coded.{Coded}
+use Rattle.vx_base.specs.Integers.{lies_in}
+use Rattle.vx_base.specs.Storable.{Storable, code_of, stored×}
+use Rattle.vx_base.specs.PlainType.{PlainType, primitive, is_nullable, stored_type}
+use Rattle.vx_base.specs.PlainValue.{PlainValue, null, int, stored_value}
+
+pub record PlainScalar : Type 0 where
+  pub dtype : PlainType
+  pub value : PlainValue
+
+-- null fits a nullable type, and a whole number an integer type that holds it
+abbrev pub fits : PlainType → PlainValue → Bool
+fits t null = is_nullable t
+fits (primitive p n) (int z) = lies_in p z
+
+abbrev pub scalar : PlainType → PlainValue → PlainScalar
+scalar t v = record { dtype = t; value = v }
+
+-- ---- how the logic stores a scalar
+abbrev pub stored_parts : Storable (PlainType × PlainValue)
+stored_parts = stored× stored_type stored_value
+
+abbrev pub stored_scalar : Storable PlainScalar
+stored_scalar =
+    record {
+      to = λ s. stored_parts.to (s.dtype, s.value);
+      from = λ g. let p = stored_parts.from g in scalar p.0 p.1;
+      back = λ s i. let p = stored_parts.back (s.dtype, s.value) i in scalar p.0 p.1;
+    }
+
+abbrev pub scalar_code : Coded PlainScalar
+scalar_code = code_of stored_scalar

@@ -1,0 +1,271 @@
+//! The eight integer types behind one trait.
+
+ghost use Rattle.std.specs.Prelude.{◌≡◌, ◌↔◌, ℤ, pos, IsTrue, refl, MatchOption, false, true};
+ghost use Rattle.vx_base.specs.declared.ptype.PType.{PType};
+ghost use Rattle.vx_base.specs.declared.ptype.PType.TheVariants.{U8, U16, U32, U64, I8, I16, I32, I64};
+ghost use Rattle.vx_base.specs.Integers.{lies_in};
+ghost use Rattle.std.proofs.Common.{rules};
+ghost use Rattle.std.specs.Ordering.{int_cmp};
+ghost use Rattle.vx_base.specs.Ordered.{cmp_pos};
+
+use crate::ptype::PType;
+use std::hash::Hash;
+
+/// An integer type. Contracts see its values as whole numbers; equality and order are those of the whole numbers.
+pub trait Integer: Copy + Drop + Ord + Hash {
+    // The whole number of a value.
+    ghost whole: { Self → ℤ };
+    // The type as a value.
+    ghost kind: { PType };
+
+    fn ptype() -> PType
+        ensures { result ≡ kind };
+
+    /// The whole number, which lies in the type.
+    fn to_whole(self) -> i128
+        ensures value { result ≡ whole self }
+        ensures held { IsTrue (lies_in kind (whole self)) };
+
+    /// The value of a whole number, None exactly outside the type.
+    fn from_whole(number: i128) -> Option<Self>
+        ensures { MatchOption result (lies_in kind number ≡ false) (λ x. whole x ≡ number) };
+
+    fn zero() -> Self
+        ensures { whole result ≡ pos 0 };
+
+    ghost same: { (a b : Self) → IsTrue (Self.eq a b) ↔ (whole a ≡ whole b) };
+
+    ghost ordered: { (a b : Self) → Self.cmp a b ≡ int_cmp (whole a) (whole b) };
+}
+
+impl Integer for u8 {
+    ghost whole = { λ x. pos x };
+
+    ghost kind = { U8 };
+
+    fn ptype() -> PType {
+        PType::U8
+    }
+
+    #[inline(always)]
+    fn to_whole(self) -> i128 {
+        self as i128
+    }
+
+    #[inline(always)]
+    fn from_whole(number: i128) -> Option<Self> {
+        u8::try_from(number).ok()
+    }
+
+    #[inline(always)]
+    fn zero() -> Self {
+        0
+    }
+
+    ghost same = { Prim.search rules };
+
+    ghost ordered = { cmp_pos };
+}
+
+impl Integer for u16 {
+    ghost whole = { λ x. pos x };
+
+    ghost kind = { U16 };
+
+    fn ptype() -> PType {
+        PType::U16
+    }
+
+    #[inline(always)]
+    fn to_whole(self) -> i128 {
+        self as i128
+    }
+
+    #[inline(always)]
+    fn from_whole(number: i128) -> Option<Self> {
+        u16::try_from(number).ok()
+    }
+
+    #[inline(always)]
+    fn zero() -> Self {
+        0
+    }
+
+    ghost same = { Prim.search rules };
+
+    ghost ordered = { cmp_pos };
+}
+
+impl Integer for u32 {
+    ghost whole = { λ x. pos x };
+
+    ghost kind = { U32 };
+
+    fn ptype() -> PType {
+        PType::U32
+    }
+
+    #[inline(always)]
+    fn to_whole(self) -> i128 {
+        self as i128
+    }
+
+    #[inline(always)]
+    fn from_whole(number: i128) -> Option<Self> {
+        u32::try_from(number).ok()
+    }
+
+    #[inline(always)]
+    fn zero() -> Self {
+        0
+    }
+
+    ghost same = { Prim.search rules };
+
+    ghost ordered = { cmp_pos };
+}
+
+impl Integer for u64 {
+    ghost whole = { λ x. pos x };
+
+    ghost kind = { U64 };
+
+    fn ptype() -> PType {
+        PType::U64
+    }
+
+    #[inline(always)]
+    fn to_whole(self) -> i128 {
+        self as i128
+    }
+
+    #[inline(always)]
+    fn from_whole(number: i128) -> Option<Self> {
+        u64::try_from(number).ok()
+    }
+
+    #[inline(always)]
+    fn zero() -> Self {
+        0
+    }
+
+    ghost same = { Prim.search rules };
+
+    ghost ordered = { cmp_pos };
+}
+
+impl Integer for i8 {
+    ghost whole = { λ x. x };
+
+    ghost kind = { I8 };
+
+    fn ptype() -> PType {
+        PType::I8
+    }
+
+    #[inline(always)]
+    fn to_whole(self) -> i128 {
+        self as i128
+    }
+
+    #[inline(always)]
+    fn from_whole(number: i128) -> Option<Self> {
+        i8::try_from(number).ok()
+    }
+
+    #[inline(always)]
+    fn zero() -> Self {
+        0
+    }
+
+    ghost same = { Prim.search rules };
+
+    ghost ordered = { λ a b. refl };
+}
+
+impl Integer for i16 {
+    ghost whole = { λ x. x };
+
+    ghost kind = { I16 };
+
+    fn ptype() -> PType {
+        PType::I16
+    }
+
+    #[inline(always)]
+    fn to_whole(self) -> i128 {
+        self as i128
+    }
+
+    #[inline(always)]
+    fn from_whole(number: i128) -> Option<Self> {
+        i16::try_from(number).ok()
+    }
+
+    #[inline(always)]
+    fn zero() -> Self {
+        0
+    }
+
+    ghost same = { Prim.search rules };
+
+    ghost ordered = { λ a b. refl };
+}
+
+impl Integer for i32 {
+    ghost whole = { λ x. x };
+
+    ghost kind = { I32 };
+
+    fn ptype() -> PType {
+        PType::I32
+    }
+
+    #[inline(always)]
+    fn to_whole(self) -> i128 {
+        self as i128
+    }
+
+    #[inline(always)]
+    fn from_whole(number: i128) -> Option<Self> {
+        i32::try_from(number).ok()
+    }
+
+    #[inline(always)]
+    fn zero() -> Self {
+        0
+    }
+
+    ghost same = { Prim.search rules };
+
+    ghost ordered = { λ a b. refl };
+}
+
+impl Integer for i64 {
+    ghost whole = { λ x. x };
+
+    ghost kind = { I64 };
+
+    fn ptype() -> PType {
+        PType::I64
+    }
+
+    #[inline(always)]
+    fn to_whole(self) -> i128 {
+        self as i128
+    }
+
+    #[inline(always)]
+    fn from_whole(number: i128) -> Option<Self> {
+        i64::try_from(number).ok()
+    }
+
+    #[inline(always)]
+    fn zero() -> Self {
+        0
+    }
+
+    ghost same = { Prim.search rules };
+
+    ghost ordered = { λ a b. refl };
+}

@@ -1,0 +1,26 @@
+//! What every crate stands on: errors, plain types and values, scalars, masks, lists, ids and the context.
+#![tactic(auto)]
+
+mod array_id;
+mod context;
+mod dtype;
+mod error;
+mod integer;
+mod items;
+mod mask;
+mod ptype;
+mod scalar;
+mod text;
+mod value;
+
+pub use array_id::ArrayId;
+pub use context::ExecutionCtx;
+pub use dtype::{DType, Nullability};
+pub use error::{Refused, VortexError, VortexResult};
+pub use integer::Integer;
+pub use items::{ByteRows, Bytes, IntList, Items, Names, Ranges, Words};
+pub use mask::Mask;
+pub use ptype::PType;
+pub use scalar::Scalar;
+pub use text::Text;
+pub use value::Value;
