@@ -1,0 +1,24 @@
+-- How many rows a column and each nested column have, and how many a tree as it is given.
+use Rattle.std.specs.Prelude.{ℕ, ◌*◌, ◌^◌, Bool, List, [], ◌∷◌, map, length, nat_le}
+use Rattle.std.specs.List.{list_all}
+use Rattle.vx_base.specs.PlainType.{PlainType, primitive}
+use Rattle.vx_base.specs.PlainValue.{PlainValue}
+use Rattle.vx_model.specs.Tree.{Tree, constant, masked}
+use Rattle.vx_model.specs.Tree as trees
+
+-- the rows of the column, then of each nested column in the order of the type
+abbrev pub counts : PlainType → List PlainValue → List ℕ
+counts (primitive p n) values = length values ∷ []
+
+-- the same of a tree, a constant's value counted once a row
+abbrev pub extents : Tree → List ℕ
+extents (trees.primitive p xs valid n) = length xs ∷ []
+extents (constant s len) = map (λ count. len * count) (counts s.dtype (s.value ∷ []))
+extents (masked child valid) = extents child
+
+-- the greatest number of rows that is compressed
+abbrev pub row_limit : ℕ
+row_limit = 2 ^ 31
+
+abbrev pub extents_fit : Tree → Bool
+extents_fit t = list_all (λ extent. nat_le extent row_limit) (extents t)

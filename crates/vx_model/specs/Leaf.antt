@@ -1,0 +1,58 @@
+-- The tree of a leaf column at a site, over any choice of a scheme's tree.
+use Rattle.std.specs.Prelude.{Bool, ◌||◌, ◌==◌, nat_lt, if◌then◌else◌, List, [], ◌∷◌, length, Option, None, Some, option_and_then}
+use Rattle.std.specs.List.{list_all, list_any}
+use Rattle.vx_base.specs.PlainValue.{PlainValue, null, is_null, same_value}
+use Rattle.vx_base.specs.PlainScalar.{scalar}
+use Rattle.vx_model.specs.Tree.{Tree, constant, masked}
+use Rattle.vx_model.specs.Column.{Column}
+use Rattle.vx_model.specs.Plain.{plain, valid_bits}
+use Rattle.vx_model.specs.Site.{Site}
+use Rattle.vx_model.specs.Size.{size}
+
+-- the tree that the chosen scheme makes of a column at a site, if one is chosen
+abbrev pub Chooses : Type 0
+Chooses = Column → Site → Option Tree
+
+-- no scheme is there to be chosen
+abbrev pub no_scheme : Chooses
+no_scheme c site = None
+
+-- the value of the first valid row
+abbrev pub first_valid : List PlainValue → Option PlainValue
+first_valid [] = None
+first_valid (v ∷ vs) = if is_null v then first_valid vs else Some v
+
+-- every row is null or v
+abbrev pub each_null_or : PlainValue → List PlainValue → Bool
+each_null_or v values = list_all (λ w. is_null w || same_value w v) values
+
+-- the value that all valid rows have
+abbrev pub one_value : List PlainValue → Option PlainValue
+one_value values = option_and_then (λ v. if each_null_or v values then Some v else None) (first_valid values)
+
+-- the column whose valid rows are all v: a constant, masked where some row is null
+abbrev pub one_value_tree : Column → PlainValue → Tree
+one_value_tree c v =
+    if list_any is_null c.values then masked (constant (scalar c.dtype v) (length c.values)) (valid_bits c.values)
+    else constant (scalar c.dtype v) (length c.values)
+
+-- the tree where it is smaller than the plain one, else the plain one
+abbrev pub smaller_or_plain : Column → Tree → Tree
+smaller_or_plain c t = if nat_lt (size t) (size (plain c)) then t else plain c
+
+abbrev pub chosen_or_plain : Column → Option Tree → Tree
+chosen_or_plain c None = plain c
+chosen_or_plain c (Some t) = smaller_or_plain c t
+
+-- by the value that all valid rows have, if there is one
+abbrev pub by_value : Chooses → Column → Site → Option PlainValue → Tree
+by_value chooses c site (Some v) = smaller_or_plain c (one_value_tree c v)
+by_value chooses c site None = chosen_or_plain c (chooses c site)
+
+-- An empty column stays plain; nulls alone become a constant; outside samples, equal valid values become a constant or a
+-- masked one where that is smaller; else the chosen scheme's tree stands where it is smaller than the plain one.
+abbrev pub leaf : Chooses → Column → Site → Tree
+leaf chooses c site =
+    if length c.values == 0 then plain c
+    else (if list_all is_null c.values then constant (scalar c.dtype null) (length c.values)
+    else by_value chooses c site (if site.sampled then None else one_value c.values))

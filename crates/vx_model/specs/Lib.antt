@@ -1,0 +1,13 @@
+pub mod Cascade
+pub mod Column
+pub mod Extents
+pub mod Leaf
+pub mod Plain
+pub mod Refusals
+pub mod Rows
+pub mod Site
+pub mod Size
+pub mod Tree
+pub mod TreeCode
+pub mod TreeType
+pub mod WellFormed

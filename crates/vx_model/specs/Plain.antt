@@ -1,0 +1,26 @@
+-- The plain tree of a column: no encoding, 0 beneath nulls, and validity bits exactly where some row is null.
+use Rattle.std.specs.Prelude.{◌≡◌, Bool, List, map, None, Some, not, if◌then◌else◌}
+use Rattle.std.specs.List.{list_any}
+use Rattle.vx_base.specs.PlainType.{PlainType}
+use Rattle.vx_base.specs.PlainType as types
+use Rattle.vx_base.specs.PlainValue.{PlainValue, is_null, whole_or_zero}
+use Rattle.vx_model.specs.Tree.{Tree, Validity, primitive}
+use Rattle.vx_model.specs.Column.{Column, column_of}
+
+-- true where the row isn't null
+abbrev pub valid_bits : List PlainValue → List Bool
+valid_bits values = map (λ v. not (is_null v)) values
+
+abbrev pub validity : List PlainValue → Validity
+validity values = if list_any is_null values then Some (valid_bits values) else None
+
+-- by the type
+abbrev pub plain_of : PlainType → List PlainValue → Tree
+plain_of (types.primitive p n) values = primitive p (map whole_or_zero values) (validity values) n
+
+abbrev pub plain : Column → Tree
+plain c = plain_of c.dtype c.values
+
+-- a tree that is the plain one of its own column
+abbrev pub IsPlain : Tree → Type 0
+IsPlain t = t ≡ plain (column_of t)
