@@ -55,6 +55,13 @@ impl<T> Items<T> {
         self.items.as_slice()
     }
 
+    /// The items as a vector.
+    pub fn into_vec(self) -> Vec<T>
+        ensures { result.items ≡ self }
+    {
+        self.items
+    }
+
     pub fn push(&mut self, item: T) -> Result<(), T>
         ensures { MatchResult result (λ _. self.new ≡ self.old ++ item ∷ []) (λ back. (back ≡ item) × (self.new ≡ self.old)) }
     {

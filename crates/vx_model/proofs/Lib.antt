@@ -1,0 +1,4 @@
+pub mod MadeLemmas
+pub mod RowLemmas
+pub mod DecodeLemmas
+pub mod NullLemmas

@@ -1,7 +1,9 @@
 pub mod Cascade
 pub mod Column
+pub mod Decoded
 pub mod Extents
 pub mod Leaf
+pub mod Nodes
 pub mod Plain
 pub mod Refusals
 pub mod Rows

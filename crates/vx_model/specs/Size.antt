@@ -1,5 +1,5 @@
 -- The bytes of a tree.
-use Rattle.std.specs.Prelude.{ℕ, ◌+◌, ◌*◌, ◌/◌, length, Some, None}
+use Rattle.std.specs.Prelude.{ℕ, min, ◌-◌, ◌^◌, ◌+◌, ◌*◌, ◌/◌, length, Some, None}
 use Rattle.vx_base.specs.Integers.{bytes_of}
 use Rattle.vx_base.specs.PlainType.{PlainType, primitive}
 use Rattle.vx_base.specs.PlainValue.{PlainValue, null, int}
@@ -23,3 +23,7 @@ abbrev pub size : Tree → ℕ
 size (trees.primitive p xs valid n) = length xs * bytes_of p + validity_size valid
 size (constant s len) = 1 + payload s.dtype s.value
 size (masked child valid) = size child + bit_bytes (length valid)
+
+-- the bytes as 128 bits count them
+abbrev pub nbytes : Tree → ℕ
+nbytes t = min (size t) (2 ^ 128 - 1)

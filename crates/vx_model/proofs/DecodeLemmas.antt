@@ -1,0 +1,143 @@
+-- What a node's decoding has to show: whole numbers with 0 beneath nulls, and validity.
+use Rattle.std.proofs.Common.{◌≡◌, ◌<◌, ◌+◌, ℕ, zero, suc, ℤ, pos, List, [], ◌∷◌, length, map, take, refl, sym, ap, ◌∙◌, arith, Bool, true, false, cond, Option, Some, None}
+use Rattle.std.specs.Prelude.{IsTrue, ◌||◌, ◌&&◌, ◌==◌, not, replicate}
+use Rattle.std.specs.List.{list_all, list_any}
+use Rattle.std.proofs.lemmas.List.{length-map}
+use Rattle.std.proofs.lemmas.Bool.Decides.{nat_tests}
+use Rattle.vx_base.specs.declared.error.VortexError.{VortexError}
+use Rattle.vx_base.specs.declared.ptype.PType.{PType}
+use Rattle.vx_base.specs.declared.dtype.Nullability.{Nullability}
+use Rattle.vx_base.specs.declared.dtype.Nullability.TheVariants.{Nullable, NonNullable}
+use Rattle.vx_base.specs.PlainScalar.{fits}
+use Rattle.vx_base.specs.PlainType.{PlainType}
+use Rattle.vx_base.specs.PlainType as types
+use Rattle.vx_base.specs.PlainValue.{PlainValue, null, int, is_null, whole_or_zero}
+use Rattle.vx_model.specs.Tree.{Tree, Validity, primitive}
+use Rattle.vx_model.specs.Decoded.{zeroed, zeroed_by}
+use Rattle.vx_model.specs.Column.{column_of}
+use Rattle.vx_model.specs.Plain.{plain, validity, valid_bits}
+use Rattle.vx_model.specs.Refusals.{kept, primitive_refusal}
+use Rattle.vx_model.specs.Rows.{rows, masked_rows, valid_rows}
+use Rattle.vx_model.specs.TreeType.{tree_type}
+use Rattle.vx_model.specs.WellFormed.{WellFormed, IsValidityOf, RowsFit}
+use Rattle.vx_model.proofs.MadeLemmas.{rows_fit}
+
+-- ---- whole numbers
+
+at_bit : (b : Bool) (v : PlainValue) → whole_or_zero (cond b v null) ≡ cond b (whole_or_zero v) (pos 0)
+at_bit true v = refl
+at_bit false v = refl
+
+pub wholes-masked_rows : (bits : List Bool) (rs : List PlainValue) → length bits ≡ length rs → map whole_or_zero (masked_rows bits rs) ≡ zeroed bits (map whole_or_zero rs)
+wholes-masked_rows [] [] l = refl
+wholes-masked_rows [] (r ∷ rs) l = absurd (omega arith)
+wholes-masked_rows (b ∷ bits) [] l = absurd (omega arith)
+wholes-masked_rows (b ∷ bits) (r ∷ rs) l = let rest = wholes-masked_rows bits rs (omega arith) in λ i. at_bit b r i ∷ rest i
+
+pub wholes-map-int : (xs : List ℤ) → map whole_or_zero (map int xs) ≡ xs
+wholes-map-int [] = refl
+wholes-map-int (x ∷ xs) = ap (λ ys. x ∷ ys) (wholes-map-int xs)
+
+pub wholes-valid_rows : (valid : Validity) (xs : List ℤ) (n : Nullability) → IsValidityOf valid (length xs) n → map whole_or_zero (valid_rows valid (map int xs)) ≡ zeroed_by valid xs
+wholes-valid_rows None xs n h = wholes-map-int xs
+wholes-valid_rows (Some bits) xs n h = wholes-masked_rows bits (map int xs) (h.0 ∙ sym (length-map xs int)) ∙ ap (zeroed bits) (wholes-map-int xs)
+
+pub wholes-replicate : (len : ℕ) (v : PlainValue) → map whole_or_zero (replicate len v) ≡ replicate len (whole_or_zero v)
+wholes-replicate zero v = refl
+wholes-replicate (suc len) v = ap (λ ys. whole_or_zero v ∷ ys) (wholes-replicate len v)
+
+-- ---- validity
+
+pub no_null-map-int : (xs : List ℤ) → list_any is_null (map int xs) ≡ false
+no_null-map-int [] = refl
+no_null-map-int (x ∷ xs) = no_null-map-int xs
+
+bit_of : (b : Bool) (v : PlainValue) → is_null v ≡ false → is_null (cond b v null) ≡ not b
+bit_of true v e = e
+bit_of false v e = refl
+
+split_any : (b c : Bool) → (b || c) ≡ false → (b ≡ false) × (c ≡ false)
+split_any true c e = absurd cc
+split_any false c e = (refl, e)
+
+pub any_masked : (bits : List Bool) (rs : List PlainValue) → length bits ≡ length rs → list_any is_null rs ≡ false → list_any is_null (masked_rows bits rs) ≡ not (list_all (λ b. b) bits)
+any_masked [] [] l e = refl
+any_masked [] (r ∷ rs) l e = absurd (omega arith)
+any_masked (b ∷ bits) [] l e = absurd (omega arith)
+any_masked (b ∷ bits) (r ∷ rs) l e =
+    let s = split_any (is_null r) (list_any is_null rs) e in
+    rw (bit_of b r s.0, any_masked bits rs (omega arith) s.1) (joined b (list_all (λ b. b) bits))
+  where
+    joined : (b c : Bool) → (not b || not c) ≡ not (b && c)
+    joined true c = refl
+    joined false c = refl
+
+pub bits_masked : (bits : List Bool) (rs : List PlainValue) → length bits ≡ length rs → list_any is_null rs ≡ false → valid_bits (masked_rows bits rs) ≡ bits
+bits_masked [] [] l e = refl
+bits_masked [] (r ∷ rs) l e = absurd (omega arith)
+bits_masked (b ∷ bits) [] l e = absurd (omega arith)
+bits_masked (b ∷ bits) (r ∷ rs) l e =
+    let s = split_any (is_null r) (list_any is_null rs) e in
+    rw (bit_of b r s.0, bits_masked bits rs (omega arith) s.1) (ap (λ c. c ∷ bits) (twice b))
+  where
+    twice : (b : Bool) → not (not b) ≡ b
+    twice true = refl
+    twice false = refl
+
+pub validity-masked_rows : (bits : List Bool) (rs : List PlainValue) → length bits ≡ length rs → list_any is_null rs ≡ false → validity (masked_rows bits rs) ≡ kept (Some bits)
+validity-masked_rows bits rs l e = rw (any_masked bits rs l e, bits_masked bits rs l e) (turned (list_all (λ b. b) bits))
+  where
+    turned : (b : Bool) → cond (not b) (Some bits) None ≡ cond b None (Some bits)
+    turned true = refl
+    turned false = refl
+
+pub validity-valid_rows : (valid : Validity) (xs : List ℤ) (n : Nullability) → IsValidityOf valid (length xs) n → validity (valid_rows valid (map int xs)) ≡ valid
+validity-valid_rows None xs n h = rw (no_null-map-int xs) refl
+validity-valid_rows (Some bits) xs n h = validity-masked_rows bits (map int xs) (h.0 ∙ sym (length-map xs int)) (no_null-map-int xs) ∙ rw h.2 refl
+
+-- ---- the plain tree by its constructor
+
+length-valid_bits : (vs : List PlainValue) → length (valid_bits vs) ≡ length vs
+length-valid_bits vs = length-map vs (λ v. not (is_null v))
+
+all_valid_bits : (vs : List PlainValue) → list_all (λ b. b) (valid_bits vs) ≡ not (list_any is_null vs)
+all_valid_bits [] = refl
+all_valid_bits (v ∷ vs) = rw (all_valid_bits vs) (joined (is_null v) (list_any is_null vs))
+  where
+    joined : (b c : Bool) → (not b && not c) ≡ not (b || c)
+    joined true c = refl
+    joined false c = refl
+
+pub kept-validity : (vs : List PlainValue) → kept (validity vs) ≡ validity vs
+kept-validity vs = by_any (list_any is_null vs) refl
+  where
+    by_any : (b : Bool) → list_any is_null vs ≡ b → kept (cond b (Some (valid_bits vs)) None) ≡ cond b (Some (valid_bits vs)) None
+    by_any true e = rw (all_valid_bits vs, e) refl
+    by_any false e = refl
+
+null_allowed : (p : PType) (vs : List PlainValue) → list_all (fits (types.primitive p NonNullable)) vs ≡ true → list_any is_null vs ≡ false
+null_allowed p [] h = refl
+null_allowed p (null ∷ vs) h = absurd cc
+null_allowed p (int z ∷ vs) h = null_allowed p vs (second (fits (types.primitive p NonNullable) (int z)) h)
+  where
+    second : (b : Bool) → (b && list_all (fits (types.primitive p NonNullable)) vs) ≡ true → list_all (fits (types.primitive p NonNullable)) vs ≡ true
+    second true e = e
+    second false e = absurd cc
+
+-- the validity of rows that fit is admitted
+pub plain_admitted : (p : PType) (n : Nullability) (vs : List PlainValue) → list_all (fits (types.primitive p n)) vs ≡ true → primitive_refusal (length (map whole_or_zero vs)) (validity vs) n ≡ None
+plain_admitted p NonNullable vs h = rw (null_allowed p vs h) refl
+plain_admitted p Nullable vs h = by_any (list_any is_null vs)
+  where
+    same_length : (length (valid_bits vs) == length (map whole_or_zero vs)) ≡ true
+    same_length = let a = length-valid_bits vs in let b = length-map vs whole_or_zero in grind (arith, nat_tests)
+    by_any : (b : Bool) → primitive_refusal (length (map whole_or_zero vs)) (cond b (Some (valid_bits vs)) None) Nullable ≡ None
+    by_any true = rw same_length refl
+    by_any false = refl
+
+pub tree_admitted : (t : Tree) (p : PType) (n : Nullability) → WellFormed t → tree_type t ≡ types.primitive p n → primitive_refusal (length (map whole_or_zero (rows t))) (validity (rows t)) n ≡ None
+tree_admitted t p n h e = plain_admitted p n (rows t) (let f = rows_fit t h in rw e at f)
+
+-- the plain tree of a tree of integers
+pub plain-integers : (t : Tree) (p : PType) (n : Nullability) → tree_type t ≡ types.primitive p n → plain (column_of t) ≡ primitive p (map whole_or_zero (rows t)) (validity (rows t)) n
+plain-integers t p n e = rw e refl

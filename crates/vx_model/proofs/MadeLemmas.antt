@@ -1,0 +1,71 @@
+-- A constructor's tree is well formed, from its tests.
+use Rattle.std.proofs.Common.{◌≡◌, ℕ, ℤ, List, [], ◌∷◌, map, Bool, true, false, None, Some, length, refl, sym, ap, ◌∙◌, arith, cond, zero, suc}
+use Rattle.std.specs.Prelude.{IsTrue, ◌||◌, ◌&&◌, ◌==◌, replicate}
+use Rattle.std.specs.List.{list_any, list_all}
+use Rattle.std.proofs.lemmas.Bool.Decides.{nat_tests}
+use Rattle.vx_base.specs.declared.ptype.PType.{PType}
+use Rattle.vx_base.specs.declared.dtype.Nullability.{Nullability}
+use Rattle.vx_base.specs.declared.dtype.Nullability.TheVariants.{Nullable, NonNullable}
+use Rattle.vx_base.specs.Integers.{lies_in}
+use Rattle.vx_base.specs.PlainScalar.{PlainScalar, fits}
+use Rattle.vx_base.specs.PlainType.{PlainType, is_leaf, is_nullable}
+use Rattle.vx_base.specs.PlainType as types
+use Rattle.vx_base.specs.PlainValue.{PlainValue, null, int, is_null}
+use Rattle.vx_model.specs.Tree.{Tree, Validity, primitive, constant, masked}
+use Rattle.vx_model.specs.Refusals.{validity_length, validity_allowed, kept}
+use Rattle.vx_model.specs.Rows.{rows, masked_rows, valid_rows}
+use Rattle.vx_model.specs.TreeType.{tree_type}
+use Rattle.vx_model.specs.WellFormed.{WellFormed, IsValidityOf, RowsFit}
+
+all_or_allowed : (b : Bool) (bits : List Bool) (len : ℕ) (n : Nullability) → list_all (λ b. b) bits ≡ b → (length bits == len) ≡ true → validity_allowed (Some bits) n ≡ true → IsValidityOf (cond b None (Some bits)) len n
+all_or_allowed true bits len n e l a = tt
+all_or_allowed false bits len NonNullable e l a = absurd cc
+all_or_allowed false bits len Nullable e l a = (grind (arith, nat_tests), refl, e)
+
+kept_validity : (valid : Validity) (len : ℕ) (n : Nullability) → validity_length valid len ≡ true → validity_allowed valid n ≡ true → IsValidityOf (kept valid) len n
+kept_validity None len n l a = tt
+kept_validity (Some bits) len n l a = all_or_allowed (list_all (λ b. b) bits) bits len n refl l a
+
+ints_fit : (p : PType) (n : Nullability) (xs : List ℤ) → list_all (lies_in p) xs ≡ true → list_all (fits (types.primitive p n)) (map int xs) ≡ true
+ints_fit p n [] h = refl
+ints_fit p n (x ∷ xs) h = both (lies_in p x) h (ints_fit p n xs)
+  where
+    both : (b : Bool) → (b && list_all (lies_in p) xs) ≡ true → (list_all (lies_in p) xs ≡ true → list_all (fits (types.primitive p n)) (map int xs) ≡ true) → (b && list_all (fits (types.primitive p n)) (map int xs)) ≡ true
+    both true e rest = rest e
+    both false e rest = absurd cc
+
+-- rows that fit a nullable type fit it behind a mask
+pub masked_fit : (t : PlainType) (bits : List Bool) (rs : List PlainValue) → fits t null ≡ true → list_all (fits t) rs ≡ true → list_all (fits t) (masked_rows bits rs) ≡ true
+masked_fit t [] rs n h = refl
+masked_fit t (b ∷ bits) [] n h = refl
+masked_fit t (b ∷ bits) (r ∷ rs) n h = both b (fits t r) refl h (masked_fit t bits rs n)
+  where
+    both : (b c : Bool) → fits t r ≡ c → (c && list_all (fits t) rs) ≡ true → (list_all (fits t) rs ≡ true → list_all (fits t) (masked_rows bits rs) ≡ true) → (fits t (cond b r null) && list_all (fits t) (masked_rows bits rs)) ≡ true
+    both true true e h rest = rw e (rest h)
+    both false true e h rest = rw n (rest h)
+    both b false e h rest = absurd cc
+
+valid_fit : (valid : Validity) (p : PType) (n : Nullability) (len : ℕ) (rs : List PlainValue) → IsValidityOf valid len n → list_all (fits (types.primitive p n)) rs ≡ true → list_all (fits (types.primitive p n)) (valid_rows valid rs) ≡ true
+valid_fit None p n len rs v h = h
+valid_fit (Some bits) p n len rs v h = masked_fit (types.primitive p n) bits rs (ap types.allows_null v.1) h
+
+pub primitive_made : (p : PType) (xs : List ℤ) (valid : Validity) (n : Nullability) → validity_length valid (length xs) ≡ true → validity_allowed valid n ≡ true → list_all (lies_in p) xs ≡ true → WellFormed (primitive p xs (kept valid) n)
+primitive_made p xs valid n l a h =
+    let v : IsValidityOf (kept valid) (length xs) n = kept_validity valid (length xs) n l a in
+    (record { held = h; validity = v }, valid_fit (kept valid) p n (length xs) (map int xs) v (ints_fit p n xs h))
+
+copies_fit : (t : PlainType) (v : PlainValue) (len : ℕ) → fits t v ≡ true → list_all (fits t) (replicate len v) ≡ true
+copies_fit t v zero h = refl
+copies_fit t v (suc len) h = rw h (copies_fit t v len h)
+
+pub constant_made : (s : PlainScalar) (len : ℕ) → fits s.dtype s.value ≡ true → WellFormed (constant s len)
+constant_made s len h = (h, copies_fit s.dtype s.value len h)
+
+pub rows_fit : (t : Tree) → WellFormed t → RowsFit t
+rows_fit (primitive p xs valid n) h = h.1
+rows_fit (constant s len) h = h.1
+rows_fit (masked child valid) h = h.2
+
+pub masked_made : (child : Tree) (valid : List Bool) → is_leaf (tree_type child) ≡ true → is_nullable (tree_type child) ≡ true → length valid ≡ length (rows child) → list_any is_null (rows child) ≡ false → WellFormed child → WellFormed (masked child valid)
+masked_made child valid leaf nullable lengths no_null h =
+    (h, record { leaf = leaf; nullable = nullable; lengths = lengths; no_null = no_null }, masked_fit (tree_type child) valid (rows child) nullable (rows_fit child h))

@@ -1,0 +1,91 @@
+-- Which rows are null, node by node, and when a tree is plain.
+use Rattle.std.proofs.Common.{◌≡◌, ◌↔◌, ◌<◌, ℕ, zero, suc, ℤ, pos, List, [], ◌∷◌, length, map, refl, sym, ap, subst, ◌∙◌, arith, Bool, true, false, cond, Option, Some, None}
+use Rattle.std.specs.Prelude.{IsTrue, ◌||◌, ◌&&◌, not, replicate}
+use Rattle.std.specs.List.{list_all, list_any}
+use Rattle.std.specs.Ordering.{int_eq}
+use Rattle.std.proofs.lemmas.List.{length-map}
+use Rattle.std.proofs.lemmas.Int.{ints}
+use Rattle.vx_base.specs.declared.ptype.PType.{PType}
+use Rattle.vx_base.specs.declared.dtype.Nullability.{Nullability}
+use Rattle.vx_base.specs.PlainScalar.{PlainScalar}
+use Rattle.vx_base.specs.PlainType.{PlainType}
+use Rattle.vx_base.specs.PlainType as types
+use Rattle.vx_base.specs.PlainValue.{PlainValue, null, int, is_null, whole_or_zero}
+use Rattle.vx_model.specs.Tree.{Tree, Validity, primitive, constant, masked}
+use Rattle.vx_model.specs.Decoded.{zeroed, zeroed_by, zero_beneath}
+use Rattle.vx_model.specs.Plain.{IsPlain, plain_of}
+use Rattle.vx_model.specs.Rows.{rows, masked_rows, valid_rows}
+use Rattle.vx_model.specs.WellFormed.{WellFormed}
+use Rattle.vx_model.proofs.DecodeLemmas.{any_masked, no_null-map-int, wholes-valid_rows, validity-valid_rows}
+
+pub any_null-bits : (p : PType) (xs : List ℤ) (bits : List Bool) (n : Nullability) → WellFormed (primitive p xs (Some bits) n) → list_any is_null (rows (primitive p xs (Some bits) n)) ≡ true
+any_null-bits p xs bits n h = any_masked bits (map int xs) (h.0.validity.0 ∙ sym (length-map xs int)) (no_null-map-int xs) ∙ ap not h.0.validity.2
+
+pub any_null-none : (xs : List ℤ) → list_any is_null (map int xs) ≡ false
+any_null-none = no_null-map-int
+
+pub any_null-replicate : (len : ℕ) (v : PlainValue) → is_null v ≡ false → list_any is_null (replicate len v) ≡ false
+any_null-replicate zero v e = refl
+any_null-replicate (suc len) v e = rw e (any_null-replicate len v e)
+
+pub any_null-nulls : (len : ℕ) (v : PlainValue) → 0 < len → is_null v ≡ true → list_any is_null (replicate len v) ≡ true
+any_null-nulls zero v h e = absurd (omega arith)
+any_null-nulls (suc len) v h e = rw e refl
+
+pub any_null-masked : (child : Tree) (valid : List Bool) → WellFormed (masked child valid) → list_any is_null (rows (masked child valid)) ≡ not (list_all (λ b. b) valid)
+any_null-masked child valid h = any_masked valid (rows child) h.1.lengths h.1.no_null
+
+pub ruleset nulls = (any_null-bits, any_null-none, any_null-replicate, any_null-nulls, any_null-masked)
+
+-- ---- plain trees
+
+zero_if : (b : Bool) (x : ℤ) → (b || int_eq x (pos 0)) ≡ true → cond b x (pos 0) ≡ x
+zero_if true x e = refl
+zero_if false x e = let s : x ≡ pos 0 = grind (arith, ints) in sym s
+
+if_zero : (b : Bool) (x : ℤ) → cond b x (pos 0) ≡ x → (b || int_eq x (pos 0)) ≡ true
+if_zero true x e = refl
+if_zero false x e = rw (← e) refl
+
+both_true : (b c : Bool) → (b && c) ≡ true → (b ≡ true) × (c ≡ true)
+both_true true c e = (refl, e)
+both_true false c e = absurd cc
+
+zeroed_same : (bits : List Bool) (xs : List ℤ) → zero_beneath bits xs ≡ true → zeroed bits xs ≡ xs
+zeroed_same [] xs e = refl
+zeroed_same (b ∷ bits) [] e = refl
+zeroed_same (b ∷ bits) (x ∷ xs) e = let s = both_true (b || int_eq x (pos 0)) (zero_beneath bits xs) e in λ i. zero_if b x s.0 i ∷ zeroed_same bits xs s.1 i
+
+same_zeroed : (bits : List Bool) (xs : List ℤ) → zeroed bits xs ≡ xs → zero_beneath bits xs ≡ true
+same_zeroed [] xs e = refl
+same_zeroed (b ∷ bits) [] e = refl
+same_zeroed (b ∷ bits) (x ∷ xs) e =
+    let h : cond b x (pos 0) ≡ x = cc in
+    let t : zeroed bits xs ≡ xs = cc in
+    rw (if_zero b x h, same_zeroed bits xs t) refl
+
+plain_by : (p : PType) (xs : List ℤ) (valid : Validity) (n : Nullability) → WellFormed (primitive p xs valid n) → plain_of (types.primitive p n) (rows (primitive p xs valid n)) ≡ primitive p (zeroed_by valid xs) valid n
+plain_by p xs valid n h = λ i. primitive p (wholes-valid_rows valid xs n h.0.validity i) (validity-valid_rows valid xs n h.0.validity i) n
+
+pub plain-none : (p : PType) (xs : List ℤ) (n : Nullability) → WellFormed (primitive p xs None n) → IsPlain (primitive p xs None n)
+plain-none p xs n h = sym (plain_by p xs None n h)
+
+pub plain-bits : (p : PType) (xs : List ℤ) (bits : List Bool) (n : Nullability) → WellFormed (primitive p xs (Some bits) n) → (zero_beneath bits xs ≡ true) ↔ IsPlain (primitive p xs (Some bits) n)
+plain-bits p xs bits n h =
+    let e = plain_by p xs (Some bits) n h in
+    (λ z. ap (λ ys. primitive p ys (Some bits) n) (sym (zeroed_same bits xs z)) ∙ sym e,
+    λ q. same_zeroed bits xs (let s : primitive p (zeroed bits xs) (Some bits) n ≡ primitive p xs (Some bits) n = sym (q ∙ e) in cc))
+
+not_constant : (s : PlainScalar) (len : ℕ) (t : PlainType) (vs : List PlainValue) → constant s len ≡ plain_of t vs → ⊥
+not_constant s len (types.primitive p n) vs e = cc
+
+not_masked : (child : Tree) (valid : List Bool) (t : PlainType) (vs : List PlainValue) → masked child valid ≡ plain_of t vs → ⊥
+not_masked child valid (types.primitive p n) vs e = cc
+
+pub plain-constant : (s : PlainScalar) (len : ℕ) → IsPlain (constant s len) → ⊥
+plain-constant s len = not_constant s len s.dtype (replicate len s.value)
+
+pub plain-masked : (child : Tree) (valid : List Bool) → IsPlain (masked child valid) → ⊥
+plain-masked child valid = not_masked child valid _ _
+
+pub ruleset plains = (plain-none, plain-bits, plain-constant, plain-masked)
