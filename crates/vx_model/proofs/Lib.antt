@@ -1,0 +1,5 @@
+pub mod LeafLemmas
+pub mod OneValueLemmas
+pub mod PlainLemmas
+pub mod SizeLemmas
+pub mod StandardFacts

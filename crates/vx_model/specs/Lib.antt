@@ -1,6 +1,7 @@
 pub mod Cascade
 pub mod Column
 pub mod Extents
+pub mod Laws
 pub mod Leaf
 pub mod Plain
 pub mod Refusals
