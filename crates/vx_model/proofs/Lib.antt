@@ -1,4 +1,9 @@
-pub mod MadeLemmas
-pub mod RowLemmas
 pub mod DecodeLemmas
+pub mod LeafLemmas
+pub mod MadeLemmas
 pub mod NullLemmas
+pub mod OneValueLemmas
+pub mod PlainLemmas
+pub mod RowLemmas
+pub mod SizeLemmas
+pub mod StandardFacts

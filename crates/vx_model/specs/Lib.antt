@@ -2,6 +2,7 @@ pub mod Cascade
 pub mod Column
 pub mod Decoded
 pub mod Extents
+pub mod Laws
 pub mod Leaf
 pub mod Nodes
 pub mod Plain

@@ -1,0 +1,68 @@
+-- Columns of nulls alone, and columns whose valid rows are all one value.
+use Rattle.std.proofs.Common.{◌≡◌, Bool, true, false, List, [], ◌∷◌, length, Option, Some, None, cond, refl, sym, ap, subst}
+use Rattle.std.specs.Prelude.{replicate, if◌then◌else◌, option_and_then}
+use Rattle.std.specs.List.{list_all, list_any}
+use Rattle.std.proofs.lemmas.Bool.{cond_both, and_parts}
+use Rattle.vx_base.specs.Storable.{same_path}
+use Rattle.vx_base.specs.PlainValue.{PlainValue, null, int, is_null, stored_value}
+use Rattle.vx_model.specs.Rows.{rows, masked_rows}
+use Rattle.vx_model.specs.TreeType.{tree_type}
+use Rattle.vx_model.specs.Column.{Column}
+use Rattle.vx_model.specs.Plain.{valid_bits}
+use Rattle.vx_model.specs.Leaf.{first_valid, each_null_or, one_value, one_value_tree}
+
+pub first_valid-none : (vs : List PlainValue) → first_valid vs ≡ None → list_all is_null vs ≡ true
+first_valid-none [] e = refl
+first_valid-none (null ∷ vs) e = first_valid-none vs e
+first_valid-none (int z ∷ vs) e = absurd cc
+
+pub first_valid-some : (vs : List PlainValue) (v : PlainValue) → first_valid vs ≡ Some v → list_all is_null vs ≡ false
+first_valid-some [] v e = absurd cc
+first_valid-some (null ∷ vs) v e = first_valid-some vs v e
+first_valid-some (int z ∷ vs) v e = refl
+
+pub first_valid-valid : (vs : List PlainValue) (v : PlainValue) → first_valid vs ≡ Some v → is_null v ≡ false
+first_valid-valid [] v e = absurd cc
+first_valid-valid (null ∷ vs) v e = first_valid-valid vs v e
+first_valid-valid (int z ∷ vs) v e = let same : int z ≡ v = cc in ap is_null (sym same)
+
+-- nulls alone are one null, again and again
+pub replicate-nulls : (vs : List PlainValue) → list_all is_null vs ≡ true → replicate (length vs) null ≡ vs
+replicate-nulls [] e = refl
+replicate-nulls (null ∷ vs) e = ap (λ r. null ∷ r) (replicate-nulls vs e)
+replicate-nulls (int z ∷ vs) e = absurd cc
+
+-- so is a value that each row has
+pub replicate-one : (vs : List PlainValue) (v : PlainValue) → each_null_or v vs ≡ true → list_any is_null vs ≡ false → replicate (length vs) v ≡ vs
+replicate-one [] v e none = refl
+replicate-one (null ∷ vs) v e none = absurd cc
+replicate-one (int z ∷ vs) v e none =
+    let both = and_parts _ _ e in
+    let same : int z ≡ v = same_path stored_value (int z) v both.0 in
+    λ i. sym same i ∷ replicate-one vs v both.1 none i
+
+-- where rows are null, the validity bits mask it
+pub masked_rows-one : (vs : List PlainValue) (v : PlainValue) → each_null_or v vs ≡ true → masked_rows (valid_bits vs) (replicate (length vs) v) ≡ vs
+masked_rows-one [] v e = refl
+masked_rows-one (null ∷ vs) v e = ap (λ r. null ∷ r) (masked_rows-one vs v e)
+masked_rows-one (int z ∷ vs) v e =
+    let both = and_parts _ _ e in
+    let same : int z ≡ v = same_path stored_value (int z) v both.0 in
+    λ i. sym same i ∷ masked_rows-one vs v both.1 i
+
+pub one_value-some : (vs : List PlainValue) (v : PlainValue) → one_value vs ≡ Some v → each_null_or v vs ≡ true
+one_value-some vs v = of_first (first_valid vs)
+  where
+    of_each : (w : PlainValue) (b : Bool) → each_null_or w vs ≡ b → cond b (Some w) None ≡ Some v → each_null_or v vs ≡ true
+    of_each w true each e = let same : w ≡ v = cc in subst (λ u. each_null_or u vs ≡ true) same each
+    of_each w false each e = absurd cc
+
+    of_first : (o : Option PlainValue) → option_and_then (λ w. if each_null_or w vs then Some w else None) o ≡ Some v → each_null_or v vs ≡ true
+    of_first None e = absurd cc
+    of_first (Some w) e = of_each w (each_null_or w vs) refl e
+
+pub rows-one_value_tree : (c : Column) (v : PlainValue) → each_null_or v c.values ≡ true → rows (one_value_tree c v) ≡ c.values
+rows-one_value_tree c v e = cond_both (list_any is_null c.values) _ _ (λ t. rows t ≡ c.values) (λ some. masked_rows-one c.values v e) (replicate-one c.values v e)
+
+pub type-one_value_tree : (c : Column) (v : PlainValue) → tree_type (one_value_tree c v) ≡ c.dtype
+type-one_value_tree c v = cond_both (list_any is_null c.values) _ _ (λ t. tree_type t ≡ c.dtype) (λ some. refl) (λ none. refl)

@@ -1,0 +1,113 @@
+-- Worked values, counted by hand, so that a wrong rule in the definitions does not check.
+use Rattle.std.specs.Prelude.{◌≡◌, true, false, List, [], ◌∷◌, map, Some, None, pos, negsuc, replicate, refl}
+use Rattle.vx_base.specs.declared.ptype.PType.TheVariants.{U8, U16, U64, I8, I32, I64}
+use Rattle.vx_base.specs.declared.dtype.Nullability.TheVariants.{NonNullable, Nullable}
+use Rattle.vx_base.specs.Integers.{lies_in, least, greatest}
+use Rattle.vx_base.specs.PlainType as types
+use Rattle.vx_base.specs.PlainScalar.{scalar}
+use Rattle.vx_base.specs.PlainValue.{PlainValue, null, int}
+use Rattle.vx_model.specs.Tree.{Tree, primitive, constant, masked}
+use Rattle.vx_model.specs.Column.{Column, column}
+use Rattle.vx_model.specs.Rows.{rows}
+use Rattle.vx_model.specs.Size.{size, bit_bytes}
+use Rattle.vx_model.specs.Extents.{extents, extents_fit}
+use Rattle.vx_model.specs.Plain.{plain}
+use Rattle.vx_model.specs.Site.{Site, fresh}
+use Rattle.vx_model.specs.Leaf.{no_scheme, leaf}
+use Rattle.vx_model.specs.Cascade.{cascade}
+
+-- ---- integers
+
+-- -1, 0, 255 and 256
+pub lies_in-U8 : map (lies_in U8) (negsuc 0 ∷ pos 0 ∷ pos 255 ∷ pos 256 ∷ []) ≡ false ∷ true ∷ true ∷ false ∷ []
+lies_in-U8 = refl
+
+-- -129, -128, 127 and 128
+pub lies_in-I8 : map (lies_in I8) (negsuc 128 ∷ negsuc 127 ∷ pos 127 ∷ pos 128 ∷ []) ≡ false ∷ true ∷ true ∷ false ∷ []
+lies_in-I8 = refl
+
+-- -1, 0, 2^64 - 1 and 2^64
+pub lies_in-U64 : map (lies_in U64) (negsuc 0 ∷ pos 0 ∷ pos 18_446_744_073_709_551_615 ∷ pos 18_446_744_073_709_551_616 ∷ []) ≡ false ∷ true ∷ true ∷ false ∷ []
+lies_in-U64 = refl
+
+-- -2^63 - 1, -2^63, 2^63 - 1 and 2^63
+pub lies_in-I64 : map (lies_in I64) (negsuc 9_223_372_036_854_775_808 ∷ negsuc 9_223_372_036_854_775_807 ∷ pos 9_223_372_036_854_775_807 ∷ pos 9_223_372_036_854_775_808 ∷ []) ≡ false ∷ true ∷ true ∷ false ∷ []
+lies_in-I64 = refl
+
+-- a u16 goes from 0 to 65535, an i8 from -128 to 127
+pub ranges : (least U16 ≡ pos 0) × (greatest U16 ≡ pos 65_535) × (least I8 ≡ negsuc 127) × (greatest I8 ≡ pos 127)
+ranges = (refl, refl, refl, refl)
+
+-- ---- columns and what becomes of them where there is no scheme
+
+abbrev made : Column → Tree
+made = cascade (leaf no_scheme)
+
+abbrev seven : PlainValue
+seven = int (pos 7)
+
+abbrev sevens : Column
+sevens = column (types.primitive I64 NonNullable) (seven ∷ seven ∷ seven ∷ [])
+
+-- three equal i64: a byte and the value, in place of three values of 8 bytes
+pub made-sevens : (made sevens ≡ constant (scalar (types.primitive I64 NonNullable) seven) 3) × (size (made sevens) ≡ 9) × (size (plain sevens) ≡ 24)
+made-sevens = (refl, refl, refl)
+
+-- as a sample they stay plain: nothing but a scheme is tried there
+abbrev in_a_sample : Site
+in_a_sample = record fresh { sampled = true }
+
+pub sampled-sevens : leaf no_scheme sevens in_a_sample ≡ plain sevens
+sampled-sevens = refl
+
+abbrev bytes : List PlainValue → Column
+bytes vs = column (types.primitive U8 NonNullable) vs
+
+-- one u8 takes a byte plain and two as a constant
+pub made-one_byte : (made (bytes (seven ∷ [])) ≡ primitive U8 (pos 7 ∷ []) None NonNullable) × (size (made (bytes (seven ∷ []))) ≡ 1)
+made-one_byte = (refl, refl)
+
+-- of two equal sizes the plain tree stands
+pub made-two_bytes : (made (bytes (seven ∷ seven ∷ [])) ≡ primitive U8 (pos 7 ∷ pos 7 ∷ []) None NonNullable) × (size (made (bytes (seven ∷ seven ∷ []))) ≡ 2)
+made-two_bytes = (refl, refl)
+
+abbrev empty : Column
+empty = column (types.primitive I32 NonNullable) []
+
+pub made-empty : (made empty ≡ primitive I32 [] None NonNullable) × (size (made empty) ≡ 0)
+made-empty = (refl, refl)
+
+abbrev nulls : Column
+nulls = column (types.primitive I32 Nullable) (replicate 5 null)
+
+-- five nulls: one byte, in place of five times 4 and a byte of validity
+pub made-nulls : (made nulls ≡ constant (scalar (types.primitive I32 Nullable) null) 5) × (size (made nulls) ≡ 1) × (size (plain nulls) ≡ 21)
+made-nulls = (refl, refl, refl)
+
+abbrev nearly_sevens : Column
+nearly_sevens = column (types.primitive I64 Nullable) (null ∷ replicate 9 seven)
+
+-- a null, then nine equal i64: a constant of 9 bytes and a mask of 2, in place of ten times 8 and 2
+pub made-nearly_sevens :
+    (made nearly_sevens ≡ masked (constant (scalar (types.primitive I64 Nullable) seven) 10) (false ∷ replicate 9 true))
+    × (size (made nearly_sevens) ≡ 11) × (size (plain nearly_sevens) ≡ 82)
+made-nearly_sevens = (refl, refl, refl)
+
+-- a column of two values stays plain, with 0 beneath the null
+pub made-mixed : made (column (types.primitive I8 Nullable) (int (negsuc 0) ∷ null ∷ seven ∷ [])) ≡ primitive I8 (negsuc 0 ∷ pos 0 ∷ pos 7 ∷ []) (Some (true ∷ false ∷ true ∷ [])) Nullable
+made-mixed = refl
+
+-- ---- trees
+
+-- what lies beneath a null is not a row
+pub rows-hidden : rows (primitive I8 (pos 5 ∷ pos 6 ∷ []) (Some (false ∷ true ∷ [])) Nullable) ≡ null ∷ int (pos 6) ∷ []
+rows-hidden = refl
+
+-- 0, 1, 8 and 9 bits
+pub whole_bytes : map bit_bytes (0 ∷ 1 ∷ 8 ∷ 9 ∷ []) ≡ 0 ∷ 1 ∷ 1 ∷ 2 ∷ []
+whole_bytes = refl
+
+-- each row of a constant is one of the column's, and more than 2^31 are too many
+pub extents-constant : (map (λ len. extents (constant (scalar (types.primitive I32 Nullable) null) len)) (0 ∷ 5 ∷ []) ≡ (0 ∷ []) ∷ (5 ∷ []) ∷ [])
+    × (map (λ len. extents_fit (constant (scalar (types.primitive I32 Nullable) null) len)) (2_147_483_648 ∷ 2_147_483_649 ∷ []) ≡ true ∷ false ∷ [])
+extents-constant = (refl, refl)
