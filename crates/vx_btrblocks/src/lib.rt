@@ -7,3 +7,6 @@ mod laws;
 
 pub use compressor::BtrBlocksCompressor;
 pub use laws::laws_of_compression;
+
+#[cfg(test)]
+mod tests;
