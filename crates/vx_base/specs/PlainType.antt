@@ -28,6 +28,13 @@ is_leaf (primitive p n) = true
 abbrev pub is_integer : PlainType → Bool
 is_integer (primitive p n) = true
 
+-- the integer type of a column's values
+abbrev pub integer_of : PlainType → PType
+integer_of (primitive p n) = p
+
+abbrev pub nullability_of : PlainType → Nullability
+nullability_of (primitive p n) = n
+
 -- ---- how the logic stores a type: a label, and what is inside
 abbrev pub ptype_number : PType → ℕ
 ptype_number kinds.U8 = 0

@@ -1,10 +1,9 @@
 -- What a node's decoding has to show: whole numbers with 0 beneath nulls, and validity.
-use Rattle.std.proofs.Common.{◌≡◌, ◌<◌, ◌+◌, ℕ, zero, suc, ℤ, pos, List, [], ◌∷◌, length, map, take, refl, sym, ap, ◌∙◌, arith, Bool, true, false, cond, Option, Some, None}
-use Rattle.std.specs.Prelude.{IsTrue, ◌||◌, ◌&&◌, ◌==◌, not, replicate}
+use Rattle.std.proofs.Common.{◌≡◌, ℕ, zero, suc, ℤ, pos, List, [], ◌∷◌, length, map, refl, sym, ap, ◌∙◌, arith, Bool, true, false, cond, Some, None}
+use Rattle.std.specs.Prelude.{◌||◌, ◌&&◌, ◌==◌, not, replicate}
 use Rattle.std.specs.List.{list_all, list_any}
 use Rattle.std.proofs.lemmas.List.{length-map}
 use Rattle.std.proofs.lemmas.Bool.Decides.{nat_tests}
-use Rattle.vx_base.specs.declared.error.VortexError.{VortexError}
 use Rattle.vx_base.specs.declared.ptype.PType.{PType}
 use Rattle.vx_base.specs.declared.dtype.Nullability.{Nullability}
 use Rattle.vx_base.specs.declared.dtype.Nullability.TheVariants.{Nullable, NonNullable}
@@ -19,7 +18,7 @@ use Rattle.vx_model.specs.Plain.{plain, validity, valid_bits}
 use Rattle.vx_model.specs.Refusals.{kept, primitive_refusal}
 use Rattle.vx_model.specs.Rows.{rows, masked_rows, valid_rows}
 use Rattle.vx_model.specs.TreeType.{tree_type}
-use Rattle.vx_model.specs.WellFormed.{WellFormed, IsValidityOf, RowsFit}
+use Rattle.vx_model.specs.WellFormed.{WellFormed, IsValidityOf}
 use Rattle.vx_model.proofs.MadeLemmas.{rows_fit}
 
 -- ---- whole numbers
@@ -131,6 +130,7 @@ plain_admitted p Nullable vs h = by_any (list_any is_null vs)
   where
     same_length : (length (valid_bits vs) == length (map whole_or_zero vs)) ≡ true
     same_length = let a = length-valid_bits vs in let b = length-map vs whole_or_zero in grind (arith, nat_tests)
+
     by_any : (b : Bool) → primitive_refusal (length (map whole_or_zero vs)) (cond b (Some (valid_bits vs)) None) Nullable ≡ None
     by_any true = rw same_length refl
     by_any false = refl
@@ -141,3 +141,47 @@ tree_admitted t p n h e = plain_admitted p n (rows t) (let f = rows_fit t h in r
 -- the plain tree of a tree of integers
 pub plain-integers : (t : Tree) (p : PType) (n : Nullability) → tree_type t ≡ types.primitive p n → plain (column_of t) ≡ primitive p (map whole_or_zero (rows t)) (validity (rows t)) n
 plain-integers t p n e = rw e refl
+
+-- ---- a constant, and the nodes' rows as their decoding needs them
+
+pub decoded-null : (len : ℕ) → map whole_or_zero (replicate len null) ≡ replicate len (pos 0)
+decoded-null len = wholes-replicate len null
+
+pub decoded-int : (len : ℕ) (z : ℤ) → map whole_or_zero (replicate len (int z)) ≡ replicate len z
+decoded-int len z = wholes-replicate len (int z)
+
+any_null-one : (len : ℕ) (v : PlainValue) → is_null v ≡ false → list_any is_null (replicate len v) ≡ false
+any_null-one zero v e = refl
+any_null-one (suc len) v e = rw e (any_null-one len v e)
+
+bits-nulls : (len : ℕ) (v : PlainValue) → is_null v ≡ true → valid_bits (replicate len v) ≡ replicate len false
+bits-nulls zero v e = refl
+bits-nulls (suc len) v e = rw e (ap (λ bs. false ∷ bs) (bits-nulls len v e))
+
+pub validity-value : (len : ℕ) (v : PlainValue) → is_null v ≡ false → validity (replicate len v) ≡ None
+validity-value len v e = rw (any_null-one len v e) refl
+
+pub validity-none : (len : ℕ) (v : PlainValue) → len ≡ 0 → validity (replicate len v) ≡ None
+validity-none zero v e = refl
+validity-none (suc len) v e = absurd (omega arith)
+
+pub validity-nulls : (len : ℕ) (v : PlainValue) → (len ≡ 0 → ⊥) → is_null v ≡ true → validity (replicate len v) ≡ Some (replicate len false)
+validity-nulls zero v h e = absurd (h refl)
+validity-nulls (suc len) v h e = rw (e, bits-nulls len v e) refl
+
+pub ruleset decodes = (decoded-null, decoded-int, validity-value, validity-none, validity-nulls, wholes-valid_rows, wholes-masked_rows, validity-valid_rows, validity-masked_rows)
+
+-- ---- the plain tree of any tree
+
+module _ (t : Tree) (n : Nullability) (xs : List ℤ) (valid : Validity) (wholes : xs ≡ map whole_or_zero (rows t)) (bits : valid ≡ validity (rows t)) (nullability : n ≡ types.nullability_of (tree_type t)) where
+  pub canonical_refusal : WellFormed t → primitive_refusal (length xs) valid n ≡ None
+  canonical_refusal h = rw (wholes, bits, nullability) (by_type (tree_type t) refl)
+    where
+      by_type : (s : PlainType) → tree_type t ≡ s → primitive_refusal (length (map whole_or_zero (rows t))) (validity (rows t)) (types.nullability_of s) ≡ None
+      by_type (types.primitive q m) e = tree_admitted t q m h e
+
+  pub canonical_tree : (p : PType) → p ≡ types.integer_of (tree_type t) → primitive p xs (kept valid) n ≡ plain (column_of t)
+  canonical_tree p kind = rw (kind, wholes, bits, nullability) (by_type (tree_type t) refl)
+    where
+      by_type : (s : PlainType) → tree_type t ≡ s → primitive (types.integer_of s) (map whole_or_zero (rows t)) (kept (validity (rows t))) (types.nullability_of s) ≡ plain (column_of t)
+      by_type (types.primitive q m) e = rw (kept-validity (rows t)) (sym (plain-integers t q m e))

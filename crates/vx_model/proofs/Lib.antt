@@ -7,3 +7,4 @@ pub mod PlainLemmas
 pub mod RowLemmas
 pub mod SizeLemmas
 pub mod StandardFacts
+pub mod ZeroLemmas

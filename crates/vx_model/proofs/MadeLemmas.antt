@@ -1,6 +1,6 @@
 -- A constructor's tree is well formed, from its tests.
-use Rattle.std.proofs.Common.{◌≡◌, ℕ, ℤ, List, [], ◌∷◌, map, Bool, true, false, None, Some, length, refl, sym, ap, ◌∙◌, arith, cond, zero, suc}
-use Rattle.std.specs.Prelude.{IsTrue, ◌||◌, ◌&&◌, ◌==◌, replicate}
+use Rattle.std.proofs.Common.{◌≡◌, ℕ, ℤ, List, [], ◌∷◌, map, Bool, true, false, None, Some, length, refl, ap, arith, cond, zero, suc}
+use Rattle.std.specs.Prelude.{◌&&◌, ◌==◌, replicate}
 use Rattle.std.specs.List.{list_any, list_all}
 use Rattle.std.proofs.lemmas.Bool.Decides.{nat_tests}
 use Rattle.vx_base.specs.declared.ptype.PType.{PType}
@@ -69,3 +69,11 @@ rows_fit (masked child valid) h = h.2
 pub masked_made : (child : Tree) (valid : List Bool) → is_leaf (tree_type child) ≡ true → is_nullable (tree_type child) ≡ true → length valid ≡ length (rows child) → list_any is_null (rows child) ≡ false → WellFormed child → WellFormed (masked child valid)
 masked_made child valid leaf nullable lengths no_null h =
     (h, record { leaf = leaf; nullable = nullable; lengths = lengths; no_null = no_null }, masked_fit (tree_type child) valid (rows child) nullable (rows_fit child h))
+
+has_length : (valid : Validity) (len : ℕ) (n : Nullability) → IsValidityOf valid len n → validity_length valid len ≡ true
+has_length None len n h = refl
+has_length (Some bits) len n h = let e = h.0 in grind (arith, nat_tests)
+
+-- a node's validity has a bit a row
+pub validity_length-made : (p : PType) (xs : List ℤ) (valid : Validity) (n : Nullability) → WellFormed (primitive p xs valid n) → validity_length valid (length xs) ≡ true
+validity_length-made p xs valid n h = has_length valid (length xs) n h.0.validity

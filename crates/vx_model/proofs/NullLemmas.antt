@@ -1,6 +1,6 @@
 -- Which rows are null, node by node, and when a tree is plain.
-use Rattle.std.proofs.Common.{◌≡◌, ◌↔◌, ◌<◌, ℕ, zero, suc, ℤ, pos, List, [], ◌∷◌, length, map, refl, sym, ap, subst, ◌∙◌, arith, Bool, true, false, cond, Option, Some, None}
-use Rattle.std.specs.Prelude.{IsTrue, ◌||◌, ◌&&◌, not, replicate}
+use Rattle.std.proofs.Common.{◌≡◌, ◌↔◌, ◌<◌, ℕ, zero, suc, ℤ, pos, List, [], ◌∷◌, map, refl, sym, ap, ◌∙◌, arith, Bool, true, false, cond, Some, None}
+use Rattle.std.specs.Prelude.{◌||◌, ◌&&◌, not, is_some, replicate}
 use Rattle.std.specs.List.{list_all, list_any}
 use Rattle.std.specs.Ordering.{int_eq}
 use Rattle.std.proofs.lemmas.List.{length-map}
@@ -10,19 +10,20 @@ use Rattle.vx_base.specs.declared.dtype.Nullability.{Nullability}
 use Rattle.vx_base.specs.PlainScalar.{PlainScalar}
 use Rattle.vx_base.specs.PlainType.{PlainType}
 use Rattle.vx_base.specs.PlainType as types
-use Rattle.vx_base.specs.PlainValue.{PlainValue, null, int, is_null, whole_or_zero}
+use Rattle.vx_base.specs.PlainValue.{PlainValue, int, is_null}
 use Rattle.vx_model.specs.Tree.{Tree, Validity, primitive, constant, masked}
-use Rattle.vx_model.specs.Decoded.{zeroed, zeroed_by, zero_beneath}
+use Rattle.vx_model.specs.Decoded.{zeroed, zeroed_by, zero_beneath, zero_beneath_by}
 use Rattle.vx_model.specs.Plain.{IsPlain, plain_of}
-use Rattle.vx_model.specs.Rows.{rows, masked_rows, valid_rows}
+use Rattle.vx_model.specs.Rows.{rows}
 use Rattle.vx_model.specs.WellFormed.{WellFormed}
 use Rattle.vx_model.proofs.DecodeLemmas.{any_masked, no_null-map-int, wholes-valid_rows, validity-valid_rows}
 
-pub any_null-bits : (p : PType) (xs : List ℤ) (bits : List Bool) (n : Nullability) → WellFormed (primitive p xs (Some bits) n) → list_any is_null (rows (primitive p xs (Some bits) n)) ≡ true
+any_null-bits : (p : PType) (xs : List ℤ) (bits : List Bool) (n : Nullability) → WellFormed (primitive p xs (Some bits) n) → list_any is_null (rows (primitive p xs (Some bits) n)) ≡ true
 any_null-bits p xs bits n h = any_masked bits (map int xs) (h.0.validity.0 ∙ sym (length-map xs int)) (no_null-map-int xs) ∙ ap not h.0.validity.2
 
-pub any_null-none : (xs : List ℤ) → list_any is_null (map int xs) ≡ false
-any_null-none = no_null-map-int
+pub any_null-primitive : (p : PType) (xs : List ℤ) (valid : Validity) (n : Nullability) → WellFormed (primitive p xs valid n) → list_any is_null (rows (primitive p xs valid n)) ≡ is_some valid
+any_null-primitive p xs None n h = no_null-map-int xs
+any_null-primitive p xs (Some bits) n h = any_null-bits p xs bits n h
 
 pub any_null-replicate : (len : ℕ) (v : PlainValue) → is_null v ≡ false → list_any is_null (replicate len v) ≡ false
 any_null-replicate zero v e = refl
@@ -35,7 +36,7 @@ any_null-nulls (suc len) v h e = rw e refl
 pub any_null-masked : (child : Tree) (valid : List Bool) → WellFormed (masked child valid) → list_any is_null (rows (masked child valid)) ≡ not (list_all (λ b. b) valid)
 any_null-masked child valid h = any_masked valid (rows child) h.1.lengths h.1.no_null
 
-pub ruleset nulls = (any_null-bits, any_null-none, any_null-replicate, any_null-nulls, any_null-masked)
+pub ruleset nulls = (any_null-replicate, any_null-nulls, any_null-masked)
 
 -- ---- plain trees
 
@@ -67,14 +68,19 @@ same_zeroed (b ∷ bits) (x ∷ xs) e =
 plain_by : (p : PType) (xs : List ℤ) (valid : Validity) (n : Nullability) → WellFormed (primitive p xs valid n) → plain_of (types.primitive p n) (rows (primitive p xs valid n)) ≡ primitive p (zeroed_by valid xs) valid n
 plain_by p xs valid n h = λ i. primitive p (wholes-valid_rows valid xs n h.0.validity i) (validity-valid_rows valid xs n h.0.validity i) n
 
-pub plain-none : (p : PType) (xs : List ℤ) (n : Nullability) → WellFormed (primitive p xs None n) → IsPlain (primitive p xs None n)
+plain-none : (p : PType) (xs : List ℤ) (n : Nullability) → WellFormed (primitive p xs None n) → IsPlain (primitive p xs None n)
 plain-none p xs n h = sym (plain_by p xs None n h)
 
-pub plain-bits : (p : PType) (xs : List ℤ) (bits : List Bool) (n : Nullability) → WellFormed (primitive p xs (Some bits) n) → (zero_beneath bits xs ≡ true) ↔ IsPlain (primitive p xs (Some bits) n)
+plain-bits : (p : PType) (xs : List ℤ) (bits : List Bool) (n : Nullability) → WellFormed (primitive p xs (Some bits) n) → (zero_beneath bits xs ≡ true) ↔ IsPlain (primitive p xs (Some bits) n)
 plain-bits p xs bits n h =
-    let e = plain_by p xs (Some bits) n h in
-    (λ z. ap (λ ys. primitive p ys (Some bits) n) (sym (zeroed_same bits xs z)) ∙ sym e,
-    λ q. same_zeroed bits xs (let s : primitive p (zeroed bits xs) (Some bits) n ≡ primitive p xs (Some bits) n = sym (q ∙ e) in cc))
+    let e = plain_by p xs (Some bits) n h in (
+      λ z. ap (λ ys. primitive p ys (Some bits) n) (sym (zeroed_same bits xs z)) ∙ sym e,
+      λ q. same_zeroed bits xs (let s : primitive p (zeroed bits xs) (Some bits) n ≡ primitive p xs (Some bits) n = sym (q ∙ e) in cc),
+    )
+
+pub plain-primitive : (p : PType) (xs : List ℤ) (valid : Validity) (n : Nullability) → WellFormed (primitive p xs valid n) → (zero_beneath_by valid xs ≡ true) ↔ IsPlain (primitive p xs valid n)
+plain-primitive p xs None n h = (λ e. plain-none p xs n h, λ e. refl)
+plain-primitive p xs (Some bits) n h = plain-bits p xs bits n h
 
 not_constant : (s : PlainScalar) (len : ℕ) (t : PlainType) (vs : List PlainValue) → constant s len ≡ plain_of t vs → ⊥
 not_constant s len (types.primitive p n) vs e = cc
@@ -88,4 +94,4 @@ plain-constant s len = not_constant s len s.dtype (replicate len s.value)
 pub plain-masked : (child : Tree) (valid : List Bool) → IsPlain (masked child valid) → ⊥
 plain-masked child valid = not_masked child valid _ _
 
-pub ruleset plains = (plain-none, plain-bits, plain-constant, plain-masked)
+pub ruleset plains = (plain-constant, plain-masked)

@@ -5,7 +5,7 @@ use Rattle.std.proofs.lemmas.List.{get_or-map, length-map, length-replicate}
 use Rattle.vx_base.specs.declared.ptype.PType.{PType}
 use Rattle.vx_base.specs.declared.dtype.Nullability.{Nullability}
 use Rattle.vx_base.specs.PlainScalar.{PlainScalar}
-use Rattle.vx_base.specs.PlainValue.{PlainValue, null, int, is_null}
+use Rattle.vx_base.specs.PlainValue.{PlainValue, null, int}
 use Rattle.vx_model.specs.Tree.{Tree, Validity, primitive, constant, masked}
 use Rattle.vx_model.specs.Rows.{rows, masked_rows, valid_rows, is_valid_at, row_at}
 use Rattle.vx_model.specs.WellFormed.{WellFormed, IsValidityOf}

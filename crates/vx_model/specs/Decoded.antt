@@ -18,3 +18,7 @@ abbrev pub zero_beneath : List Bool → List ℤ → Bool
 zero_beneath [] xs = true
 zero_beneath (bit ∷ bits) [] = true
 zero_beneath (bit ∷ bits) (x ∷ xs) = (bit || int_eq x (pos 0)) && zero_beneath bits xs
+
+abbrev pub zero_beneath_by : Validity → List ℤ → Bool
+zero_beneath_by None xs = true
+zero_beneath_by (Some bits) xs = zero_beneath bits xs

@@ -57,9 +57,9 @@ module _ (f : Data → Option PlainValue) (n : Nullability) where
       → bit ≡ is_some row → bits_in after ≡ option_map (λ (w : Vec Bool Global). w.items ++ bit ∷ []) before → SoFar (map whole old) (bits_in before) vs i → SoFar (map whole new) (bits_in after) vs (i + 1)
   so_far_row whole old new item row bit before after vs i v within is fe item_is new_is bit_is after_is h =
       let wholes_are : map whole new ≡ map whole old ++ whole_or_zero (cell (option_map whole row)) ∷ [] =
-            ap (map whole) new_is ∙ map-append whole old (item ∷ []) ∙ ap (λ w. map whole old ++ w ∷ []) item_is in
+      ap (map whole) new_is ∙ map-append whole old (item ∷ []) ∙ ap (λ w. map whole old ++ w ∷ []) item_is in
       let bits_are : bits_in after ≡ with_bit (not (is_null (cell (option_map whole row)))) (bits_in before) =
-            after_is ∙ items-with_bit bit before ∙ ap (λ b. with_bit b (bits_in before)) (bit_is ∙ sym (valid-cell whole row)) in
+      after_is ∙ items-with_bit bit before ∙ ap (λ b. with_bit b (bits_in before)) (bit_is ∙ sym (valid-cell whole row)) in
       rw (wholes_are, bits_are) (so_far_more (map whole old) (bits_in before) vs i v (cell (option_map whole row)) within is (sym fe) h)
 
   pub so_far_none : (wholes : List ℤ) (valid : Validity) (vs : List Value) (i : ℕ) (v : Value) → i < length vs → v ≡ get_or vs i v → f (view v) ≡ None → SoFar wholes valid vs i → all_by f (items_view vs) ≡ None

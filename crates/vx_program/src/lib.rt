@@ -3,4 +3,4 @@
 
 mod document;
 
-pub use document::Unread;
+pub use document::{Document, Unread, read_document};

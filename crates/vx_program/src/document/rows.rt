@@ -35,7 +35,11 @@ fn read_row<T: Integer>(value: &Value, nullability: Nullability) -> Option<Optio
         ≡ row_of (primitive T.kind nullability) (view value.now) }
 {
     if value.is_null() {
-        return if nullability.allows_null() { Some(None) } else { None };
+        return if nullability.allows_null() {
+            Some(None)
+        } else {
+            None
+        };
     }
     let whole = whole_of(value)?;
     let item = T::from_whole(whole)?;
@@ -43,6 +47,7 @@ fn read_row<T: Integer>(value: &Value, nullability: Nullability) -> Option<Optio
     Some(Some(item))
 }
 
+// A row's item: 0 beneath a null.
 fn item_of<T: Integer>(row: Option<T>) -> T
     ensures { T.whole result ≡ whole_or_zero (cell (option_map T.whole row)) }
 {
@@ -52,6 +57,7 @@ fn item_of<T: Integer>(row: Option<T>) -> T
     }
 }
 
+// One truth value more, where there are any.
 fn push_bit(valid: &mut Option<Vec<bool>>, bit: bool) -> Result<(), AllocError>
     ensures { OnOk result (option_map (λ v. v.items) valid.new ≡ option_map (λ v. v.items ++ bit ∷ []) valid.old) }
 {
@@ -100,6 +106,7 @@ fn bits_for(
     }
 }
 
+// The truth values as a mask.
 fn mask_of(valid: Option<Vec<bool>>) -> Option<Mask>
     ensures { result ≡ option_map (λ v. v.items) valid }
 {

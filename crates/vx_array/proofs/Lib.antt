@@ -1,0 +1,2 @@
+pub mod AtNode
+pub mod Making

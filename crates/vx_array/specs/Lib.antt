@@ -1,0 +1,4 @@
+pub mod IntsOf
+pub mod IsArray
+pub mod TreeFalls
+pub mod TreeOf

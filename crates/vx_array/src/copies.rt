@@ -1,0 +1,57 @@
+//! Copies of trees.
+
+ghost use Rattle.std.specs.Prelude.{◌≡◌, option_map};
+ghost use Rattle.vx_base.specs.Answers.{Answers, OrMemory};
+ghost use Rattle.vx_base.specs.TypeOf.{type_of};
+
+use crate::array::{ArrayRef, Node};
+use crate::node::copy_validity;
+use std::alloc::Global;
+use vx_base::{DType, VortexResult};
+
+impl ArrayRef {
+    /// The same tree.
+    #[cycle(copy)]
+    pub fn copy(&self, alloc: Global) -> VortexResult<ArrayRef>
+        ensures { Answers result self.now }
+    {
+        let own_type = copy_type(&self.own_type, alloc)?;
+        let node = self.node.copy(alloc)?;
+        Ok(ArrayRef {
+            node,
+            own_type,
+            len: self.len,
+        })
+    }
+}
+
+impl Node {
+    ghost use Rattle.vx_array.specs.TreeOf.{tree_of};
+
+    #[cycle(copy)]
+    fn copy(&self, alloc: Global) -> VortexResult<Node>
+        ensures { OrMemory result (λ copy. tree_of copy ≡ tree_of self.now) }
+    {
+        match self {
+            Node::Primitive(values, valid, nullability) => {
+                let values = values.copy(alloc)?;
+                let valid = copy_validity(valid, alloc)?;
+                Ok(Node::Primitive(values, valid, *nullability))
+            }
+            Node::Constant(value, len) => Ok(Node::Constant(value.copy(alloc)?, *len)),
+            Node::Masked(child, valid) => {
+                let child = Box::new(alloc, child.copy(alloc)?)?;
+                Ok(Node::Masked(child, valid.copy(alloc)?))
+            }
+        }
+    }
+}
+
+fn copy_type(dtype: &Option<DType>, alloc: Global) -> VortexResult<Option<DType>>
+    ensures { OrMemory result (λ copy. option_map type_of copy ≡ option_map type_of dtype.now) }
+{
+    match dtype {
+        Some(dtype) => Ok(Some(dtype.copy(alloc)?)),
+        None => Ok(None),
+    }
+}

@@ -1,0 +1,15 @@
+//! Trees of encodings, well formed at each node: constructors, look-ups, sizes, decoding and copies.
+#![tactic(auto)]
+
+mod array;
+mod canonical;
+mod copies;
+mod ints;
+mod node;
+mod reads;
+mod sizes;
+mod slices;
+
+pub use array::{ArrayRef, Node};
+pub use ints::Ints;
+pub use node::Made;

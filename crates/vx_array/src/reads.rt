@@ -1,0 +1,58 @@
+//! What a tree answers of its rows without memory.
+
+ghost use Rattle.std.specs.Prelude.{◌≡◌, ◌<◌, ◌↔◌, length, IsTrue};
+ghost use Rattle.std.specs.List.{list_any};
+ghost use Rattle.vx_base.specs.PlainType.{is_integer};
+ghost use Rattle.vx_base.specs.PlainValue.{cell, is_null};
+ghost use Rattle.vx_model.specs.Rows.{rows, row_at};
+ghost use Rattle.vx_model.specs.TreeType.{tree_type};
+
+use crate::array::{ArrayRef, Node};
+use crate::node::{is_zero_beneath, primitive_at};
+
+impl ArrayRef {
+    ghost use Rattle.vx_model.specs.Plain.{IsPlain};
+
+    /// The integer in a row, None at a null.
+    #[tactic(auto, using(vx_model::proofs::RowLemmas::reads))]
+    pub fn integer_at(&self, row: u64) -> Option<i128>
+        requires integer { IsTrue (is_integer (tree_type self.now)) }
+        requires in_range { row < length (rows self.now) }
+        ensures { cell result ≡ row_at (rows self.now) row }
+    {
+        match &self.node {
+            Node::Primitive(values, valid, _) => primitive_at(values, valid, row),
+            Node::Constant(value, _) => value.integer(),
+            Node::Masked(child, valid) => {
+                if valid.is_set(row) {
+                    child.integer_at(row)
+                } else {
+                    None
+                }
+            }
+        }
+    }
+
+    /// Whether some row is null.
+    #[tactic(auto, using(vx_model::proofs::NullLemmas::nulls))]
+    pub(crate) fn has_null(&self) -> bool
+        ensures { result ≡ list_any is_null (rows self.now) }
+    {
+        match &self.node {
+            Node::Primitive(_, valid, _) => valid.is_some(),
+            Node::Constant(value, len) => value.is_null() && *len > 0,
+            Node::Masked(_, valid) => !valid.all_true(),
+        }
+    }
+
+    /// Whether the tree is the plain one of its column: a Primitive with 0 beneath nulls.
+    #[tactic(auto, using(vx_model::proofs::NullLemmas::plains))]
+    pub fn is_plain(&self) -> bool
+        ensures { IsTrue result ↔ IsPlain self.now }
+    {
+        match &self.node {
+            Node::Primitive(values, valid, _) => is_zero_beneath(values, valid),
+            _ => false,
+        }
+    }
+}

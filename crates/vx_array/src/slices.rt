@@ -1,0 +1,118 @@
+//! Work on slices of any integer type.
+
+ghost use Rattle.std.specs.Prelude.{◌≡◌, ◌<◌, length, slice_index_or, slice_set, pos, if◌then◌else◌, ◌||◌, IsTrue, true, false, map, replicate};
+ghost use Rattle.std.specs.List.{list_all};
+ghost use Rattle.std.specs.Ordering.{int_eq};
+ghost use Rattle.vx_base.specs.Answers.{OrMemory};
+ghost use Rattle.vx_base.specs.Integers.{lies_in};
+ghost use Rattle.vx_model.specs.Decoded.{zeroed, zeroed_by, zero_beneath};
+ghost use Rattle.vx_model.specs.Refusals.{validity_length};
+
+use std::alloc::Global;
+use vx_base::{IntList, Integer, Mask, VortexResult};
+
+pub(crate) fn whole_at<T: Integer>(items: &[T], row: u64) -> i128
+    requires { row < length items.now }
+    ensures { result ≡ slice_index_or (map T.whole items.now) row (pos 0) }
+{
+    items[row as usize].to_whole()
+}
+
+// Each integer lies in its type. The loop does nothing when it runs.
+pub(crate) fn known<T: Integer>(items: &[T])
+    ensures { IsTrue (list_all (lies_in T.kind) (map T.whole items.now)) }
+{
+    for item in items {
+        let _whole = item.to_whole();
+    }
+}
+
+#[inline(always)]
+fn kept_or_zero<T: Integer>(item: T, bit: bool) -> T
+    ensures { T.whole result ≡ (if bit then T.whole item else pos 0) }
+{
+    if bit { item } else { T::zero() }
+}
+
+// Leaves the item where the bit is true, else writes 0.
+#[inline(always)]
+fn zero_at<T: Integer>(items: &mut [T], row: usize, bit: bool)
+    requires { row < length items.old }
+    ensures { map T.whole items.new ≡ slice_set (map T.whole items.old) row (if bit then slice_index_or (map T.whole items.old) row (pos 0) else pos 0) }
+{
+    items[row] = kept_or_zero(items[row], bit);
+}
+
+// Writes 0 where the mask is false.
+#[tactic(auto, using(vx_model::proofs::ZeroLemmas::zeroing))]
+fn zero_beneath<T: Integer>(items: &mut [T], bits: &[bool])
+    requires { length bits.now ≡ length items.old }
+    ensures { map T.whole items.new ≡ zeroed bits.now (map T.whole items.old) }
+{
+    for row in 0..bits.len() {
+        zero_at(items, row, bits[row]);
+    }
+}
+
+pub(crate) fn zeroed<T: Integer>(items: IntList<T>, bits: &[bool]) -> IntList<T>
+    requires { length bits.now ≡ length items }
+    ensures { map T.whole result ≡ zeroed bits.now (map T.whole items) }
+{
+    let mut items = items.into_vec();
+    zero_beneath(items.as_mut_slice(), bits);
+    IntList::from_vec(items)
+}
+
+// A copy with 0 where a row isn't valid.
+pub(crate) fn decoded<T: Integer>(
+    alloc: Global,
+    items: &[T],
+    valid: &Option<Mask>,
+) -> VortexResult<IntList<T>>
+    requires { validity_length valid.now (length items.now) ≡ true }
+    ensures { OrMemory result (λ copy. map T.whole copy ≡ zeroed_by valid.now (map T.whole items.now)) }
+{
+    let copy = IntList::from_vec(Vec::from_slice(alloc, items)?);
+    match valid {
+        Some(mask) => Ok(zeroed(copy, mask.as_slice())),
+        None => Ok(copy),
+    }
+}
+
+// Whether the item is 0 where its bit is false.
+#[inline(always)]
+fn is_zero_at<T: Integer>(items: &[T], bits: &[bool], row: usize) -> bool
+    requires in_items { row < length items.now }
+    requires in_bits { row < length bits.now }
+    ensures { result ≡ (slice_index_or bits.now row false || int_eq (slice_index_or (map T.whole items.now) row (pos 0)) (pos 0)) }
+{
+    bits[row] || items[row].to_whole() == 0
+}
+
+#[tactic(auto, using(vx_model::proofs::ZeroLemmas::zeroing))]
+pub(crate) fn is_zero_beneath<T: Integer>(items: &[T], bits: &[bool]) -> bool
+    requires { length bits.now ≡ length items.now }
+    ensures { result ≡ zero_beneath bits.now (map T.whole items.now) }
+{
+    for row in 0..bits.len() {
+        if !is_zero_at(items, bits, row) {
+            return false;
+        }
+    }
+    true
+}
+
+// One integer in every row.
+pub(crate) fn filled<T: Integer>(alloc: Global, whole: i128, len: u64) -> VortexResult<IntList<T>>
+    requires { IsTrue (lies_in T.kind whole) }
+    ensures { OrMemory result (λ list. map T.whole list ≡ replicate len whole) }
+{
+    let Some(item) = T::from_whole(whole) else {
+        unreachable!();
+    };
+    let mut items = Vec::with_capacity(alloc, len as usize)?;
+    for _row in 0..len {
+        items.push(item)?;
+    }
+    Ok(IntList::from_vec(items))
+}
