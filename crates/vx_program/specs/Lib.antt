@@ -1,4 +1,5 @@
 pub mod Causes
+pub mod Document
 pub mod Reading
 pub mod Sure
 pub mod Writing
