@@ -24,16 +24,24 @@ pub struct StdSource<R: Read> {
 }
 
 impl<R: Read> StdSource<R> {
+    ghost use Rattle.std.specs.Prelude.{◌≡◌};
+    ghost use Rattle.vx_program.specs.StdEdge.{reader_of, read_faults};
+
     /// A source over `reader`, with no fault counted.
-    pub fn new(reader: R) -> Self {
+    pub fn new(reader: R) -> Self
+        ensures over { reader_of result ≡ reader }
+        ensures no_fault { read_faults result ≡ 0 }
+    {
         StdSource { reader, faults: 0 }
     }
 }
 
 impl<R: Read> Source for StdSource<R> {
-    ghost left = { λ s. R.remaining s.reader };
+    ghost use Rattle.vx_program.specs.StdEdge.{reader_of, read_faults};
 
-    ghost faults = { λ s. s.faults };
+    ghost left = { λ s. R.remaining (reader_of s) };
+
+    ghost faults = { λ s. read_faults s };
 
     fn read(&mut self, buf: &mut [u8]) -> Result<usize, Failed> {
         match self.reader.read(buf) {
@@ -52,16 +60,24 @@ pub struct StdSink<W: Write> {
 }
 
 impl<W: Write> StdSink<W> {
+    ghost use Rattle.std.specs.Prelude.{◌≡◌};
+    ghost use Rattle.vx_program.specs.StdEdge.{writer_of, write_faults};
+
     /// A sink over `writer`, with no fault counted.
-    pub fn new(writer: W) -> Self {
+    pub fn new(writer: W) -> Self
+        ensures over { writer_of result ≡ writer }
+        ensures no_fault { write_faults result ≡ 0 }
+    {
         StdSink { writer, faults: 0 }
     }
 }
 
 impl<W: Write> Sink for StdSink<W> {
+    ghost use Rattle.vx_program.specs.StdEdge.{write_faults};
+
     ghost written = { λ _. None };
 
-    ghost faults = { λ s. s.faults };
+    ghost faults = { λ s. write_faults s };
 
     ghost spare = { λ _. 2 ^ 64 - 1 };
 
