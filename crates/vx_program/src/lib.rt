@@ -15,6 +15,7 @@ pub use answer::{
     BAD_DOCUMENT, DONE, NO_MEMORY, READ_FAULT, REFUSED, TOO_LONG, USAGE, WRITE_FAULT,
 };
 pub use document::{Document, Unread, read_document};
+pub use listing::listing_text;
 pub use outside::{Failed, Sink, Source};
 pub use reading::{Input, LIMIT, read_all};
 pub use running::{run, run_in_memory};

@@ -1,6 +1,6 @@
 //! The text of a tree: a line for each node, and the line of sizes.
 
-ghost use Rattle.std.specs.Prelude.{◌≡◌, ◌<◌, ◌^◌, ◌++◌, IfOk, OnOk, string_bytes, codes};
+ghost use Rattle.std.specs.Prelude.{◌≡◌, ◌<◌, ◌^◌, ◌++◌, IfOk, OnOk, string_bytes, [], codes};
 ghost use Rattle.vx_base.specs.TypeOf.{value_of};
 ghost use Rattle.vx_base.specs.TypeText.{value_text};
 ghost use Rattle.vx_model.specs.Size.{size};
@@ -88,6 +88,16 @@ pub(crate) fn push_tree(
         }
         Node::Primitive(_, _, _) | Node::Constant(_, _) => Ok(()),
     }
+}
+
+/// The listing of a tree, whose bytes are below 2^128.
+pub fn listing_text(alloc: Global, tree: &ArrayRef) -> Result<String, AllocError>
+    requires { size tree.now < 2 ^ 128 }
+    ensures { IfOk result (λ text. string_bytes text ≡ listing [] tree.now) }
+{
+    let mut text = String::new(alloc);
+    push_tree(alloc, &mut text, "", tree)?;
+    Ok(text)
 }
 
 /// Adds the line of sizes, in bytes.
