@@ -120,41 +120,44 @@ fn document(alloc: Global, dtype: &str, some: &str, times: u8) -> Result<Bytes, 
     Ok(Bytes::from_vec(Vec::from_slice(alloc, text.as_bytes())?))
 }
 
+/// A type, some rows, how often they come, and what is written.
+const LISTED: [(&str, &str, u8, &str); 5] = [
+    (
+        "i64",
+        "7",
+        3,
+        "vortex.constant i64 len=3 size=9 value=7\nplain=24 tree=9\n",
+    ),
+    (
+        "u8",
+        "7",
+        1,
+        "vortex.primitive u8 len=1 size=1\nplain=1 tree=1\n",
+    ),
+    (
+        "i32?",
+        "null",
+        5,
+        "vortex.constant i32? len=5 size=1 value=null\nplain=21 tree=1\n",
+    ),
+    (
+        "i32",
+        "",
+        0,
+        "vortex.primitive i32 len=0 size=0\nplain=0 tree=0\n",
+    ),
+    (
+        "i64?",
+        "null,7,7,7,7,7,7,7,7,7",
+        10,
+        "vortex.masked i64? len=100 size=22\n  vortex.constant i64? len=100 size=9 value=7\nplain=813 tree=22\n",
+    ),
+];
+
 #[test]
 fn columns_are_listed(rt: HostRuntime) -> Result<(), Fail> {
     let words = word(rt.alloc(), "compress")?;
-    for (dtype, some, times, output) in [
-        (
-            "i64",
-            "7",
-            3,
-            "vortex.constant i64 len=3 size=9 value=7\nplain=24 tree=9\n",
-        ),
-        (
-            "u8",
-            "7",
-            1,
-            "vortex.primitive u8 len=1 size=1\nplain=1 tree=1\n",
-        ),
-        (
-            "i32?",
-            "null",
-            5,
-            "vortex.constant i32? len=5 size=1 value=null\nplain=21 tree=1\n",
-        ),
-        (
-            "i32",
-            "",
-            0,
-            "vortex.primitive i32 len=0 size=0\nplain=0 tree=0\n",
-        ),
-        (
-            "i64?",
-            "null,7,7,7,7,7,7,7,7,7",
-            10,
-            "vortex.masked i64? len=100 size=22\n  vortex.constant i64? len=100 size=9 value=7\nplain=813 tree=22\n",
-        ),
-    ] {
+    for (dtype, some, times, output) in LISTED {
         let bytes = document(rt.alloc(), dtype, some, times)?;
         let (status, sink) = run_in_memory(rt.alloc(), words.as_slice(), bytes);
         assert_eq!(rt; status, 0, "at {dtype}");
