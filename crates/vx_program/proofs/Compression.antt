@@ -1,8 +1,8 @@
 -- The reply to a plain tree, by what its compression answers.
-use Rattle.std.proofs.Common.{◌≡◌, ◌<◌, ◌≤◌, ◌^◌, ℕ, Bool, true, false, [], ◌∷◌, length, Ok, Err, Some, None, refl, sym, ap, ◌∙◌, arith}
-use Rattle.std.specs.Prelude.{nat_le, IsTrue}
+use Rattle.std.proofs.Common.{◌≡◌, ◌<◌, ◌≤◌, ◌^◌, ℕ, Bool, true, false, [], ◌∷◌, length, Ok, Err, None, refl, sym, ap, ◌∙◌, arith}
+use Rattle.std.specs.Prelude.{nat_le}
 use Rattle.std.specs.List.{list_all}
-use Rattle.std.proofs.lemmas.Bool.{cond-true, cond-false, and_parts, leb-true}
+use Rattle.std.proofs.lemmas.Bool.{and_parts, leb-true}
 use Rattle.std.proofs.lemmas.List.{length-map}
 use Rattle.vx_base.specs.declared.error.VortexError.{VortexError}
 use Rattle.vx_base.specs.declared.error.VortexError.TheVariants.{NoMemory, TooManyRows}
@@ -20,7 +20,7 @@ use Rattle.vx_model.specs.Leaf.{no_scheme}
 use Rattle.vx_model.proofs.LeafLemmas.{never_larger}
 use Rattle.vx_model.proofs.SizeLemmas.{small_plain}
 use Rattle.vx_btrblocks.specs.Shipped.{shipped_tree}
-use Rattle.vx_program.specs.Answer.{Reply, refusal, report, counts_fit, of_column}
+use Rattle.vx_program.specs.Answer.{refusal, report, counts_fit, of_column}
 
 -- the extents of a plain tree are the counts of its column
 extents-plain : (c : Column) → extents (plain c) ≡ counts c.dtype c.values

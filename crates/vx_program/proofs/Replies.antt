@@ -1,5 +1,5 @@
 -- What came from a source, and the reply to it.
-use Rattle.std.proofs.Common.{◌≡◌, ◌<◌, ◌≤◌, ◌+◌, ℕ, List, [], ◌++◌, length, true, false, ltb, Option, Some, None, IfSome, codes, refl, sym, ap, ◌∙◌, append-nil, length-append, arith, inl}
+use Rattle.std.proofs.Common.{◌≡◌, ◌≤◌, ◌+◌, ℕ, List, [], ◌++◌, length, true, false, ltb, Option, Some, None, IfSome, codes, refl, sym, ap, ◌∙◌, append-nil, length-append, arith, inl}
 use Rattle.std.specs.Prelude.{◌↔◌}
 use Rattle.std.proofs.lemmas.Bool.{le-ltb, lt-ltb}
 use Rattle.std.specs.Io.KnownBytes.{Consumes, IsAtEnd}

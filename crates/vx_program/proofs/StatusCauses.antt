@@ -1,11 +1,10 @@
 -- The status of a reply, and what it comes of.
-use Rattle.std.proofs.Common.{◌≡◌, ◌≢◌, ◌<◌, ◌≤◌, ℕ, List, length, Bool, true, false, cond, ltb, Option, Some, None, IfSome, codes, refl, ap, subst, sym, arith, inl, inr}
+use Rattle.std.proofs.Common.{◌≡◌, ◌<◌, ℕ, List, length, Bool, true, false, cond, ltb, Option, Some, None, IfSome, codes, refl, ap, subst, sym, arith, inl, inr}
 use Rattle.std.specs.Prelude.{◌↔◌, ◌⊎◌}
 use Rattle.std.proofs.lemmas.Bool.{ltb-true, ltb-false}
 use Rattle.std.proofs.lemmas.Option.{IfSome_then}
 use Rattle.vx_base.specs.declared.error.VortexError.TheVariants.{TooManyRows}
 use Rattle.vx_base.specs.ErrorName.{name_of}
-use Rattle.vx_model.specs.Column.{Column}
 use Rattle.vx_model.specs.Plain.{plain}
 use Rattle.vx_model.specs.Size.{size}
 use Rattle.vx_btrblocks.specs.Shipped.{shipped_tree}
@@ -13,7 +12,7 @@ use Rattle.vx_program.specs.Causes.{Rose}
 use Rattle.vx_program.specs.Reading.{limit}
 use Rattle.vx_program.specs.Document.{PlainDocument, document}
 use Rattle.vx_program.specs.Answer.{Reply, IsReply, answer, is_built, refusal, report, counts_fit, of_column, of_document, of_bytes}
-use Rattle.vx_program.specs.Statuses.{IsWritten, IsAnswered, IsUsage, IsRead, IsBadDocument, HasTooManyRows, IsCompressible}
+use Rattle.vx_program.specs.Statuses.{IsWritten, IsAnswered, ComesExactly, IsUsage, IsRead, IsBadDocument, HasTooManyRows, IsCompressible}
 
 both : {A B : Type 0} → A → B → A ↔ B
 both a b = (λ _. b, λ _. a)
@@ -132,14 +131,14 @@ module _ (left : Option (List ℕ)) (before now : ℕ) (words : List (List ℕ))
   reply_causes (inl h) other = IfSome_then left h.1 (λ all e. subst (λ r. Causes words all r.0) (sym h.2) (subst (λ b. Causes words all (answer words b).0) (sym e) (causes-answer words all)))
   reply_causes (inr h) other = absurd (other (ap (λ r. r.0) h.1))
 
-  pub reply_bad_document : IsReply left before now words reply → IsAnswered reply.0 → IfSome left (λ all. reply.0 ≡ 3 ↔ IsBadDocument words all)
-  reply_bad_document h answered = IfSome_then left (reply_causes h answered.1) (λ all (c : Causes words all reply.0). c.bad_document)
+  pub reply_bad_document : IsReply left before now words reply → ComesExactly 3 reply.0 left (IsBadDocument words)
+  reply_bad_document h = λ answered. IfSome_then left (reply_causes h answered.1) (λ all (c : Causes words all reply.0). c.bad_document)
 
-  pub reply_too_many_rows : IsReply left before now words reply → IsAnswered reply.0 → IfSome left (λ all. reply.0 ≡ 4 ↔ HasTooManyRows words all)
-  reply_too_many_rows h answered = IfSome_then left (reply_causes h answered.1) (λ all (c : Causes words all reply.0). c.too_many_rows)
+  pub reply_too_many_rows : IsReply left before now words reply → ComesExactly 4 reply.0 left (HasTooManyRows words)
+  reply_too_many_rows h = λ answered. IfSome_then left (reply_causes h answered.1) (λ all (c : Causes words all reply.0). c.too_many_rows)
 
-  pub reply_done : IsReply left before now words reply → IsAnswered reply.0 → IfSome left (λ all. reply.0 ≡ 0 ↔ IsCompressible words all)
-  reply_done h answered = IfSome_then left (reply_causes h answered.1) (λ all (c : Causes words all reply.0). c.done)
+  pub reply_done : IsReply left before now words reply → ComesExactly 0 reply.0 left (IsCompressible words)
+  reply_done h = λ answered. IfSome_then left (reply_causes h answered.1) (λ all (c : Causes words all reply.0). c.done)
 
   pub reply_complete : (P : Type 0) → IsReply left before now words reply
       → IfSome left (λ all. IsCompressible words all → (Rose before now → ⊥) → P → (reply.0 ≡ 0) ⊎ (reply.0 ≡ 1))

@@ -5,7 +5,7 @@ ghost use Rattle.vx_program.specs.Answer.{texts_of, answer, IsReply};
 ghost use Rattle.vx_program.specs.Causes.{Rose};
 ghost use Rattle.vx_program.specs.Reading.{limit, TakesAtMost};
 ghost use Rattle.vx_program.specs.Run.{Replies, Breaks};
-ghost use Rattle.vx_program.specs.Statuses.{IsWritten, IsAnswered, IsUsage, IsTooLong, IsBadDocument, HasTooManyRows, IsCompressible};
+ghost use Rattle.vx_program.specs.Statuses.{IsWritten, IsAnswered, ComesExactly, IsUsage, IsTooLong, IsBadDocument, HasTooManyRows, IsCompressible};
 ghost use Rattle.vx_program.specs.Sure.{sink_bytes};
 
 use crate::answer::{NO_MEMORY, WRITE_FAULT, reply_to};
@@ -18,38 +18,28 @@ use vx_base::Bytes;
 /// Reads all of the source, writes the reply to the words and these bytes, and answers its status: 0 for the whole
 /// output, 2 to 5 and 7 for a refusal, whose name is the output, 1 where memory is wanting and 6 where a write fails.
 pub fn run<I: Source, O: Sink>(alloc: Global, words: &[String], source: &mut I, sink: &mut O) -> u8
-    // The whole reply is written.
-    ensures answer { result ≢ 1 → result ≢ 6 → Replies
+    // The whole reply is written; or a write failed, and less than the whole; or memory ran out, and nothing is.
+    ensures answer { IsWritten result → Replies
         (IsReply (I.left source.old) (I.faults source.old) (I.faults source.new) (texts_of words.now))
         (O.written sink.old) (O.written sink.new) (O.faults sink.old) (O.faults sink.new) result }
-
-    // A write failed, and less than the whole reply is written.
     ensures write_fault { result ≡ 6 → Breaks
         (IsReply (I.left source.old) (I.faults source.old) (I.faults source.new) (texts_of words.now))
         (O.written sink.old) (O.written sink.new) (O.faults sink.old) (O.faults sink.new) }
-
-    // Memory ran out, and nothing is written.
     ensures no_memory { result ≡ 1 → O.written sink.new ≡ O.written sink.old }
-
     // Whatever happens, at most one byte above the limit is read, and nothing for other words.
     ensures most { TakesAtMost (I.left source.old) (I.left source.new) (limit + 1) }
     ensures nothing_read { IsUsage (texts_of words.now) → source.new ≡ source.old }
-
-    // What each status tells, and where it comes.
+    // Where each status comes.
     ensures usage { IsWritten result → (result ≡ 2 ↔ IsUsage (texts_of words.now)) }
     ensures too_long { IsWritten result → IfSome (I.left source.old) (λ old.
         result ≡ 7 ↔ IsTooLong old (I.left source.new)) }
-    ensures bad_document { IsAnswered result → IfSome (I.left source.old) (λ all.
-        result ≡ 3 ↔ IsBadDocument (texts_of words.now) all) }
-    ensures too_many_rows { IsAnswered result → IfSome (I.left source.old) (λ all.
-        result ≡ 4 ↔ HasTooManyRows (texts_of words.now) all) }
-    ensures done { IsAnswered result → IfSome (I.left source.old) (λ all.
-        result ≡ 0 ↔ IsCompressible (texts_of words.now) all) }
+    ensures bad_document { ComesExactly 3 result (I.left source.old) (IsBadDocument (texts_of words.now)) }
+    ensures too_many_rows { ComesExactly 4 result (I.left source.old) (HasTooManyRows (texts_of words.now)) }
+    ensures done { ComesExactly 0 result (I.left source.old) (IsCompressible (texts_of words.now)) }
     ensures source_rose { result ≡ 5 → Rose (I.faults source.old) (I.faults source.new) }
     ensures sink_rose { result ≡ 6 → Rose (O.faults sink.old) (O.faults sink.new) }
     ensures source_same { IsAnswered result → I.faults source.new ≡ I.faults source.old }
     ensures sink_same { IsWritten result → O.faults sink.new ≡ O.faults sink.old }
-
     // Where no fault is counted, what can be compressed is, unless memory is wanting.
     ensures complete { IfSome (I.left source.old) (λ all. IsCompressible (texts_of words.now) all
         → ¬ Rose (I.faults source.old) (I.faults source.new)

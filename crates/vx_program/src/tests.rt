@@ -1,8 +1,11 @@
-//! What no clause says: how the adapters of std meet failing calls, and that a text can go through whole.
+//! What no clause says: how the adapters of std meet failing calls, and that a text can go through whole. Then worked
+//! columns and refusals, whose texts are written by the rules.
 
 use crate::{
-    Failed, Input, Sink, Source, StdSink, StdSource, SureSink, SureSource, deliver, read_all,
+    Failed, Input, LIMIT, Sink, Source, StdSink, StdSource, SureSink, SureSource, deliver,
+    read_all, run, run_in_memory,
 };
+use std::alloc::Global;
 use std::io::{self, ErrorKind, Read, Write};
 use std::test::Fail;
 use vx_base::Bytes;
@@ -94,5 +97,124 @@ fn what_is_read_whole_is_delivered_whole(rt: HostRuntime) -> Result<(), Fail> {
     assert!(rt; deliver(&mut sink, "8").is_ok());
     assert_eq!(rt; sink.bytes().as_slice(), b"seven\n8".as_slice());
     assert_eq!(rt; sink.into_bytes().as_slice(), b"seven\n8".as_slice());
+    Ok(())
+}
+
+/// One word.
+fn word(alloc: Global, text: &str) -> Result<Vec<String>, Fail> {
+    let mut words = Vec::new(alloc);
+    words.push(String::from_str(alloc, text)?)?;
+    Ok(words)
+}
+
+/// A document of a type, whose rows are some rows a number of times.
+fn document(alloc: Global, dtype: &str, some: &str, times: u8) -> Result<Bytes, Fail> {
+    let mut rows = String::new(alloc);
+    for turn in 0..times {
+        if turn > 0 {
+            rows.push_str(",")?;
+        }
+        rows.push_str(some)?;
+    }
+    let text = format!(in alloc; "{{\"type\":\"{dtype}\",\"rows\":[{rows}],\"words\":[0]}}")?;
+    Ok(Bytes::from_vec(Vec::from_slice(alloc, text.as_bytes())?))
+}
+
+/// A type, some rows, how often they come, and what is written.
+const LISTED: [(&str, &str, u8, &str); 5] = [
+    (
+        "i64",
+        "7",
+        3,
+        "vortex.constant i64 len=3 size=9 value=7\nplain=24 tree=9\n",
+    ),
+    (
+        "u8",
+        "7",
+        1,
+        "vortex.primitive u8 len=1 size=1\nplain=1 tree=1\n",
+    ),
+    (
+        "i32?",
+        "null",
+        5,
+        "vortex.constant i32? len=5 size=1 value=null\nplain=21 tree=1\n",
+    ),
+    (
+        "i32",
+        "",
+        0,
+        "vortex.primitive i32 len=0 size=0\nplain=0 tree=0\n",
+    ),
+    (
+        "i64?",
+        "null,7,7,7,7,7,7,7,7,7",
+        10,
+        "vortex.masked i64? len=100 size=22\n  vortex.constant i64? len=100 size=9 value=7\nplain=813 tree=22\n",
+    ),
+];
+
+#[test]
+fn columns_are_listed(rt: HostRuntime) -> Result<(), Fail> {
+    let words = word(rt.alloc(), "compress")?;
+    for (dtype, some, times, output) in LISTED {
+        let bytes = document(rt.alloc(), dtype, some, times)?;
+        let (status, sink) = run_in_memory(rt.alloc(), words.as_slice(), bytes);
+        assert_eq!(rt; status, 0, "at {dtype}");
+        assert_eq!(rt; sink.bytes().as_slice(), output.as_bytes(), "at {dtype}");
+    }
+    Ok(())
+}
+
+/// So many spaces.
+fn spaces(alloc: Global, len: usize) -> Result<Bytes, Fail> {
+    Ok(Bytes::from_vec(vec![in alloc; b' '; len]?))
+}
+
+#[test]
+fn refusals_are_named(rt: HostRuntime) -> Result<(), Fail> {
+    let torn = b"{\"type\":\"i64\",\"rows\":[1".as_slice();
+    for (text, bytes, status, output) in [
+        (
+            "compress",
+            Bytes::from_vec(Vec::from_slice(rt.alloc(), torn)?),
+            3,
+            "refused: BadDocument\n",
+        ),
+        ("squeeze", Bytes::new_in(rt.alloc()), 2, "refused: Usage\n"),
+        (
+            "compress",
+            spaces(rt.alloc(), LIMIT + 1)?,
+            7,
+            "refused: TooLong\n",
+        ),
+    ] {
+        let words = word(rt.alloc(), text)?;
+        let (answer, sink) = run_in_memory(rt.alloc(), words.as_slice(), bytes);
+        assert_eq!(rt; answer, status, "at {output}");
+        assert_eq!(rt; sink.bytes().as_slice(), output.as_bytes(), "at {output}");
+    }
+    Ok(())
+}
+
+#[test]
+fn faults_end_a_run(rt: HostRuntime) -> Result<(), Fail> {
+    let words = word(rt.alloc(), "compress")?;
+    let mut source = StdSource::new(Torn { reads: 1 });
+    let mut sink = SureSink::new(rt.alloc());
+    assert_eq!(rt;
+        run(rt.alloc(), words.as_slice(), &mut source, &mut sink),
+        5
+    );
+    assert_eq!(rt; sink.bytes().as_slice(), b"refused: ReadFault\n".as_slice());
+    let mut source = SureSource::new(document(rt.alloc(), "u8", "7", 1)?);
+    let mut sink = StdSink::new(Blocked {
+        writes: 1,
+        flushes: 0,
+    });
+    assert_eq!(rt;
+        run(rt.alloc(), words.as_slice(), &mut source, &mut sink),
+        6
+    );
     Ok(())
 }

@@ -1,7 +1,5 @@
-use Rattle.std.proofs.Common.{◌≡◌, sym, ap, ◌∙◌, refl, arith}
+use Rattle.std.proofs.Common.{sym, ◌∙◌, refl}
 use Rattle.std.proofs.lemmas.Result.{IfOk-weaker}
-use Rattle.vx_program.specs.Document.{document}
-use Rattle.vx_program.specs.Answer.{of_document}
 use Rattle.vx_program.proofs.Replies.{reply_usage, reply_whole, reply_long, is_not_too_long}
 use Rattle.vx_program.proofs.StatusCauses.{not_too_long}
 use Rattle.vx_program.proofs.answer.reply_to.Goals as goal

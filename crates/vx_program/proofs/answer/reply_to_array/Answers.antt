@@ -1,4 +1,4 @@
-use Rattle.std.proofs.Common.{◌∙◌, sym}
+use Rattle.std.proofs.Common.{◌∙◌}
 use Rattle.std.proofs.lemmas.Result.{IfOk-weaker}
 use Rattle.vx_program.proofs.Compression.{size-compressed, reply_compressed, reply_refused}
 use Rattle.vx_program.proofs.answer.reply_to_array.Goals as goal
