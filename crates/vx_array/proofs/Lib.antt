@@ -1,2 +1,3 @@
 pub mod AtNode
+pub mod Cells
 pub mod Making

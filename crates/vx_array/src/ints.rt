@@ -1,11 +1,14 @@
 //! Lists of integers of one type.
 
-ghost use Rattle.std.specs.Prelude.{◌≡◌, ◌<◌, length, slice_index_or, pos, IsTrue, replicate, true};
+ghost use Rattle.std.specs.Prelude.{◌≡◌, ◌<◌, length, slice_index_or, pos, IsTrue, replicate, true, map, option_map};
 ghost use Rattle.std.specs.List.{list_all};
 ghost use Rattle.vx_base.specs.Answers.{Answers, OrMemory};
 ghost use Rattle.vx_base.specs.Integers.{lies_in};
 ghost use Rattle.vx_model.specs.Decoded.{zeroed, zeroed_by, zero_beneath};
 ghost use Rattle.vx_model.specs.Refusals.{validity_length};
+ghost use Rattle.vx_base.specs.PlainValue.{int};
+ghost use Rattle.vx_model.specs.Leaf.{first_valid, each_null_or};
+ghost use Rattle.vx_model.specs.Rows.{valid_rows};
 
 use crate::slices;
 use std::alloc::Global;
@@ -126,6 +129,22 @@ impl Ints {
         ensures { result ≡ zero_beneath mask.now (wholes_of self.now) }
     {
         with_ints!(self, items => slices::is_zero_beneath(items.as_slice(), mask.as_slice()))
+    }
+
+    /// The integer of the first row that is valid.
+    pub fn first_valid(&self, valid: &Option<Mask>) -> Option<i128>
+        requires { validity_length valid.now (length (wholes_of self.now)) ≡ true }
+        ensures { option_map int result ≡ first_valid (valid_rows valid.now (map int (wholes_of self.now))) }
+    {
+        with_ints!(self, items => slices::first_valid(items.as_slice(), valid))
+    }
+
+    /// Whether each row is null or this integer.
+    pub fn each_null_or(&self, valid: &Option<Mask>, whole: i128) -> bool
+        requires { validity_length valid.now (length (wholes_of self.now)) ≡ true }
+        ensures { result ≡ each_null_or (int whole) (valid_rows valid.now (map int (wholes_of self.now))) }
+    {
+        with_ints!(self, items => slices::each_null_or(items.as_slice(), valid, whole))
     }
 
     /// One integer in every row.

@@ -13,3 +13,6 @@ mod slices;
 pub use array::{ArrayRef, Node};
 pub use ints::Ints;
 pub use node::Made;
+
+#[cfg(test)]
+mod tests;

@@ -1,13 +1,17 @@
 //! Work on slices of any integer type.
 
-ghost use Rattle.std.specs.Prelude.{◌≡◌, ◌<◌, length, slice_index_or, slice_set, pos, if◌then◌else◌, ◌||◌, IsTrue, true, false, map, replicate};
+ghost use Rattle.std.specs.Prelude.{◌≡◌, ◌<◌, length, slice_index_or, slice_set, pos, if◌then◌else◌, ◌||◌, IsTrue, true, false, map, replicate, option_map};
 ghost use Rattle.std.specs.List.{list_all};
 ghost use Rattle.std.specs.Ordering.{int_eq};
 ghost use Rattle.vx_base.specs.Answers.{OrMemory};
 ghost use Rattle.vx_base.specs.Integers.{lies_in};
 ghost use Rattle.vx_model.specs.Decoded.{zeroed, zeroed_by, zero_beneath};
 ghost use Rattle.vx_model.specs.Refusals.{validity_length};
+ghost use Rattle.vx_base.specs.PlainValue.{cell, int};
+ghost use Rattle.vx_model.specs.Leaf.{first_valid, null_or, each_null_or};
+ghost use Rattle.vx_model.specs.Rows.{row_at, valid_rows};
 
+use crate::node::is_valid;
 use std::alloc::Global;
 use vx_base::{IntList, Integer, Mask, VortexResult};
 
@@ -115,4 +119,57 @@ pub(crate) fn filled<T: Integer>(alloc: Global, whole: i128, len: u64) -> Vortex
         items.push(item)?;
     }
     Ok(IntList::from_vec(items))
+}
+
+// The integer in a row, none where the row isn't valid.
+#[inline(always)]
+fn cell_at<T: Integer>(items: &[T], valid: &Option<Mask>, row: usize) -> Option<i128>
+    requires in_items { row < length items.now }
+    requires in_mask { validity_length valid.now (length items.now) ≡ true }
+    ensures { cell result ≡ row_at (valid_rows valid.now (map int (map T.whole items.now))) row }
+{
+    if is_valid(valid, row as u64) {
+        Some(items[row].to_whole())
+    } else {
+        None
+    }
+}
+
+// The integer of the first valid row.
+pub(crate) fn first_valid<T: Integer>(items: &[T], valid: &Option<Mask>) -> Option<i128>
+    requires { validity_length valid.now (length items.now) ≡ true }
+    ensures { option_map int result ≡ first_valid (valid_rows valid.now (map int (map T.whole items.now))) }
+{
+    for row in 0..items.len() {
+        if let Some(whole) = cell_at(items, valid, row) {
+            return Some(whole);
+        }
+    }
+    None
+}
+
+// Whether the row is null or this integer.
+#[inline(always)]
+fn is_null_or<T: Integer>(items: &[T], valid: &Option<Mask>, row: usize, whole: i128) -> bool
+    requires in_items { row < length items.now }
+    requires in_mask { validity_length valid.now (length items.now) ≡ true }
+    ensures { result ≡ null_or (int whole) (row_at (valid_rows valid.now (map int (map T.whole items.now))) row) }
+{
+    match cell_at(items, valid, row) {
+        Some(other) => other == whole,
+        None => true,
+    }
+}
+
+// Whether each row is null or this integer.
+pub(crate) fn each_null_or<T: Integer>(items: &[T], valid: &Option<Mask>, whole: i128) -> bool
+    requires { validity_length valid.now (length items.now) ≡ true }
+    ensures { result ≡ each_null_or (int whole) (valid_rows valid.now (map int (map T.whole items.now))) }
+{
+    for row in 0..items.len() {
+        if !is_null_or(items, valid, row, whole) {
+            return false;
+        }
+    }
+    true
 }

@@ -11,7 +11,8 @@ ghost use Rattle.vx_base.specs.Ordered.{cmp_pos};
 use crate::ptype::PType;
 use std::hash::Hash;
 
-/// An integer type. Contracts see its values as whole numbers; equality and order are those of the whole numbers.
+/// An integer type. Contracts see its values as whole numbers; equality, order and
+/// hash are those of the whole numbers.
 pub trait Integer: Copy + Drop + Ord + Hash {
     // The whole number of a value.
     ghost whole: { Self → ℤ };
@@ -36,6 +37,8 @@ pub trait Integer: Copy + Drop + Ord + Hash {
     ghost same: { (a b : Self) → IsTrue (Self.eq a b) ↔ (whole a ≡ whole b) };
 
     ghost ordered: { (a b : Self) → Self.cmp a b ≡ int_cmp (whole a) (whole b) };
+
+    ghost hashed: { (a b : Self) → whole a ≡ whole b → Self.hash_input a ≡ Self.hash_input b };
 }
 
 impl Integer for u8 {
@@ -65,6 +68,8 @@ impl Integer for u8 {
     ghost same = { Prim.search rules };
 
     ghost ordered = { cmp_pos };
+
+    ghost hashed = { Prim.search rules };
 }
 
 impl Integer for u16 {
@@ -94,6 +99,8 @@ impl Integer for u16 {
     ghost same = { Prim.search rules };
 
     ghost ordered = { cmp_pos };
+
+    ghost hashed = { Prim.search rules };
 }
 
 impl Integer for u32 {
@@ -123,6 +130,8 @@ impl Integer for u32 {
     ghost same = { Prim.search rules };
 
     ghost ordered = { cmp_pos };
+
+    ghost hashed = { Prim.search rules };
 }
 
 impl Integer for u64 {
@@ -152,6 +161,8 @@ impl Integer for u64 {
     ghost same = { Prim.search rules };
 
     ghost ordered = { cmp_pos };
+
+    ghost hashed = { Prim.search rules };
 }
 
 impl Integer for i8 {
@@ -181,6 +192,8 @@ impl Integer for i8 {
     ghost same = { Prim.search rules };
 
     ghost ordered = { λ a b. refl };
+
+    ghost hashed = { Prim.search rules };
 }
 
 impl Integer for i16 {
@@ -210,6 +223,8 @@ impl Integer for i16 {
     ghost same = { Prim.search rules };
 
     ghost ordered = { λ a b. refl };
+
+    ghost hashed = { Prim.search rules };
 }
 
 impl Integer for i32 {
@@ -239,6 +254,8 @@ impl Integer for i32 {
     ghost same = { Prim.search rules };
 
     ghost ordered = { λ a b. refl };
+
+    ghost hashed = { Prim.search rules };
 }
 
 impl Integer for i64 {
@@ -268,4 +285,6 @@ impl Integer for i64 {
     ghost same = { Prim.search rules };
 
     ghost ordered = { λ a b. refl };
+
+    ghost hashed = { Prim.search rules };
 }

@@ -24,3 +24,6 @@ pub use ptype::PType;
 pub use scalar::Scalar;
 pub use text::Text;
 pub use value::Value;
+
+#[cfg(test)]
+mod tests;

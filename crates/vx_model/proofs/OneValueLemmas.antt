@@ -1,15 +1,16 @@
 -- Columns of nulls alone, and columns whose valid rows are all one value.
-use Rattle.std.proofs.Common.{◌≡◌, Bool, true, false, List, [], ◌∷◌, length, Option, Some, None, cond, refl, sym, ap, subst}
+use Rattle.std.proofs.Common.{◌≡◌, ◌<◌, ◌≤◌, ◌+◌, ◌&&◌, ℕ, ℤ, zero, suc, take, arith, add-one, Bool, true, false, List, [], ◌∷◌, length, Option, Some, None, cond, refl, sym, ap, subst}
 use Rattle.std.specs.Prelude.{replicate, if◌then◌else◌, option_and_then}
 use Rattle.std.specs.List.{list_all, list_any}
 use Rattle.std.proofs.lemmas.Bool.{cond_both, and_parts}
-use Rattle.vx_base.specs.Storable.{same_path}
+use Rattle.std.proofs.lemmas.List.{take_all}
+use Rattle.vx_base.specs.Storable.{same_path, same_from}
 use Rattle.vx_base.specs.PlainValue.{PlainValue, null, int, is_null, stored_value}
-use Rattle.vx_model.specs.Rows.{rows, masked_rows}
+use Rattle.vx_model.specs.Rows.{rows, masked_rows, row_at}
 use Rattle.vx_model.specs.TreeType.{tree_type}
 use Rattle.vx_model.specs.Column.{Column}
 use Rattle.vx_model.specs.Plain.{valid_bits}
-use Rattle.vx_model.specs.Leaf.{first_valid, each_null_or, one_value, one_value_tree}
+use Rattle.vx_model.specs.Leaf.{first_valid, null_or, each_null_or, one_value, one_value_tree}
 
 pub first_valid-none : (vs : List PlainValue) → first_valid vs ≡ None → list_all is_null vs ≡ true
 first_valid-none [] e = refl
@@ -66,3 +67,45 @@ rows-one_value_tree c v e = cond_both (list_any is_null c.values) _ _ (λ t. row
 
 pub type-one_value_tree : (c : Column) (v : PlainValue) → tree_type (one_value_tree c v) ≡ c.dtype
 type-one_value_tree c v = cond_both (list_any is_null c.values) _ _ (λ t. tree_type t ≡ c.dtype) (λ some. refl) (λ none. refl)
+
+-- ---- one step of the search for a valid row, and of the test of each row
+
+first_valid-at : (vs : List PlainValue) (i : ℕ) → i < length vs → list_all is_null (take i vs) ≡ true → is_null (row_at vs i) ≡ false → first_valid vs ≡ Some (row_at vs i)
+first_valid-at [] i h e f = absurd (omega arith)
+first_valid-at (null ∷ vs) zero h e f = absurd cc
+first_valid-at (null ∷ vs) (suc i) h e f = first_valid-at vs i (omega arith) e f
+first_valid-at (int z ∷ vs) zero h e f = refl
+first_valid-at (int z ∷ vs) (suc i) h e f = absurd cc
+
+pub first_valid-found : (vs : List PlainValue) (i : ℕ) (z : ℤ) → i < length vs → list_all is_null (take i vs) ≡ true → int z ≡ row_at vs i → Some (int z) ≡ first_valid vs
+first_valid-found vs i z h e f = rw f (sym (first_valid-at vs i h e (ap is_null (sym f))))
+
+pub first_valid-nulls : (vs : List PlainValue) (i : ℕ) → length vs ≤ i → list_all is_null (take i vs) ≡ true → None ≡ first_valid vs
+first_valid-nulls vs i h e = all vs (rw (take_all i vs h) at e)
+  where
+    all : (vs : List PlainValue) → list_all is_null vs ≡ true → None ≡ first_valid vs
+    all [] e = refl
+    all (null ∷ vs) e = all vs e
+    all (int z ∷ vs) e = absurd cc
+
+module _ (p : PlainValue → Bool) where
+  list_all-next-suc : (vs : List PlainValue) (i : ℕ) → i < length vs → list_all p (take i vs) ≡ true → p (row_at vs i) ≡ true → list_all p (take (suc i) vs) ≡ true
+  list_all-next-suc [] i h e f = absurd (omega arith)
+  list_all-next-suc (v ∷ vs) zero h e f = rw f refl
+  list_all-next-suc (v ∷ vs) (suc i) h e f = let both = and_parts (p v) (list_all p (take i vs)) e in rw (both.0, list_all-next-suc vs i (omega arith) both.1 f) refl
+
+  pub list_all-next : (vs : List PlainValue) (i : ℕ) → i < length vs → list_all p (take i vs) ≡ true → p (row_at vs i) ≡ true → list_all p (take (i + 1) vs) ≡ true
+  list_all-next vs i h e f = rw add-one (list_all-next-suc vs i h e f)
+
+  pub list_all-stop : (vs : List PlainValue) (i : ℕ) → i < length vs → p (row_at vs i) ≡ false → list_all p vs ≡ false
+  list_all-stop [] i h f = absurd (omega arith)
+  list_all-stop (v ∷ vs) zero h f = rw f refl
+  list_all-stop (v ∷ vs) (suc i) h f = rw (list_all-stop vs i (omega arith) f) (last (p v))
+    where
+      last : (b : Bool) → (b && false) ≡ false
+      last true = refl
+      last false = refl
+
+-- whether a row that holds an integer is null or another
+pub null_or-int : (z w : ℤ) (b : Bool) → (b ≡ true → z ≡ w) → (z ≡ w → b ≡ true) → b ≡ null_or (int w) (int z)
+null_or-int z w b f g = same_from stored_value (int z) (int w) b (λ e. ap int (f e)) (λ e. g (let same : z ≡ w = cc in same))

@@ -1,13 +1,15 @@
 -- Lengths of lists of rows, and the row at a place.
-use Rattle.std.proofs.Common.{◌≡◌, ◌<◌, ℕ, zero, suc, ℤ, pos, List, [], ◌∷◌, map, length, refl, ap, ◌∙◌, Some, None, arith, Bool, false, cond}
+use Rattle.std.proofs.Common.{◌≡◌, ◌<◌, ℕ, zero, suc, ℤ, pos, List, [], ◌∷◌, map, length, refl, sym, true, ap, ◌∙◌, Some, None, arith, Bool, false, cond}
 use Rattle.std.specs.Prelude.{replicate, slice_index_or}
 use Rattle.std.proofs.lemmas.List.{get_or-map, length-map, length-replicate}
+use Rattle.std.proofs.lemmas.Bool.{eqb-true}
 use Rattle.vx_base.specs.declared.ptype.PType.{PType}
 use Rattle.vx_base.specs.declared.dtype.Nullability.{Nullability}
 use Rattle.vx_base.specs.PlainScalar.{PlainScalar}
 use Rattle.vx_base.specs.PlainValue.{PlainValue, null, int}
 use Rattle.vx_model.specs.Tree.{Tree, Validity, primitive, constant, masked}
 use Rattle.vx_model.specs.Rows.{rows, masked_rows, valid_rows, is_valid_at, row_at}
+use Rattle.vx_model.specs.Refusals.{validity_length}
 use Rattle.vx_model.specs.WellFormed.{WellFormed, IsValidityOf}
 
 pub length-masked_rows : (bits : List Bool) (rs : List PlainValue) → length bits ≡ length rs → length (masked_rows bits rs) ≡ length rs
@@ -35,6 +37,18 @@ length-valid_rows (Some bits) rs n h = length-masked_rows bits rs h.0
 pub row_at-valid_rows : (valid : Validity) (rs : List PlainValue) (n : Nullability) (i : ℕ) → IsValidityOf valid (length rs) n → row_at (valid_rows valid rs) i ≡ cond (is_valid_at valid i) (row_at rs i) null
 row_at-valid_rows None rs n i h = refl
 row_at-valid_rows (Some bits) rs n i h = row_at-masked_rows bits rs i h.0
+
+of_bits : (valid : Validity) (xs : List ℤ) (i : ℕ) → validity_length valid (length xs) ≡ true → row_at (valid_rows valid (map int xs)) i ≡ cond (is_valid_at valid i) (row_at (map int xs) i) null
+of_bits None xs i h = refl
+of_bits (Some bits) xs i h = row_at-masked_rows bits (map int xs) i (eqb-true (length bits) (length xs) h ∙ sym (length-map xs int))
+
+-- the row of integers and their validity
+pub row_at-cells : (valid : Validity) (xs : List ℤ) (i : ℕ) → validity_length valid (length xs) ≡ true → i < length xs → row_at (valid_rows valid (map int xs)) i ≡ cond (is_valid_at valid i) (int (slice_index_or xs i (pos 0))) null
+row_at-cells valid xs i h l = of_bits valid xs i h ∙ ap (λ r. cond (is_valid_at valid i) r null) (get_or-map int xs i (pos 0) null l)
+
+pub length-cells : (valid : Validity) (xs : List ℤ) → validity_length valid (length xs) ≡ true → length (valid_rows valid (map int xs)) ≡ length xs
+length-cells None xs h = length-map xs int
+length-cells (Some bits) xs h = length-masked_rows bits (map int xs) (eqb-true (length bits) (length xs) h ∙ sym (length-map xs int)) ∙ length-map xs int
 
 -- ---- the row at a place, node by node
 

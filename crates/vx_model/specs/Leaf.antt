@@ -22,9 +22,13 @@ abbrev pub first_valid : List PlainValue → Option PlainValue
 first_valid [] = None
 first_valid (v ∷ vs) = if is_null v then first_valid vs else Some v
 
+-- a row is null or v
+abbrev pub null_or : PlainValue → PlainValue → Bool
+null_or v w = is_null w || same_value w v
+
 -- every row is null or v
 abbrev pub each_null_or : PlainValue → List PlainValue → Bool
-each_null_or v values = list_all (λ w. is_null w || same_value w v) values
+each_null_or v values = list_all (null_or v) values
 
 -- the value that all valid rows have
 abbrev pub one_value : List PlainValue → Option PlainValue

@@ -1,1 +1,10 @@
+pub mod Answer
+pub mod Causes
 pub mod Document
+pub mod Listing
+pub mod Reading
+pub mod Run
+pub mod Statuses
+pub mod StdEdge
+pub mod Sure
+pub mod Writing

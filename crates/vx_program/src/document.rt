@@ -1,6 +1,6 @@
 //! A document from its bytes.
 
-ghost use Rattle.std.specs.Prelude.{◌≡◌, IfOk};
+ghost use Rattle.std.specs.Prelude.{◌≡◌, ◌<◌, length, IfOk};
 ghost use Rattle.serde_json.specs.View.{view, items_view, members_view};
 ghost use Rattle.vx_program.specs.Document.{Gives, all_by, word_of, value_of, words_of, is_known, all_known, document_of, document};
 ghost use Rattle.vx_model.specs.Column.{column_of};
@@ -72,7 +72,8 @@ fn read_words(alloc: Global, list: &Vec<Value>) -> Result<Vec<u64>, Unread>
 // The words of a value, at least one and at most `MOST_WORDS`.
 #[tactic(auto, unfolding(crate::specs::Document::words_of))]
 fn words_of(alloc: Global, value: &Value) -> Result<Words, Unread>
-    ensures { Gives (λ words. words) result (words_of (view value.now)) }
+    ensures words { Gives (λ words. words) result (words_of (view value.now)) }
+    ensures some { IfOk result (λ words. 0 < length words) }
 {
     let Some(list) = value.as_array() else {
         return Err(Unread::BadDocument);
@@ -108,6 +109,7 @@ fn all_known(map: &Map<String, Value>) -> bool
 fn document_of(alloc: Global, value: &Value) -> Result<Document, Unread>
     ensures document { Gives (λ d. record { column = column_of d.array; words = d.words }) result (document_of (view value.now)) }
     ensures plain { IfOk result (λ d. IsPlain d.array) }
+    ensures words { IfOk result (λ d. 0 < length d.words) }
 {
     let Some(map) = value.as_object() else {
         return Err(Unread::BadDocument);
@@ -139,6 +141,7 @@ fn document_of(alloc: Global, value: &Value) -> Result<Document, Unread>
 pub fn read_document(alloc: Global, bytes: Vec<u8>) -> Result<Document, Unread>
     ensures document { Gives (λ d. record { column = column_of d.array; words = d.words }) result (document bytes.items) }
     ensures plain { IfOk result (λ d. IsPlain d.array) }
+    ensures words { IfOk result (λ d. 0 < length d.words) }
 {
     let value = value_of(alloc, bytes)?;
     document_of(alloc, &value)

@@ -1,0 +1,29 @@
+use Rattle.vx_program.proofs.StatusCauses.{reply_written, reply_usage_causes, reply_bad_document, reply_too_many_rows, reply_done, reply_rose, reply_complete}
+use Rattle.vx_program.proofs.running.run.Goals as goal
+
+pub returns-in-Ok-deliver-clause-write_fault : goal.returns-in-Ok-deliver-clause-write_fault
+returns-in-Ok-deliver-clause-write_fault g c = λ e. absurd ((reply_written _ _ _ _ _ c.in-Ok.ensures.answer).1 e)
+
+pub returns-in-Ok-deliver-clause-no_memory : goal.returns-in-Ok-deliver-clause-no_memory
+returns-in-Ok-deliver-clause-no_memory g c = λ e. absurd ((reply_written _ _ _ _ _ c.in-Ok.ensures.answer).0 e)
+
+pub returns-in-Ok-deliver-clause-usage : goal.returns-in-Ok-deliver-clause-usage
+returns-in-Ok-deliver-clause-usage g c = λ written. reply_usage_causes _ _ _ _ _ c.in-Ok.ensures.answer
+
+pub returns-in-Ok-deliver-clause-bad_document : goal.returns-in-Ok-deliver-clause-bad_document
+returns-in-Ok-deliver-clause-bad_document g c = reply_bad_document _ _ _ _ _ c.in-Ok.ensures.answer
+
+pub returns-in-Ok-deliver-clause-too_many_rows : goal.returns-in-Ok-deliver-clause-too_many_rows
+returns-in-Ok-deliver-clause-too_many_rows g c = reply_too_many_rows _ _ _ _ _ c.in-Ok.ensures.answer
+
+pub returns-in-Ok-deliver-clause-done : goal.returns-in-Ok-deliver-clause-done
+returns-in-Ok-deliver-clause-done g c = reply_done _ _ _ _ _ c.in-Ok.ensures.answer
+
+pub returns-in-Ok-deliver-clause-source_rose : goal.returns-in-Ok-deliver-clause-source_rose
+returns-in-Ok-deliver-clause-source_rose g c = reply_rose _ _ _ _ _ c.in-Ok.ensures.answer
+
+pub returns-in-Ok-deliver-clause-sink_rose : goal.returns-in-Ok-deliver-clause-sink_rose
+returns-in-Ok-deliver-clause-sink_rose g c = λ e. absurd ((reply_written _ _ _ _ _ c.in-Ok.ensures.answer).1 e)
+
+pub returns-in-Ok-deliver-clause-complete : goal.returns-in-Ok-deliver-clause-complete
+returns-in-Ok-deliver-clause-complete g c = reply_complete _ _ _ _ _ _ c.in-Ok.ensures.answer

@@ -1,0 +1,39 @@
+-- The listing of a tree: a line for each node, and the line of sizes.
+use Rattle.std.specs.Prelude.{ℕ, List, [], ◌∷◌, ◌++◌, length, decimal, codes}
+use Rattle.std.specs.List.{concat}
+use Rattle.vx_base.specs.IdName.{id_name}
+use Rattle.vx_base.specs.TypeText.{type_text, value_text}
+use Rattle.vx_model.specs.Tree.{Tree, primitive, constant, masked}
+use Rattle.vx_model.specs.Nodes.{encoding}
+use Rattle.vx_model.specs.TreeType.{tree_type}
+use Rattle.vx_model.specs.Rows.{rows}
+use Rattle.vx_model.specs.Size.{size}
+
+-- the numbers that only the root's encoding has
+abbrev pub own_numbers : Tree → List ℕ
+own_numbers (primitive p xs valid n) = []
+own_numbers (constant s len) = codes " value=" ++ value_text s.value
+own_numbers (masked child valid) = []
+
+-- the root's encoding, type, rows and bytes
+unfoldable pub heading : Tree → List ℕ
+heading tree =
+    concat (id_name (encoding tree) ∷ codes " " ∷ type_text (tree_type tree) ∷ codes " len=" ∷ decimal (length (rows tree)) ∷ codes " size=" ∷ decimal (size tree) ∷ [])
+
+-- the root's line
+unfoldable pub line : List ℕ → Tree → List ℕ
+line indent tree = concat (indent ∷ heading tree ∷ own_numbers tree ∷ codes "\n" ∷ [])
+
+-- two spaces more
+abbrev pub deeper : List ℕ → List ℕ
+deeper indent = concat (indent ∷ codes "  " ∷ [])
+
+-- the root's line, and then the deeper listings of the trees inside
+abbrev pub listing : List ℕ → Tree → List ℕ
+listing indent (primitive p xs valid n) = line indent (primitive p xs valid n)
+listing indent (constant s len) = line indent (constant s len)
+listing indent (masked child valid) = line indent (masked child valid) ++ listing (deeper indent) child
+
+-- the bytes of the plain tree and of the compressed one
+unfoldable pub sizes_line : ℕ → ℕ → List ℕ
+sizes_line plain tree = concat (codes "plain=" ∷ decimal plain ∷ codes " tree=" ∷ decimal tree ∷ codes "\n" ∷ [])

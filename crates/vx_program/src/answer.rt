@@ -1,0 +1,165 @@
+//! From words and a source to a status and a text.
+
+ghost use Rattle.std.specs.Prelude.{◌≡◌, ◌≢◌, ◌<◌, ◌+◌, ◌^◌, ◌++◌, ◌↔◌, [], List, ℕ, Option, IfOk, IfSome, OnErr, string_bytes, length};
+ghost use Rattle.vx_base.specs.declared.error.VortexError.TheVariants.{NoMemory};
+ghost use Rattle.vx_base.specs.ErrorName.{name_of};
+ghost use Rattle.vx_model.specs.Column.{column_of};
+ghost use Rattle.vx_model.specs.Plain.{IsPlain};
+ghost use Rattle.vx_model.specs.Size.{size};
+ghost use Rattle.vx_program.specs.Document.{document};
+ghost use Rattle.vx_program.specs.Listing.{listing, sizes_line};
+ghost use Rattle.vx_program.specs.Reading.{limit, TakesAtMost};
+ghost use Rattle.vx_program.specs.Answer.{texts_of, is_built, refusal, report, of_column, of_document, IsReply};
+ghost use Rattle.vx_program.specs.Statuses.{IsUsage, IsTooLong};
+
+use crate::document::{Document, Unread, read_document};
+use crate::listing::{push_sizes, push_tree};
+use crate::outside::Source;
+use crate::reading::{Input, read_all};
+use std::alloc::{AllocError, Global};
+use vx_array::ArrayRef;
+use vx_base::{ExecutionCtx, VortexError};
+use vx_btrblocks::BtrBlocksCompressor;
+
+/// The whole output is written.
+pub const DONE: u8 = 0;
+
+/// Memory was wanting, and nothing is written.
+pub const NO_MEMORY: u8 = 1;
+
+/// The words have none of the built forms.
+pub const USAGE: u8 = 2;
+
+/// The bytes are no document.
+pub const BAD_DOCUMENT: u8 = 3;
+
+/// The library refuses the document; the output has the error's name.
+pub const REFUSED: u8 = 4;
+
+/// A read failed.
+pub const READ_FAULT: u8 = 5;
+
+/// A write failed, and less than the whole output is written.
+pub const WRITE_FAULT: u8 = 6;
+
+/// More than 2^26 bytes came.
+pub const TOO_LONG: u8 = 7;
+
+/// A text to be written, and the status once it is.
+#[derive(Drop)]
+pub struct Reply {
+    pub status: u8,
+    pub text: String,
+}
+
+fn refuse(alloc: Global, status: u8, name: &str) -> Result<Reply, AllocError>
+    ensures { IfOk result (λ r. (r.status, string_bytes r.text) ≡ refusal status name.now) }
+{
+    let text = format!(in alloc; "refused: {name}\n")?;
+    Ok(Reply { status, text })
+}
+
+fn is_built(words: &[String]) -> bool
+    ensures { result ≡ is_built (texts_of words.now) }
+{
+    match words {
+        [word] => word.as_str() == "compress",
+        _ => false,
+    }
+}
+
+fn report_text(alloc: Global, plain: u128, tree: &ArrayRef) -> Result<String, AllocError>
+    requires { size tree.now < 2 ^ 128 }
+    ensures { IfOk result (λ text. string_bytes text
+        ≡ listing [] tree.now ++ sizes_line plain (size tree.now)) }
+{
+    let mut text = String::new(alloc);
+    push_tree(alloc, &mut text, "", tree)?;
+    push_sizes(&mut text, plain, tree.nbytes())?;
+    Ok(text)
+}
+
+// The listing of the compressed tree, and both sizes.
+fn report(alloc: Global, plain: u128, tree: ArrayRef) -> Result<Reply, AllocError>
+    requires { size tree < 2 ^ 128 }
+    ensures { IfOk result (λ r. (r.status, string_bytes r.text)
+        ≡ report plain tree) }
+{
+    let text = report_text(alloc, plain, &tree)?;
+    Ok(Reply { status: DONE, text })
+}
+
+// The reply to an error of the library. Want of memory stays one.
+fn refuse_document(alloc: Global, error: VortexError) -> Result<Reply, AllocError>
+    ensures { IfOk result (λ r. (error ≢ NoMemory) × ((r.status, string_bytes r.text)
+        ≡ refusal 4 (name_of error))) }
+{
+    match error {
+        VortexError::NoMemory => Err(AllocError),
+        error => refuse(alloc, REFUSED, error.name()),
+    }
+}
+
+fn reply_to_array(
+    alloc: Global,
+    array: &ArrayRef,
+    ctx: &mut ExecutionCtx,
+) -> Result<Reply, AllocError>
+    requires { IsPlain array.now }
+    ensures { IfOk result (λ r. (r.status, string_bytes r.text) ≡ of_column (column_of array.now)) }
+{
+    let Ok(compressor) = BtrBlocksCompressor::shipped(alloc) else {
+        return Err(AllocError);
+    };
+    match compressor.compress(array, ctx) {
+        Ok(tree) => report(alloc, array.nbytes(), tree),
+        Err(error) => refuse_document(alloc, error),
+    }
+}
+
+fn reply_to_document(alloc: Global, document: Document) -> Result<Reply, AllocError>
+    requires plain { IsPlain document.array }
+    requires words { 0 < length document.words }
+    ensures { IfOk result (λ r. (r.status, string_bytes r.text)
+        ≡ of_column (column_of document.array)) }
+{
+    let Document { array, words } = document;
+    let mut ctx = ExecutionCtx::new(alloc, words);
+    reply_to_array(alloc, &array, &mut ctx)
+}
+
+/// The reply to the words of the built form and these bytes.
+#[tactic(auto, unfolding(crate::specs::Answer::of_document))]
+fn reply_to_bytes(alloc: Global, bytes: Vec<u8>) -> Result<Reply, AllocError>
+    ensures { IfOk result (λ r. (r.status, string_bytes r.text)
+        ≡ of_document (document bytes.items)) }
+{
+    match read_document(alloc, bytes) {
+        Ok(document) => reply_to_document(alloc, document),
+        Err(Unread::NoMemory) => Err(AllocError),
+        Err(Unread::BadDocument) => refuse(alloc, BAD_DOCUMENT, "BadDocument"),
+    }
+}
+
+/// The reply to the words and to all that the source gives.
+pub fn reply_to<I: Source>(
+    alloc: Global,
+    words: &[String],
+    source: &mut I,
+) -> Result<Reply, AllocError>
+    ensures answer { IfOk result (λ r. IsReply (I.left source.old) (I.faults source.old)
+        (I.faults source.new) (texts_of words.now) (r.status, string_bytes r.text)) }
+    ensures too_long { IfOk result (λ r. IfSome (I.left source.old) (λ old.
+        r.status ≡ 7 ↔ IsTooLong old (I.left source.new))) }
+    ensures most { TakesAtMost (I.left source.old) (I.left source.new) (limit + 1) }
+    ensures nothing_read { IsUsage (texts_of words.now) → source.new ≡ source.old }
+{
+    if !is_built(words) {
+        return refuse(alloc, USAGE, "Usage");
+    }
+    match read_all(alloc, source)? {
+        Input::Fault => refuse(alloc, READ_FAULT, "ReadFault"),
+        Input::TooLong => refuse(alloc, TOO_LONG, "TooLong"),
+        Input::Whole(bytes) => reply_to_bytes(alloc, bytes),
+    }
+}

@@ -1,0 +1,110 @@
+//! The text of a tree: a line for each node, and the line of sizes.
+
+ghost use Rattle.std.specs.Prelude.{◌≡◌, ◌<◌, ◌^◌, ◌++◌, IfOk, OnOk, string_bytes, [], codes};
+ghost use Rattle.vx_base.specs.TypeOf.{value_of};
+ghost use Rattle.vx_base.specs.TypeText.{value_text};
+ghost use Rattle.vx_model.specs.Size.{size};
+ghost use Rattle.vx_array.specs.TreeOf.{tree_of};
+ghost use Rattle.vx_program.specs.Listing.{own_numbers, heading, line, deeper, listing, sizes_line};
+
+use std::alloc::{AllocError, Global};
+use vx_array::{ArrayRef, Node};
+use vx_base::Value;
+
+// Compact JSON.
+fn push_value(text: &mut String, value: &Value) -> Result<(), AllocError>
+    ensures { OnOk result (string_bytes text.new
+        ≡ string_bytes text.old ++ (codes " value=" ++ value_text (value_of value.now))) }
+{
+    match value {
+        Value::Null => {
+            write!(text, " value=null")?;
+            Ok(())
+        }
+        Value::Int(whole) => {
+            write!(text, " value={whole}")?;
+            Ok(())
+        }
+    }
+}
+
+fn push_own_numbers(text: &mut String, node: &Node) -> Result<(), AllocError>
+    ensures { OnOk result (string_bytes text.new
+        ≡ string_bytes text.old ++ own_numbers (tree_of node.now)) }
+{
+    match node {
+        Node::Constant(scalar, _) => push_value(text, scalar.value()),
+        Node::Primitive(_, _, _) | Node::Masked(_, _) => Ok(()),
+    }
+}
+
+#[tactic(auto, unfolding(crate::specs::Listing::heading))]
+fn push_heading(text: &mut String, tree: &ArrayRef) -> Result<(), AllocError>
+    requires { size tree.now < 2 ^ 128 }
+    ensures { OnOk result (string_bytes text.new ≡ string_bytes text.old ++ heading tree.now) }
+{
+    let id = tree.encoding_id();
+    let dtype = tree.dtype();
+    let len = tree.len();
+    let size = tree.nbytes();
+    write!(text, "{id} {dtype} len={len} size={size}")?;
+    Ok(())
+}
+
+#[tactic(auto, unfolding(crate::specs::Listing::line))]
+fn push_line(text: &mut String, indent: &str, tree: &ArrayRef) -> Result<(), AllocError>
+    requires { size tree.now < 2 ^ 128 }
+    ensures { OnOk result (string_bytes text.new ≡ string_bytes text.old ++ line indent.now tree.now) }
+{
+    write!(text, "{indent}")?;
+    push_heading(text, tree)?;
+    push_own_numbers(text, tree.node())?;
+    writeln!(text, "")?;
+    Ok(())
+}
+
+fn deeper(alloc: Global, indent: &str) -> Result<String, AllocError>
+    ensures { IfOk result (λ s. string_bytes s ≡ deeper indent.now) }
+{
+    format!(in alloc; "{indent}  ")
+}
+
+/// Adds the listing of a tree, in preorder.
+pub(crate) fn push_tree(
+    alloc: Global,
+    text: &mut String,
+    indent: &str,
+    tree: &ArrayRef,
+) -> Result<(), AllocError>
+    requires { size tree.now < 2 ^ 128 }
+    ensures { OnOk result (string_bytes text.new
+        ≡ string_bytes text.old ++ listing indent.now tree.now) }
+{
+    push_line(text, indent, tree)?;
+    match tree.node() {
+        Node::Masked(child, _) => {
+            let next = deeper(alloc, indent)?;
+            push_tree(alloc, text, next.as_str(), child)
+        }
+        Node::Primitive(_, _, _) | Node::Constant(_, _) => Ok(()),
+    }
+}
+
+/// The listing of a tree, whose bytes are below 2^128.
+pub fn listing_text(alloc: Global, tree: &ArrayRef) -> Result<String, AllocError>
+    requires { size tree.now < 2 ^ 128 }
+    ensures { IfOk result (λ text. string_bytes text ≡ listing [] tree.now) }
+{
+    let mut text = String::new(alloc);
+    push_tree(alloc, &mut text, "", tree)?;
+    Ok(text)
+}
+
+/// Adds the line of sizes, in bytes.
+#[tactic(auto, unfolding(crate::specs::Listing::sizes_line))]
+pub(crate) fn push_sizes(text: &mut String, plain: u128, tree: u128) -> Result<(), AllocError>
+    ensures { OnOk result (string_bytes text.new ≡ string_bytes text.old ++ sizes_line plain tree) }
+{
+    writeln!(text, "plain={plain} tree={tree}")?;
+    Ok(())
+}

@@ -1,0 +1,47 @@
+//! A text to a sink, whole or up to a fault.
+
+ghost use Rattle.std.specs.Prelude.{◌≡◌, ◌≤◌, OnOk, OnErr, IfErr, length};
+ghost use Rattle.std.specs.Io.KnownBytes.{Appends};
+ghost use Rattle.vx_program.specs.Writing.{Fails, Stops};
+
+use crate::outside::{Failed, Sink};
+
+/// Why a text isn't written whole.
+#[derive(Clone, Copy, Debug, PartialEq, Eq)]
+pub enum Stop {
+    /// There was no memory for it, and nothing is written.
+    NoMemory,
+    /// A write failed, and less than the whole is written.
+    Failed,
+}
+
+/// Writes piece after piece, to the end or the first fault.
+fn write_whole<O: Sink>(sink: &mut O, bytes: &[u8]) -> Result<(), Failed>
+    requires { length bytes.now ≤ O.spare sink.old }
+    ensures done { OnOk result (Appends (O.written sink.old) (O.written sink.new) bytes.now) }
+    ensures same { OnOk result (O.faults sink.new ≡ O.faults sink.old) }
+    ensures fault { OnErr result (Fails (O.written sink.old) (O.written sink.new)
+        (O.faults sink.old) (O.faults sink.new) bytes.now) }
+{
+    let mut at = 0;
+    while at < bytes.len() {
+        at += sink.write(&bytes[at..])?;
+    }
+    Ok(())
+}
+
+/// Asks for room for the whole text, and then writes it. No memory is wanted between the writes.
+pub fn deliver<O: Sink>(sink: &mut O, text: &str) -> Result<(), Stop>
+    ensures done { OnOk result (Appends (O.written sink.old) (O.written sink.new) text.now) }
+    ensures same { OnOk result (O.faults sink.new ≡ O.faults sink.old) }
+    ensures stop { IfErr result (Stops (O.written sink.old) (O.written sink.new)
+        (O.faults sink.old) (O.faults sink.new) text.now) }
+{
+    if sink.reserve(text.len() as u64).is_err() {
+        return Err(Stop::NoMemory);
+    }
+    match write_whole(sink, text.as_bytes()) {
+        Ok(()) => Ok(()),
+        Err(Failed) => Err(Stop::Failed),
+    }
+}
