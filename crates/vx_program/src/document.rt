@@ -146,3 +146,6 @@ pub fn read_document(alloc: Global, bytes: Vec<u8>) -> Result<Document, Unread>
     let value = value_of(alloc, bytes)?;
     document_of(alloc, &value)
 }
+
+#[cfg(test)]
+mod tests;
