@@ -30,6 +30,7 @@ is_built (w ∷ v ∷ ws) = false
 abbrev pub Reply : Type 0
 Reply = ℕ × List ℕ
 
+-- a refusal's status, and its name as the text
 abbrev pub refusal : ℕ → List ℕ → Reply
 refusal status name = (status, concat (codes "refused: " ∷ name ∷ codes "\n" ∷ []))
 
@@ -41,13 +42,16 @@ counts_fit c = list_all (λ count. nat_le count row_limit) (counts c.dtype c.val
 abbrev pub report : ℕ → Tree → Reply
 report plain_size tree = (0, listing [] tree ++ sizes_line plain_size (size tree))
 
+-- the reply to a document's column
 unfoldable pub of_column : Column → Reply
 of_column c = if counts_fit c then report (size (plain c)) (shipped_tree c) else refusal 4 (name_of TooManyRows)
 
+-- the reply to the document that bytes are, or to none
 unfoldable pub of_document : Option PlainDocument → Reply
 of_document None = refusal 3 (codes "BadDocument")
 of_document (Some d) = of_column d.column
 
+-- the reply of the built form to these bytes
 unfoldable pub of_bytes : List ℕ → Reply
 of_bytes bytes = if nat_lt limit (length bytes) then refusal 7 (codes "TooLong") else of_document (document bytes)
 

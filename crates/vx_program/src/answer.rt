@@ -48,10 +48,13 @@ pub const TOO_LONG: u8 = 7;
 /// A text to be written, and the status once it is.
 #[derive(Drop)]
 pub struct Reply {
+    /// 0, 2 to 5 or 7.
     pub status: u8,
+    /// The output.
     pub text: String,
 }
 
+// A refusal's status, and its name as the text.
 fn refuse(alloc: Global, status: u8, name: &str) -> Result<Reply, AllocError>
     ensures { IfOk result (λ r. (r.status, string_bytes r.text) ≡ refusal status name.now) }
 {
@@ -59,6 +62,7 @@ fn refuse(alloc: Global, status: u8, name: &str) -> Result<Reply, AllocError>
     Ok(Reply { status, text })
 }
 
+// The one built form: the word `compress` alone.
 fn is_built(words: &[String]) -> bool
     ensures { result ≡ is_built (texts_of words.now) }
 {
@@ -68,6 +72,7 @@ fn is_built(words: &[String]) -> bool
     }
 }
 
+// The listing of a tree, and both sizes.
 fn report_text(alloc: Global, plain: u128, tree: &ArrayRef) -> Result<String, AllocError>
     requires { size tree.now < 2 ^ 128 }
     ensures { IfOk result (λ text. string_bytes text
@@ -79,7 +84,7 @@ fn report_text(alloc: Global, plain: u128, tree: &ArrayRef) -> Result<String, Al
     Ok(text)
 }
 
-// The listing of the compressed tree, and both sizes.
+// The reply to a column, by its compressed tree.
 fn report(alloc: Global, plain: u128, tree: ArrayRef) -> Result<Reply, AllocError>
     requires { size tree < 2 ^ 128 }
     ensures { IfOk result (λ r. (r.status, string_bytes r.text)
@@ -100,6 +105,7 @@ fn refuse_document(alloc: Global, error: VortexError) -> Result<Reply, AllocErro
     }
 }
 
+// The reply to a column, by its plain tree.
 fn reply_to_array(
     alloc: Global,
     array: &ArrayRef,
@@ -117,6 +123,7 @@ fn reply_to_array(
     }
 }
 
+// The reply to a document.
 fn reply_to_document(alloc: Global, document: Document) -> Result<Reply, AllocError>
     requires plain { IsPlain document.array }
     requires words { 0 < length document.words }
@@ -128,7 +135,7 @@ fn reply_to_document(alloc: Global, document: Document) -> Result<Reply, AllocEr
     reply_to_array(alloc, &array, &mut ctx)
 }
 
-/// The reply to the words of the built form and these bytes.
+// The reply of the built form to these bytes.
 #[tactic(auto, unfolding(crate::specs::Answer::of_document))]
 fn reply_to_bytes(alloc: Global, bytes: Vec<u8>) -> Result<Reply, AllocError>
     ensures { IfOk result (λ r. (r.status, string_bytes r.text)

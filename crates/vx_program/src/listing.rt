@@ -11,7 +11,7 @@ use std::alloc::{AllocError, Global};
 use vx_array::{ArrayRef, Node};
 use vx_base::Value;
 
-// Compact JSON.
+// Adds a constant's value, as compact JSON.
 fn push_value(text: &mut String, value: &Value) -> Result<(), AllocError>
     ensures { OnOk result (string_bytes text.new
         ≡ string_bytes text.old ++ (codes " value=" ++ value_text (value_of value.now))) }
@@ -28,6 +28,7 @@ fn push_value(text: &mut String, value: &Value) -> Result<(), AllocError>
     }
 }
 
+// Adds the numbers that only this encoding has.
 fn push_own_numbers(text: &mut String, node: &Node) -> Result<(), AllocError>
     ensures { OnOk result (string_bytes text.new
         ≡ string_bytes text.old ++ own_numbers (tree_of node.now)) }
@@ -38,6 +39,7 @@ fn push_own_numbers(text: &mut String, node: &Node) -> Result<(), AllocError>
     }
 }
 
+// Adds the root's encoding, type, rows and bytes.
 #[tactic(auto, unfolding(crate::specs::Listing::heading))]
 fn push_heading(text: &mut String, tree: &ArrayRef) -> Result<(), AllocError>
     requires { size tree.now < 2 ^ 128 }
@@ -51,6 +53,7 @@ fn push_heading(text: &mut String, tree: &ArrayRef) -> Result<(), AllocError>
     Ok(())
 }
 
+// Adds the root's line.
 #[tactic(auto, unfolding(crate::specs::Listing::line))]
 fn push_line(text: &mut String, indent: &str, tree: &ArrayRef) -> Result<(), AllocError>
     requires { size tree.now < 2 ^ 128 }
@@ -63,6 +66,7 @@ fn push_line(text: &mut String, indent: &str, tree: &ArrayRef) -> Result<(), All
     Ok(())
 }
 
+// Two spaces more.
 fn deeper(alloc: Global, indent: &str) -> Result<String, AllocError>
     ensures { IfOk result (λ s. string_bytes s ≡ deeper indent.now) }
 {
