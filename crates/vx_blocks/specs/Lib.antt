@@ -1,0 +1,4 @@
+pub mod Cost
+pub mod Histogram
+pub mod Holds
+pub mod IsPacked
