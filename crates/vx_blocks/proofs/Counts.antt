@@ -1,9 +1,9 @@
-use Rattle.std.proofs.Common.{◌≡◌, ℕ, ◌+◌, ◌^◌, ◌<◌, ◌≤◌, Bool, true, false, List, length, get_or, set, take, ap, ◌∙◌, arith, get_or-set_other, get_or-set_same, eqb, inl, inr, lit<, subst}
+use Rattle.std.proofs.Common.{◌≡◌, ℕ, ◌+◌, ◌^◌, ◌<◌, ◌≤◌, Bool, true, false, List, length, get_or, sum, set, take, ap, ◌∙◌, arith, get_or-set_other, get_or-set_same, eqb, inl, inr, lit<, subst}
 use Rattle.std.proofs.Math.ListN.{length-set}
 use Rattle.std.proofs.Math.Nat as nat
 use Rattle.std.proofs.lemmas.Bool.{cases_lt, cases_eq}
 use Rattle.std.proofs.lemmas.Bool.Decides.{nat_tests}
-use Rattle.std.proofs.lemmas.List.Sums.{count_by_more_yes, count_by_more_no, count_by-le-length}
+use Rattle.std.proofs.lemmas.List.Sums.{count_by_more_yes, count_by_more_no, count_by-le-length, sum_by-set}
 use Rattle.std.proofs.lemmas.List.{length-take}
 use Rattle.std.proofs.lemmas.Nat.{leading_length}
 use Rattle.vx_base.specs.Digits.{digits}
@@ -28,6 +28,9 @@ pub field-le : (width bits : ℕ) (valid : Bool) → field width bits valid ≤ 
 field-le width bits true = grind (arith, nat_tests)
 field-le width bits false = omega arith
 
+sum-add_one : (xs : List ℕ) (i : ℕ) → i < length xs → sum (set xs i (get_or xs i 0 + 1)) ≡ sum xs + 1
+sum-add_one xs i h = omega (arith, sum_by-set (λ x. x) xs i (get_or xs i 0 + 1) 0 h)
+
 pub histogram-more : (width : ℕ) (rows : List ℕ) (i : ℕ) (counts : List ℕ) (place : ℕ) → IsHistogram width (take i rows) counts → i < length rows → place ≡ digits (get_or rows i 0) → place < width + 1
     → IsHistogram width (take (i + 1) rows) (set counts place (get_or counts place 0 + 1))
 histogram-more width rows i counts place h lt is within =
@@ -42,6 +45,7 @@ histogram-more width rows i counts place h lt is within =
             let no : eqb (digits (get_or rows i 0)) w ≡ false = grind (arith, nat_tests) in
             rw (get_or-set_other, count_by_more_no (λ row. eqb (digits row) w) rows i 0 lt no) (h.each w below)
       ];
+      total = sum-add_one counts place (omega (arith, h.size)) ∙ omega (arith, h.total, length-take i rows, length-take (i + 1) rows);
     }
 
 pub histogram-room : (width : ℕ) (rows : List ℕ) (i : ℕ) (counts : List ℕ) (place : ℕ) → IsHistogram width (take i rows) counts → place < width + 1 → length rows < 2 ^ 40 → get_or counts place 0 < 2 ^ 63

@@ -1,4 +1,5 @@
 pub mod Cost
+pub mod GivesBack
 pub mod Histogram
 pub mod Holds
 pub mod IsPacked

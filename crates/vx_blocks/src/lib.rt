@@ -9,12 +9,12 @@ mod reading;
 mod unpacking;
 mod widths;
 
-//pub use laws::unpack_gives_back;
+pub use laws::unpack_gives_back;
 pub use narrowing::narrow_type;
 pub use packing::pack;
 pub use reading::get;
 pub use unpacking::unpack;
 pub use widths::{best_width, bit_width_histogram};
 
-//#[cfg(test)]
-//mod tests;
+#[cfg(test)]
+mod tests;
