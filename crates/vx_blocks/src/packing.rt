@@ -3,7 +3,7 @@
 ghost use Rattle.std.specs.Prelude.{◌≡◌, ◌<◌, ◌≤◌, ◌+◌, ◌*◌, ◌^◌, ℕ, length, map, take, drop};
 ghost use Rattle.vx_base.specs.Answers.{OrMemory};
 ghost use Rattle.vx_base.specs.Integers.{bits_in, bits_of};
-ghost use Rattle.vx_base.specs.Packed.{fields, joined};
+ghost use Rattle.vx_base.specs.Packed.{fields, joined, packed_size};
 ghost use Rattle.vx_blocks.specs.IsPacked.{IsPacked};
 
 use crate::filling::{finish, fit, put, size_in_bytes};
@@ -38,7 +38,8 @@ fn pack_by<T: Integer, const W: usize, const G: usize>(
     requires width { W ≤ 32 }
     requires some { 0 < G }
     requires within { W * G ≤ 64 }
-    ensures { OrMemory result (λ bytes. IsPacked W (fields W (map (bits_in T.kind) (map T.whole values.now)) valid.now) bytes.items) }
+    ensures size { OrMemory result (λ bytes. length bytes.items ≡ packed_size W (length values.now)) }
+    ensures rows { OrMemory result (λ bytes. IsPacked W (fields W (map (bits_in T.kind) (map T.whole values.now)) valid.now) bytes.items) }
 {
     let Some(size) = size_in_bytes(values.len(), W) else {
         return Err(VortexError::NoMemory);
@@ -68,7 +69,8 @@ fn pack_rows<T: Integer>(
 ) -> VortexResult<Vec<u8>>
     requires same { length valid.now ≡ length values.now }
     requires within { width ≤ 64 }
-    ensures { OrMemory result (λ bytes. IsPacked width (fields width (map (bits_in T.kind) (map T.whole values.now)) valid.now) bytes.items) }
+    ensures size { OrMemory result (λ bytes. length bytes.items ≡ packed_size width (length values.now)) }
+    ensures rows { OrMemory result (λ bytes. IsPacked width (fields width (map (bits_in T.kind) (map T.whole values.now)) valid.now) bytes.items) }
 {
     let Some(size) = size_in_bytes(values.len(), width as usize) else {
         return Err(VortexError::NoMemory);
@@ -105,7 +107,8 @@ pub fn pack<T: Integer>(
 ) -> VortexResult<Vec<u8>>
     requires same { length valid.now ≡ length values.now }
     requires within { width ≤ bits_of T.kind }
-    ensures { OrMemory result (λ bytes. IsPacked width (fields width (map (bits_in T.kind) (map T.whole values.now)) valid.now) bytes.items) }
+    ensures size { OrMemory result (λ bytes. length bytes.items ≡ packed_size width (length values.now)) }
+    ensures rows { OrMemory result (λ bytes. IsPacked width (fields width (map (bits_in T.kind) (map T.whole values.now)) valid.now) bytes.items) }
 {
     let valid = valid.as_slice();
     by_width!(values, valid, alloc, width; 1 64, 2 32, 3 21, 4 16, 5 12, 6 10, 7 9, 8 8, 9 7, 10 6, 11 5, 12 5, 13 4, 14 4, 15 4, 16 4, 17 3, 18 3, 19 3, 20 3, 21 3, 22 2, 23 2, 24 2, 25 2, 26 2, 27 2, 28 2, 29 2, 30 2, 31 2, 32 2)

@@ -54,7 +54,11 @@ fn low_bits(word: u64, width: u32) -> u64
     requires { width ≤ 64 }
     ensures { result ≡ word % 2 ^ width }
 {
-    if width == 64 { word } else { word & ((1 << width) - 1) }
+    if width == 64 {
+        word
+    } else {
+        word & ((1 << width) - 1)
+    }
 }
 
 // The row whose bits begin at `shift` in a word, and go on in the byte behind it where the word is too short.

@@ -1,7 +1,6 @@
 //! Worked values, and each call once with ample memory.
 
-ghost use Rattle.std.specs.Prelude.{◌≡◌, ◌≤◌, ◌<◌, ◌^◌, length, vec_len, IfOk};
-ghost use Rattle.vx_base.specs.Packed.{packed_size};
+ghost use Rattle.std.specs.Prelude.{◌≡◌, ◌≤◌, length, vec_len, IfOk};
 
 use crate::{best_width, bit_width_histogram, get, narrow_type, pack, unpack, unpack_gives_back};
 use std::alloc::{AllocError, Global};
@@ -69,6 +68,7 @@ fn widths_of_decimal_digits(rt: HostRuntime) -> Result<(), Fail> {
 }
 
 // Whether `unpack` reads what was packed, each row by row too, from `start` on.
+#[tactic(auto, using(vx_base::proofs::PackedLemmas::packed_size_le))]
 fn reads_back(alloc: Global, values: &[u64], width: u32, start: u64) -> Result<bool, Fail>
     requires width { width ≤ 64 }
     requires start { start ≤ length values.now }
@@ -89,19 +89,30 @@ fn reads_back(alloc: Global, values: &[u64], width: u32, start: u64) -> Result<b
     Ok(true)
 }
 
+// Numbers without a pattern, all of them below 2 to the width.
+fn numbers(alloc: Global, rows: usize, width: u32) -> Result<Vec<u64>, AllocError>
+    requires { width ≤ 64 }
+    ensures { IfOk result (λ values. vec_len values ≡ rows) }
+{
+    let mut values = vec![in alloc; 0u64; rows]?;
+    let mut x: u64 = 1;
+    for slot in values.iter_mut() {
+        x = x
+            .wrapping_mul(6364136223846793005)
+            .wrapping_add(1442695040888963407);
+        *slot = if width == 0 { 0 } else { x >> (64 - width) };
+    }
+    Ok(values)
+}
+
 #[test]
 fn every_width_reads_back(rt: HostRuntime) -> Result<(), Fail> {
-    let rows = 1500;
-    let mut values = vec![in rt.alloc(); 0u64; rows]?;
     for width in 0..65u32 {
-        let mut x: u64 = 1;
-        for slot in values.iter_mut() {
-            x = x.wrapping_mul(6364136223846793005).wrapping_add(1442695040888963407);
-            *slot = if width == 0 { 0 } else { x >> (64 - width) };
-        }
-        for start in [0, 3, 8, 1029] {
-            assert!(rt; reads_back(rt.alloc(), values.as_slice(), width, start)?);
-        }
+        let values = numbers(rt.alloc(), 1500, width)?;
+        let values = values.as_slice();
+        assert!(rt; reads_back(rt.alloc(), values, width, 0)?);
+        assert!(rt; reads_back(rt.alloc(), values, width, 3)?);
+        assert!(rt; reads_back(rt.alloc(), values, width, 1029)?);
     }
     Ok(())
 }

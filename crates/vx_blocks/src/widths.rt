@@ -31,13 +31,10 @@ fn add_one(counts: &mut Vec<u64>, place: usize)
     counts[place] += 1;
 }
 
-fn count_widths<T: Integer>(
-    alloc: Global,
-    values: &[T],
-    valid: &[bool],
-) -> VortexResult<Vec<u64>>
+fn count_widths<T: Integer>(alloc: Global, values: &[T], valid: &[bool]) -> VortexResult<Vec<u64>>
     requires { length valid.now ≡ length values.now }
-    ensures { OrMemory result (λ counts. IsHistogram (bits_of T.kind) (fields 64 (map (bits_in T.kind) (map T.whole values.now)) valid.now) counts.items) }
+    ensures total { OrMemory result (λ counts. sum counts.items ≡ length values.now) }
+    ensures widths { OrMemory result (λ counts. IsHistogram (bits_of T.kind) (fields 64 (map (bits_in T.kind) (map T.whole values.now)) valid.now) counts.items) }
 {
     let width = T::ptype().bit_width() as usize;
     let mut counts = vec![in alloc; 0u64; width + 1]?;
@@ -57,7 +54,8 @@ pub fn bit_width_histogram<T: Integer>(
     valid: &Mask,
 ) -> VortexResult<Vec<u64>>
     requires { length valid.now ≡ length values.now }
-    ensures { OrMemory result (λ counts. IsHistogram (bits_of T.kind) (fields 64 (map (bits_in T.kind) (map T.whole values.now)) valid.now) counts.items) }
+    ensures total { OrMemory result (λ counts. sum counts.items ≡ length values.now) }
+    ensures widths { OrMemory result (λ counts. IsHistogram (bits_of T.kind) (fields 64 (map (bits_in T.kind) (map T.whole values.now)) valid.now) counts.items) }
 {
     count_widths(alloc, values, valid.as_slice())
 }

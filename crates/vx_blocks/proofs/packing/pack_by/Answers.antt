@@ -26,8 +26,8 @@ loop-i-preserved g c =
     let at = fields-at f h g.row.W c.args.values.now c.args.valid.now c.loop-i.i c.index-values-i.result c.fit-bits.result c.requires.same c.loop-i-test.true c.index-values-i.is is in
     next-row g.row.W rows c.loop-i.i c.fit-bits.result _ _ _ (omega (arith, len)) at (c.in_ok-acc-2.ensures _ _ c.loop-i.invariant)
 
-pub returns : goal.returns
-returns g c =
+pub returns-clause-rows : goal.returns-clause-rows
+returns-clause-rows g c =
     let f = bits_in g.T.Integer.kind in
     let h = g.T.Integer.whole in
     let rows = fields g.row.W (map f (map h c.args.values.now)) c.args.valid.now in

@@ -1,4 +1,4 @@
-use Rattle.std.proofs.Common.{arith, ◌≡◌, ◌≤◌, map, ap, ◌∙◌, false, get_or}
+use Rattle.std.proofs.Common.{arith, length, ◌≡◌, ◌≤◌, map, ap, ◌∙◌, false, get_or}
 use Rattle.std.proofs.Math.Nat as nat
 use Rattle.vx_base.specs.Packed.{fields, field}
 use Rattle.vx_base.specs.Digits.{digits}
@@ -22,9 +22,16 @@ loop-i-preserved g c =
     let more = histogram-more (bits_of g.T.Integer.kind) rows c.loop-i.i c.loop-i.counts.items c.digits-place.result c.loop-i.invariant (omega (arith, len)) (c.digits-place.ensures.value ∙ ap digits at) (omega arith) in
     rw c.add_one.ensures more
 
-pub returns : goal.returns
-returns g c =
+pub returns-clause-widths : goal.returns-clause-widths
+returns-clause-widths g c =
     let f = bits_in g.T.Integer.kind in
     let h = g.T.Integer.whole in
     let all = fields_all f h 64 c.args.values.now c.args.valid.now c.loop-i.i c.requires c.loop-i-test.false in
     rw all at c.loop-i.invariant
+
+pub returns-clause-total : goal.returns-clause-total
+returns-clause-total g c =
+    let f = bits_in g.T.Integer.kind in
+    let h = g.T.Integer.whole in
+    let all = fields_all f h 64 c.args.values.now c.args.valid.now c.loop-i.i c.requires c.loop-i-test.false in
+    c.loop-i.invariant.total ∙ ap length all ∙ fields-length f h 64 c.args.values.now c.args.valid.now c.requires
