@@ -1,9 +1,9 @@
-use Rattle.std.proofs.Common.{◌≡◌, ℕ, ◌+◌, ◌-◌, ◌*◌, ◌%◌, ◌^◌, ◌<◌, Bool, true, false, List, length, get_or, drop, map, ◌∙◌, arith, sym, refl, ℤ, pos}
+use Rattle.std.proofs.Common.{◌≡◌, ℕ, ◌+◌, ◌-◌, ◌^◌, ◌<◌, Bool, true, false, List, length, get_or, map, ◌∙◌, arith, sym, refl, ℤ, pos}
 use Rattle.std.proofs.lemmas.List.{length-map, get_or-map}
 use Rattle.std.proofs.lemmas.Bool.Decides.{nat_tests}
 use Rattle.vx_base.specs.declared.ptype.PType.{PType}
 use Rattle.vx_base.specs.Integers.{bits_in}
-use Rattle.vx_base.specs.Packed.{joined, row_in, packed_row, field, fields}
+use Rattle.vx_base.specs.Packed.{packed_row, field, fields}
 use Rattle.vx_blocks.specs.IsPacked.{IsPacked}
 use Rattle.vx_blocks.specs.GivesBack.{Unpacks, bits_at, is_valid_at, GivesBackValues, GivesBackFields}
 use Rattle.vx_blocks.proofs.Rows.{fields-get, length-fields, fields-fit}

@@ -1,4 +1,4 @@
-use Rattle.std.proofs.Common.{arith, ◌≡◌, ◌+◌, ◌*◌, ◌/◌, length, map, ap, ◌∙◌, refl, false, get_or}
+use Rattle.std.proofs.Common.{arith, ◌≡◌, ◌*◌, length, map, ap, ◌∙◌, false, get_or}
 use Rattle.vx_base.specs.Packed.{fields, field, block_count}
 use Rattle.vx_blocks.proofs.Rows.{fields-at, fields-length, fields_all, packed_size-fields, next-row, place_within}
 use Rattle.vx_base.specs.Integers.{bits_in}

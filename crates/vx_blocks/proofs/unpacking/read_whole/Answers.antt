@@ -1,6 +1,5 @@
-use Rattle.std.proofs.Common.{arith, ◌≡◌, ◌<◌, ◌≤◌, ◌+◌, ◌*◌, ◌-◌, ◌∙◌, ap, length, take, min}
+use Rattle.std.proofs.Common.{arith, ◌≡◌, ◌<◌, ◌≤◌, ◌+◌, ◌*◌, ◌∙◌, length, min}
 use Rattle.std.proofs.lemmas.List.{length-take-le}
-use Rattle.vx_base.specs.Packed.{packed_row}
 use Rattle.vx_blocks.proofs.RowsRead.{IsUnpacked-append}
 use Rattle.vx_blocks.proofs.unpacking.read_whole.Goals as goal
 

@@ -1,4 +1,4 @@
-use Rattle.std.proofs.Common.{◌≡◌, ◌≤◌, ◌+◌, ◌-◌, ◌*◌, ◌/◌, ◌^◌, arith, get_or}
+use Rattle.std.proofs.Common.{◌≡◌, ◌≤◌, ◌+◌, ◌-◌, ◌*◌, ◌^◌, arith, get_or}
 use Rattle.std.proofs.lemmas.Nat.{mul-le}
 use Rattle.vx_base.specs.Integers.{bits_of}
 use Rattle.vx_blocks.proofs.widths.best_width.Goals as goal

@@ -1,4 +1,4 @@
-use Rattle.std.proofs.Common.{◌≡◌, ◌≤◌, ◌-◌, ◌/◌, drop, sum}
+use Rattle.std.proofs.Common.{◌≡◌, ◌≤◌, ◌-◌, drop, sum}
 use Rattle.vx_blocks.specs.Cost.{IsBest, cost}
 use Rattle.vx_base.specs.Integers.{bytes_of}
 use Rattle.vx_blocks.proofs.widths.best_width.Given as goal

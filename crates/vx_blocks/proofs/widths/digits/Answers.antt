@@ -1,6 +1,3 @@
-use Rattle.std.proofs.Common.{arith, ◌≡◌, ◌-◌, ◌<◌, ◌^◌, subst}
-use Rattle.std.proofs.lemmas.Nat.{leading_length}
-use Rattle.vx_base.specs.Digits.{digits}
 use Rattle.vx_blocks.proofs.Counts.{digits-le, digits-enough}
 use Rattle.vx_blocks.proofs.widths.digits.Goals as goal
 
