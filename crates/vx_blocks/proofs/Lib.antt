@@ -5,3 +5,4 @@ pub mod Written
 pub mod ReadBack
 pub mod Counts
 pub mod RowsRead
+pub mod Kept

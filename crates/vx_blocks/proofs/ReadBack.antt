@@ -6,7 +6,7 @@ use Rattle.vx_base.specs.Integers.{bits_in}
 use Rattle.vx_base.specs.Packed.{packed_row, field, fields}
 use Rattle.vx_blocks.specs.IsPacked.{IsPacked}
 use Rattle.vx_blocks.specs.GivesBack.{Unpacks, bits_at, is_valid_at, GivesBackValues, GivesBackFields}
-use Rattle.vx_blocks.proofs.Rows.{fields-get, length-fields, fields-fit}
+use Rattle.vx_blocks.proofs.Rows.{field-fits, fields-get, length-fields, fields-fit}
 use Rattle.vx_blocks.proofs.Windows.{row_in-joined}
 
 -- what was packed is read back: the value of a valid row that fits, else 0
@@ -22,9 +22,6 @@ gives-field kind values valid width start end rows u i h =
     let at : start + i < length values = omega (arith, u.within) in
     let bits : get_or (map (bits_in kind) values) (start + i) 0 ≡ bits_at kind values (start + i) = get_or-map (bits_in kind) values (start + i) (pos 0) 0 at in
     u.unpacked.each i h ∙ unpacked width (map (bits_in kind) values) valid u.bytes (start + i) (u.same ∙ sym l) (rw l at) u.packed ∙ rw bits refl
-
-field-fits : (width bits : ℕ) (valid : Bool) → valid ≡ true → bits < 2 ^ width → field width bits valid ≡ bits
-field-fits width bits valid is_valid fits = grind (arith, nat_tests)
 
 pub gives_back_fields : GivesBackFields
 gives_back_fields = gives-field

@@ -30,6 +30,9 @@ fields_more width bits valid i e h =
     let l = length-fields width bits valid e in
     take_more (fields width bits valid) i 0 (omega arith) ∙ ap (λ x. take i (fields width bits valid) ++ x ∷ []) (fields-get width bits valid i e h)
 
+pub field-fits : (width bits : ℕ) (valid : Bool) → valid ≡ true → bits < 2 ^ width → field width bits valid ≡ bits
+field-fits width bits valid is_valid fits = grind (arith, nat_tests)
+
 pub field-wide : (width bits : ℕ) (valid : Bool) → bits / 2 ^ width ≢ 0 → field width bits valid ≡ 0
 field-wide width bits true h = elim (cases_lt bits (2 ^ width)) [ inl lt ↦ absurd (h (nat.div-eq_of_lt lt)) | inr far ↦ grind (arith, nat_tests) ]
 field-wide width bits false h = refl
@@ -45,13 +48,16 @@ fields_all f g width xs valid i e h =
     let all = fields-length f g width xs valid e in
     take_all i (fields width (map f (map g xs)) valid) (omega (arith, all))
 
+pub bits-at : {X Z : Type 0} (f : Z → ℕ) (g : X → Z) (xs : List X) (i : ℕ) (x : X) (row : ℕ) → i < length xs → x ≡ get_or xs i x → row ≡ f (g x) → row ≡ get_or (map f (map g xs)) i 0
+bits-at f g xs i x row h at is =
+    let m : length (map g xs) ≡ length xs = length-map xs g in
+    is ∙ sym (get_or-map f (map g xs) i (g x) 0 (omega arith) ∙ ap f (get_or-map g xs i x (g x) h ∙ ap g (sym at)))
+
 pub fields-at : {X Z : Type 0} (f : Z → ℕ) (g : X → Z) (width : ℕ) (xs : List X) (valid : List Bool) (i : ℕ) (x : X) (row : ℕ) → length valid ≡ length xs → i < length xs
     → x ≡ get_or xs i x → row ≡ field width (f (g x)) (get_or valid i false) → row ≡ get_or (fields width (map f (map g xs)) valid) i 0
 fields-at f g width xs valid i x row e h at is =
     let l : length (map f (map g xs)) ≡ length xs = length-map (map g xs) f ∙ length-map xs g in
-    let m : length (map g xs) ≡ length xs = length-map xs g in
-    let here : get_or (map f (map g xs)) i 0 ≡ f (g x) = get_or-map f (map g xs) i (g x) 0 (omega arith) ∙ ap f (get_or-map g xs i x (g x) h ∙ ap g (sym at)) in
-    is ∙ ap (λ b. field width b (get_or valid i false)) (sym here) ∙ sym (fields-get width (map f (map g xs)) valid i (e ∙ sym l) (omega arith))
+    is ∙ ap (λ b. field width b (get_or valid i false)) (bits-at f g xs i x (f (g x)) h at refl) ∙ sym (fields-get width (map f (map g xs)) valid i (e ∙ sym l) (omega arith))
 
 -- the bytes that are to come out
 pub packed_size-fields : {X Z : Type 0} (f : Z → ℕ) (g : X → Z) (width : ℕ) (xs : List X) (valid : List Bool) (size : ℕ) → length valid ≡ length xs → size ≡ packed_size width (length xs) → size ≡ packed_size width (length (fields width (map f (map g xs)) valid))

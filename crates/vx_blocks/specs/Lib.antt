@@ -1,3 +1,4 @@
+pub mod AreKept
 pub mod Cost
 pub mod GivesBack
 pub mod Histogram

@@ -1,9 +1,11 @@
 //! Packing at a width.
 
 ghost use Rattle.std.specs.Prelude.{◌≡◌, ◌<◌, ◌≤◌, ◌+◌, ◌*◌, ◌^◌, ℕ, length, map, take, drop};
+ghost use Rattle.std.specs.Bool.{OnTrue};
 ghost use Rattle.vx_base.specs.Answers.{OrMemory};
 ghost use Rattle.vx_base.specs.Integers.{bits_in, bits_of};
 ghost use Rattle.vx_base.specs.Packed.{fields, joined, packed_size};
+ghost use Rattle.vx_blocks.specs.AreKept.{AreKept};
 ghost use Rattle.vx_blocks.specs.IsPacked.{IsPacked};
 
 use crate::filling::{finish, fit, put, size_in_bytes};
@@ -28,6 +30,75 @@ fn group<T: Integer, const W: usize, const G: usize>(values: &[T], valid: &[bool
     word
 }
 
+// The same of rows that are packed as they are.
+#[inline(always)]
+fn kept_group<T: Integer, const W: usize, const G: usize>(
+    values: &[T],
+    valid: &[bool],
+    at: usize,
+) -> u64
+    requires same { length valid.now ≡ length values.now }
+    requires width { W ≤ 32 }
+    requires within { W * G ≤ 64 }
+    requires room { at + G ≤ length values.now }
+    requires kept { AreKept W (map (bits_in T.kind) (map T.whole values.now)) valid.now at (at + G) }
+    ensures value { result ≡ joined W (take G (drop at (fields W (map (bits_in T.kind) (map T.whole values.now)) valid.now))) }
+    ensures small { result < 2 ^ (W * G) }
+{
+    let mut word = 0;
+    for k in 0..G {
+        let i = at + (G - 1 - k);
+        word = word << W | values[i].to_bits();
+    }
+    word
+}
+
+// Whether the rows from `start` to `end - 1` are packed as they are. It tests them all at once.
+#[inline(always)]
+fn are_kept<T: Integer, const W: usize>(
+    values: &[T],
+    valid: &[bool],
+    start: usize,
+    end: usize,
+) -> bool
+    requires same { length valid.now ≡ length values.now }
+    requires width { W ≤ 32 }
+    requires order { start ≤ end }
+    requires room { end ≤ length values.now }
+    ensures { OnTrue result (AreKept W (map (bits_in T.kind) (map T.whole values.now)) valid.now start end) }
+{
+    let mut bits = 0;
+    let mut all = true;
+    for i in start..end {
+        bits |= values[i].to_bits();
+        all = all & valid[i];
+    }
+    all && bits >> W == 0
+}
+
+// A word of rows, by the shorter way where they are packed as they are.
+#[inline(always)]
+fn either_group<T: Integer, const W: usize, const G: usize>(
+    values: &[T],
+    valid: &[bool],
+    at: usize,
+    kept: bool,
+) -> u64
+    requires same { length valid.now ≡ length values.now }
+    requires width { W ≤ 32 }
+    requires within { W * G ≤ 64 }
+    requires room { at + G ≤ length values.now }
+    requires kept { OnTrue kept (AreKept W (map (bits_in T.kind) (map T.whole values.now)) valid.now at (at + G)) }
+    ensures value { result ≡ joined W (take G (drop at (fields W (map (bits_in T.kind) (map T.whole values.now)) valid.now))) }
+    ensures small { result < 2 ^ (W * G) }
+{
+    if kept {
+        kept_group::<T, W, G>(values, valid, at)
+    } else {
+        group::<T, W, G>(values, valid, at)
+    }
+}
+
 // Packs `G` rows at a time, all at a width that is known when this is compiled.
 fn pack_by<T: Integer, const W: usize, const G: usize>(
     alloc: Global,
@@ -48,7 +119,15 @@ fn pack_by<T: Integer, const W: usize, const G: usize>(
     let mut acc = 0;
     let mut fill = 0;
     let groups = values.len() / G;
-    for g in 0..groups {
+    let whole = groups / 16 * 16;
+    for first in 0..groups / 16 {
+        let kept = are_kept::<T, W>(values, valid, 16 * first * G, (16 * first + 16) * G);
+        for g in 16 * first..16 * first + 16 {
+            let word = either_group::<T, W, G>(values, valid, g * G, kept);
+            (acc, fill) = put(&mut out, acc, fill, word, (W * G) as u32)?;
+        }
+    }
+    for g in whole..groups {
         let word = group::<T, W, G>(values, valid, g * G);
         (acc, fill) = put(&mut out, acc, fill, word, (W * G) as u32)?;
     }
