@@ -1,6 +1,6 @@
 //! Bits put one behind the other, by words of 64 bits.
 
-ghost use Rattle.std.specs.Prelude.{◌≡◌, ◌<◌, ◌≤◌, ◌+◌, ◌*◌, ◌^◌, ℕ, length, IfOk, IfSome};
+ghost use Rattle.std.specs.Prelude.{◌≡◌, ◌<◌, ◌≤◌, ◌+◌, ◌*◌, ◌^◌, ◌++◌, ℕ, List, length, take, IfOk, IfSome};
 ghost use Rattle.vx_base.specs.Packed.{joined, field, packed_size};
 ghost use Rattle.vx_blocks.specs.Holds.{Holds};
 
@@ -50,6 +50,32 @@ pub(crate) fn put(
     out.extend_from_slice(&word.to_le_bytes())?;
     let rest = if fill == 0 { 0 } else { bits >> (64 - fill) };
     Ok((rest, fill + width - 64))
+}
+
+// The same where the whole words go to a buffer, of which `len` bytes are taken.
+#[inline(always)]
+pub(crate) fn put_in(
+    buffer: &mut [u8],
+    len: usize,
+    acc: u64,
+    fill: u32,
+    bits: u64,
+    width: u32,
+) -> (u64, u32, usize)
+    requires room { len + 8 ≤ length buffer.old }
+    requires fill { fill < 64 }
+    requires width { width ≤ 64 }
+    requires bits { bits < 2 ^ width }
+    ensures taken { result.2 ≤ len + 8 }
+    ensures holds { (before : List ℕ) (number place : ℕ) → Holds number place (before ++ take len buffer.old) acc fill → Holds (number + 2 ^ place * bits) (place + width) (before ++ take result.2 buffer.new) result.0 result.1 }
+{
+    let word = acc | bits << fill;
+    if fill + width < 64 {
+        return (word, fill + width, len);
+    }
+    buffer[len..len + 8].copy_from_slice(&word.to_le_bytes());
+    let rest = if fill == 0 { 0 } else { bits >> (64 - fill) };
+    (rest, fill + width - 64, len + 8)
 }
 
 // The bytes: what `out` and the word `acc` hold, and zeros up to `size` bytes.

@@ -8,7 +8,7 @@ ghost use Rattle.vx_base.specs.Packed.{fields, joined, packed_size};
 ghost use Rattle.vx_blocks.specs.AreKept.{AreKept};
 ghost use Rattle.vx_blocks.specs.IsPacked.{IsPacked};
 
-use crate::filling::{finish, fit, put, size_in_bytes};
+use crate::filling::{finish, fit, put, put_in, size_in_bytes};
 use std::alloc::Global;
 use vx_base::{Integer, Mask, VortexError, VortexResult};
 
@@ -120,12 +120,15 @@ fn pack_by<T: Integer, const W: usize, const G: usize>(
     let mut fill = 0;
     let groups = values.len() / G;
     let whole = groups / 16 * 16;
+    let mut buffer = [0u8; 128];
     for first in 0..groups / 16 {
+        let mut len = 0;
         let kept = are_kept::<T, W>(values, valid, 16 * first * G, (16 * first + 16) * G);
         for g in 16 * first..16 * first + 16 {
             let word = either_group::<T, W, G>(values, valid, g * G, kept);
-            (acc, fill) = put(&mut out, acc, fill, word, (W * G) as u32)?;
+            (acc, fill, len) = put_in(&mut buffer, len, acc, fill, word, (W * G) as u32);
         }
+        out.extend_from_slice(&buffer[..len])?;
     }
     for g in whole..groups {
         let word = group::<T, W, G>(values, valid, g * G);

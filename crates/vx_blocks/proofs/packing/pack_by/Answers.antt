@@ -23,7 +23,8 @@ loop-g-preserved g c =
     let h = g.T.Integer.whole in
     let rows = fields g.row.W (map f (map h c.args.values.now)) c.args.valid.now in
     let len = fields-length f h g.row.W c.args.values.now c.args.valid.now c.requires.same in
-    next-group g.row.W rows c.loop-g.g g.row.G c.either_group-word.result _ _ _ (omega (arith, len, group-fits c.loop-g.g g.row.G (length c.args.values.now) (omega arith) c.requires.some)) c.either_group-word.ensures.value (c.in_ok-acc.ensures _ _ c.loop-g.invariant)
+    let holds = next-group g.row.W rows c.loop-g.g g.row.G c.either_group-word.result _ _ _ (omega (arith, len, group-fits c.loop-g.g g.row.G (length c.args.values.now) (omega arith) c.requires.some)) c.either_group-word.ensures.value (c.put_in.ensures.holds c.loop-first.out.items _ _ c.loop-g.invariant.holds) in
+    record { taken = omega (arith, c.put_in.ensures.taken, c.loop-g.invariant.taken); holds = holds }
 
 pub loop-g-2-preserved : goal.loop-g-2-preserved
 loop-g-2-preserved g c =
@@ -31,7 +32,7 @@ loop-g-2-preserved g c =
     let h = g.T.Integer.whole in
     let rows = fields g.row.W (map f (map h c.args.values.now)) c.args.valid.now in
     let len = fields-length f h g.row.W c.args.values.now c.args.valid.now c.requires.same in
-    next-group g.row.W rows c.loop-g-2.g g.row.G c.group-word.result _ _ _ (omega (arith, len, group-fits c.loop-g-2.g g.row.G (length c.args.values.now) c.loop-g-2-test.true c.requires.some)) c.group-word.ensures.value (c.in_ok-acc-2.ensures _ _ c.loop-g-2.invariant)
+    next-group g.row.W rows c.loop-g-2.g g.row.G c.group-word.result _ _ _ (omega (arith, len, group-fits c.loop-g-2.g g.row.G (length c.args.values.now) c.loop-g-2-test.true c.requires.some)) c.group-word.ensures.value (c.in_ok-acc.ensures _ _ c.loop-g-2.invariant)
 
 pub put-requires-in-loop-i-clause-bits : goal.put-requires-in-loop-i-clause-bits
 put-requires-in-loop-i-clause-bits g c = rw c.fit-bits.ensures (field-lt g.row.W c.to_bits.result (get_or c.args.valid.now c.loop-i.i false))
@@ -45,7 +46,7 @@ loop-i-preserved g c =
     let valid = get_or c.args.valid.now c.loop-i.i false in
     let is : c.fit-bits.result ≡ field g.row.W (f (h c.index-values-i.result)) valid = c.fit-bits.ensures ∙ ap (λ b. field g.row.W b valid) c.to_bits.ensures.value in
     let at = fields-at f h g.row.W c.args.values.now c.args.valid.now c.loop-i.i c.index-values-i.result c.fit-bits.result c.requires.same c.loop-i-test.true c.index-values-i.is is in
-    next-row g.row.W rows c.loop-i.i c.fit-bits.result _ _ _ (omega (arith, len)) at (c.in_ok-acc-3.ensures _ _ c.loop-i.invariant)
+    next-row g.row.W rows c.loop-i.i c.fit-bits.result _ _ _ (omega (arith, len)) at (c.in_ok-acc-2.ensures _ _ c.loop-i.invariant)
 
 pub returns-clause-rows : goal.returns-clause-rows
 returns-clause-rows g c =
