@@ -1,1 +1,2 @@
 pub mod MakesLemmas
+pub mod PackedLemmas

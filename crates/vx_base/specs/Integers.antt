@@ -72,3 +72,8 @@ least p = least_where (is_signed p) (natural_bits p)
 
 abbrev pub greatest : PType → ℤ
 greatest p = pos (2 ^ natural_bits p - 1)
+
+-- the bits of a whole number of the type, in two's complement, as a number from 0 on
+abbrev pub bits_in : PType → ℤ → ℕ
+bits_in p (pos n) = n
+bits_in p (negsuc n) = 2 ^ bits_of p - 1 - n

@@ -1,9 +1,12 @@
 pub mod Answers
+pub mod Digits
 pub mod ErrorName
 pub mod IdName
 pub mod Integers
 pub mod Masks
+pub mod Narrow
 pub mod Ordered
+pub mod Packed
 pub mod PlainScalar
 pub mod PlainType
 pub mod PlainValue

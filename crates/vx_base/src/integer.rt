@@ -1,9 +1,9 @@
 //! The eight integer types behind one trait.
 
-ghost use Rattle.std.specs.Prelude.{◌≡◌, ◌↔◌, ℤ, pos, IsTrue, refl, MatchOption, false, true};
+ghost use Rattle.std.specs.Prelude.{◌≡◌, ◌<◌, ◌^◌, ◌↔◌, ℤ, pos, IsTrue, refl, MatchOption, false, true};
 ghost use Rattle.vx_base.specs.declared.ptype.PType.{PType};
 ghost use Rattle.vx_base.specs.declared.ptype.PType.TheVariants.{U8, U16, U32, U64, I8, I16, I32, I64};
-ghost use Rattle.vx_base.specs.Integers.{lies_in};
+ghost use Rattle.vx_base.specs.Integers.{lies_in, bits_of, bits_in};
 ghost use Rattle.std.proofs.Common.{rules};
 ghost use Rattle.std.specs.Ordering.{int_cmp};
 ghost use Rattle.vx_base.specs.Ordered.{cmp_pos};
@@ -30,6 +30,11 @@ pub trait Integer: Copy + Drop + Ord + Hash {
     /// The value of a whole number, None exactly outside the type.
     fn from_whole(number: i128) -> Option<Self>
         ensures { MatchOption result (lies_in kind number ≡ false) (λ x. whole x ≡ number) };
+
+    /// The bits in two's complement, and zeros above the type's width.
+    fn to_bits(self) -> u64
+        ensures value { result ≡ bits_in kind (whole self) }
+        ensures small { result < 2 ^ bits_of kind };
 
     fn zero() -> Self
         ensures { whole result ≡ pos 0 };
@@ -58,6 +63,11 @@ impl Integer for u8 {
     #[inline(always)]
     fn from_whole(number: i128) -> Option<Self> {
         u8::try_from(number).ok()
+    }
+
+    #[inline(always)]
+    fn to_bits(self) -> u64 {
+        self as u64
     }
 
     #[inline(always)]
@@ -92,6 +102,11 @@ impl Integer for u16 {
     }
 
     #[inline(always)]
+    fn to_bits(self) -> u64 {
+        self as u64
+    }
+
+    #[inline(always)]
     fn zero() -> Self {
         0
     }
@@ -120,6 +135,11 @@ impl Integer for u32 {
     #[inline(always)]
     fn from_whole(number: i128) -> Option<Self> {
         u32::try_from(number).ok()
+    }
+
+    #[inline(always)]
+    fn to_bits(self) -> u64 {
+        self as u64
     }
 
     #[inline(always)]
@@ -154,6 +174,11 @@ impl Integer for u64 {
     }
 
     #[inline(always)]
+    fn to_bits(self) -> u64 {
+        self
+    }
+
+    #[inline(always)]
     fn zero() -> Self {
         0
     }
@@ -182,6 +207,11 @@ impl Integer for i8 {
     #[inline(always)]
     fn from_whole(number: i128) -> Option<Self> {
         i8::try_from(number).ok()
+    }
+
+    #[inline(always)]
+    fn to_bits(self) -> u64 {
+        self.cast_unsigned() as u64
     }
 
     #[inline(always)]
@@ -216,6 +246,11 @@ impl Integer for i16 {
     }
 
     #[inline(always)]
+    fn to_bits(self) -> u64 {
+        self.cast_unsigned() as u64
+    }
+
+    #[inline(always)]
     fn zero() -> Self {
         0
     }
@@ -247,6 +282,11 @@ impl Integer for i32 {
     }
 
     #[inline(always)]
+    fn to_bits(self) -> u64 {
+        self.cast_unsigned() as u64
+    }
+
+    #[inline(always)]
     fn zero() -> Self {
         0
     }
@@ -275,6 +315,11 @@ impl Integer for i64 {
     #[inline(always)]
     fn from_whole(number: i128) -> Option<Self> {
         i64::try_from(number).ok()
+    }
+
+    #[inline(always)]
+    fn to_bits(self) -> u64 {
+        self.cast_unsigned()
     }
 
     #[inline(always)]

@@ -1,0 +1,31 @@
+-- Rows of some bits each, side by side in one number, the first row lowest. Bytes are such a number, of rows of 8 bits.
+use Rattle.std.specs.Prelude.{ℕ, ◌+◌, ◌*◌, ◌/◌, ◌%◌, ◌^◌, nat_lt, Bool, if◌then◌else◌, List, [], ◌∷◌}
+
+abbrev pub joined : ℕ → List ℕ → ℕ
+joined width [] = 0
+joined width (row ∷ rows) = row + 2 ^ width * joined width rows
+
+-- a row of such a number
+abbrev pub row_in : ℕ → ℕ → ℕ → ℕ
+row_in width number row = number / 2 ^ (width * row) % 2 ^ width
+
+-- a row that is packed in bytes
+abbrev pub packed_row : List ℕ → ℕ → ℕ → ℕ
+packed_row bytes width row = row_in width (joined 8 bytes) row
+
+-- what is packed of a row: its bits, and 0 of a null and of a row that is wider
+abbrev pub field : ℕ → ℕ → Bool → ℕ
+field width bits valid = if valid then (if nat_lt bits (2 ^ width) then bits else 0) else 0
+
+abbrev pub fields : ℕ → List ℕ → List Bool → List ℕ
+fields width [] valid = []
+fields width (b ∷ bits) [] = []
+fields width (b ∷ bits) (v ∷ valid) = field width b v ∷ fields width bits valid
+
+-- how many blocks of 1,024 rows hold so many rows
+abbrev pub block_count : ℕ → ℕ
+block_count rows = (rows + 1023) / 1024
+
+-- how many bytes they take, packed
+abbrev pub packed_size : ℕ → ℕ → ℕ
+packed_size width rows = 128 * width * block_count rows

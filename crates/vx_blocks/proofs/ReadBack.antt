@@ -1,0 +1,31 @@
+use Rattle.std.proofs.Common.{◌≡◌, ℕ, ◌+◌, ◌-◌, ◌^◌, ◌<◌, Bool, true, false, List, length, get_or, map, ◌∙◌, arith, sym, refl, ℤ, pos}
+use Rattle.std.proofs.lemmas.List.{length-map, get_or-map}
+use Rattle.std.proofs.lemmas.Bool.Decides.{nat_tests}
+use Rattle.vx_base.specs.declared.ptype.PType.{PType}
+use Rattle.vx_base.specs.Integers.{bits_in}
+use Rattle.vx_base.specs.Packed.{packed_row, field, fields}
+use Rattle.vx_blocks.specs.IsPacked.{IsPacked}
+use Rattle.vx_blocks.specs.GivesBack.{Unpacks, bits_at, is_valid_at, GivesBackValues, GivesBackFields}
+use Rattle.vx_blocks.proofs.Rows.{field-fits, fields-get, length-fields, fields-fit}
+use Rattle.vx_blocks.proofs.Windows.{row_in-joined}
+
+-- what was packed is read back: the value of a valid row that fits, else 0
+pub unpacked : (width : ℕ) (bits : List ℕ) (valid : List Bool) (bytes : List ℕ) (i : ℕ) → length valid ≡ length bits → i < length bits → IsPacked width (fields width bits valid) bytes
+    → packed_row bytes width i ≡ field width (get_or bits i 0) (get_or valid i false)
+unpacked width bits valid bytes i e h packed =
+    rw packed.number (row_in-joined width (fields width bits valid) i (fields-fit width bits valid) (rw (length-fields width bits valid e) h) ∙ fields-get width bits valid i e h)
+
+gives-field : (kind : PType) (values : List ℤ) (valid : List Bool) (width start end : ℕ) (rows : List ℕ) → Unpacks kind values valid width start end rows
+    → (i : ℕ) → i < end - start → get_or rows i 0 ≡ field width (bits_at kind values (start + i)) (is_valid_at valid (start + i))
+gives-field kind values valid width start end rows u i h =
+    let l : length (map (bits_in kind) values) ≡ length values = length-map values (bits_in kind) in
+    let at : start + i < length values = omega (arith, u.within) in
+    let bits : get_or (map (bits_in kind) values) (start + i) 0 ≡ bits_at kind values (start + i) = get_or-map (bits_in kind) values (start + i) (pos 0) 0 at in
+    u.unpacked.each i h ∙ unpacked width (map (bits_in kind) values) valid u.bytes (start + i) (u.same ∙ sym l) (rw l at) u.packed ∙ rw bits refl
+
+pub gives_back_fields : GivesBackFields
+gives_back_fields = gives-field
+
+pub gives_back_values : GivesBackValues
+gives_back_values kind values valid width start end rows u i h is_valid fits =
+    gives-field kind values valid width start end rows u i h ∙ field-fits width (bits_at kind values (start + i)) (is_valid_at valid (start + i)) is_valid fits

@@ -1,0 +1,20 @@
+//! Integer kernels over slices: packing at a width in bits, reading it back, and which width or type is narrowest.
+#![tactic(auto)]
+
+mod filling;
+mod laws;
+mod narrowing;
+mod packing;
+mod reading;
+mod unpacking;
+mod widths;
+
+pub use laws::unpack_gives_back;
+pub use narrowing::narrow_type;
+pub use packing::pack;
+pub use reading::get;
+pub use unpacking::unpack;
+pub use widths::{best_width, bit_width_histogram};
+
+#[cfg(test)]
+mod tests;

@@ -1,0 +1,33 @@
+//! The narrowest type.
+
+ghost use Rattle.std.specs.Prelude.{◌≡◌, Some, IsSome};
+ghost use Rattle.vx_base.specs.Narrow.{narrow_of};
+
+use vx_base::PType;
+
+/// The narrowest type for the whole numbers from `least` to `greatest`: where `least` is at least 0 the first of U8 to
+/// U64 that holds `greatest`, else the first of I8 to I64 that holds both. Some type has to.
+pub fn narrow_type(least: i128, greatest: i128) -> PType
+    requires { IsSome (narrow_of least greatest) }
+    ensures { narrow_of least greatest ≡ Some result }
+{
+    if least >= 0 {
+        if u8::try_from(greatest).is_ok() {
+            PType::U8
+        } else if u16::try_from(greatest).is_ok() {
+            PType::U16
+        } else if u32::try_from(greatest).is_ok() {
+            PType::U32
+        } else {
+            PType::U64
+        }
+    } else if i8::try_from(least).is_ok() && i8::try_from(greatest).is_ok() {
+        PType::I8
+    } else if i16::try_from(least).is_ok() && i16::try_from(greatest).is_ok() {
+        PType::I16
+    } else if i32::try_from(least).is_ok() && i32::try_from(greatest).is_ok() {
+        PType::I32
+    } else {
+        PType::I64
+    }
+}
