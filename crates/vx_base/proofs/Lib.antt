@@ -1,1 +1,2 @@
+pub mod IdSetLemmas
 pub mod MakesLemmas
