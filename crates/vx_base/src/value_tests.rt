@@ -2,7 +2,9 @@
 
 ghost use Rattle.std.specs.Prelude.{◌≡◌, ◌<◌};
 
-use crate::{ArrayId, DType, Fraction, IdSet, Nullability, PType, Scalar, Steps, Value, VortexError};
+use crate::{
+    ArrayId, DType, Fraction, IdSet, Nullability, PType, Scalar, Steps, Value, VortexError,
+};
 use std::marker::Brand;
 use std::sync::ledger::{Blank, Ledger};
 use std::test::Fail;
@@ -82,4 +84,21 @@ fn sets_have_the_ids_that_were_put_in(rt: HostRuntime) {
     let others = all.without(ArrayId::Sequence);
     assert!(rt; !others.contains(ArrayId::Sequence) && others.contains(ArrayId::ZigZag));
     assert!(rt; others.with(ArrayId::Sequence) == all);
+}
+
+// Counts twice, and answers how many bytes the counter takes.
+fn two_ticks<L: Ledger>(blank: Blank) -> usize
+    requires name { blank.name ≡ L.name }
+    requires parts { blank.parts ≡ L.parts }
+    requires some { 0 < L.parts }
+{
+    let mut steps = Steps::<L>::new(blank);
+    steps.tick();
+    steps.tick();
+    size_of::<Steps<L>>()
+}
+
+#[test]
+fn counters_take_no_bytes(rt: HostRuntime) {
+    assert_eq!(rt; two_ticks::<Brand>(Blank::new(1)), 0);
 }

@@ -1,3 +1,4 @@
+-- The new bit lies below 2 ^ 23, and is the only one that changes.
 use Rattle.std.proofs.Common.{arith, ◌<◌, ◌*◌, ◌^◌, ◌%◌}
 use Rattle.std.proofs.lemmas.Nat.{or_lt}
 use Rattle.std.proofs.Math.Pow.{pow-lt}

@@ -1,3 +1,4 @@
+-- The bit of the id is cleared, and is the only one that changes.
 use Rattle.std.proofs.Common.{arith}
 use Rattle.vx_base.specs.IdNumber.{id_number}
 use Rattle.vx_base.proofs.IdSetLemmas.{cleared_bit, id_number-lt}
