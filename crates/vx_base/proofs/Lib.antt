@@ -1,2 +1,3 @@
+pub mod IdSetLemmas
 pub mod MakesLemmas
 pub mod PackedLemmas

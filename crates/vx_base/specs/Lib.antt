@@ -1,7 +1,12 @@
 pub mod Answers
+pub mod Casts
 pub mod Digits
 pub mod ErrorName
+pub mod FractionLaws
+pub mod Fractions
 pub mod IdName
+pub mod IdNumber
+pub mod IdSets
 pub mod Integers
 pub mod Masks
 pub mod Narrow

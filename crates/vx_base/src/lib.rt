@@ -5,11 +5,14 @@ mod array_id;
 mod context;
 mod dtype;
 mod error;
+mod fraction;
+mod id_set;
 mod integer;
 mod items;
 mod mask;
 mod ptype;
 mod scalar;
+mod steps;
 mod text;
 mod value;
 
@@ -17,13 +20,18 @@ pub use array_id::ArrayId;
 pub use context::ExecutionCtx;
 pub use dtype::{DType, Nullability};
 pub use error::{Refused, VortexError, VortexResult};
+pub use fraction::Fraction;
+pub use id_set::IdSet;
 pub use integer::Integer;
 pub use items::{ByteRows, Bytes, IntList, Items, Names, Ranges, Words};
 pub use mask::Mask;
 pub use ptype::PType;
 pub use scalar::Scalar;
+pub use steps::Steps;
 pub use text::Text;
 pub use value::Value;
 
 #[cfg(test)]
 mod tests;
+#[cfg(test)]
+mod value_tests;

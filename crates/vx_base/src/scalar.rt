@@ -4,6 +4,10 @@ ghost use Rattle.std.specs.Prelude.{◌≡◌, ◌↔◌, IsTrue, None};
 ghost use Rattle.vx_base.specs.Answers.{Answers, SurelyDecided, MakesSurely, unless};
 ghost use Rattle.vx_base.specs.declared.error.VortexError.TheVariants.{MismatchedTypes, OutOfBounds};
 ghost use Rattle.vx_base.specs.Integers.{lies_in};
+ghost use Rattle.vx_base.specs.PlainScalar.{fits};
+ghost use Rattle.vx_base.specs.TypeOf.{type_of, value_of};
+
+mod cast;
 
 use crate::dtype::{DType, Nullability};
 use crate::error::{Refused, VortexError, VortexResult};
@@ -43,12 +47,35 @@ fn is_held(value: i128, ptype: PType) -> bool
     value >= ptype.least() && value <= ptype.greatest()
 }
 
+// Whether the value is one of the type.
+fn fits(dtype: &DType, value: &Value) -> bool
+    ensures { result ≡ fits (type_of dtype.now) (value_of value.now) }
+{
+    match (dtype, value) {
+        (DType::Primitive(_, nullability), Value::Null) => nullability.allows_null(),
+        (DType::Primitive(ptype, _), Value::Int(whole)) => is_held(*whole, *ptype),
+    }
+}
+
 impl Scalar {
     ghost use Rattle.vx_base.specs.PlainValue.{null, int, is_null, cell};
     ghost use Rattle.vx_base.specs.PlainScalar.{fits, scalar};
     ghost use Rattle.vx_base.specs.PlainType.{primitive, is_integer, is_nullable};
     ghost use Rattle.vx_base.specs.TypeOf.{type_of, value_of};
     ghost use Rattle.vx_base.specs.TypeText.{value_text};
+
+    /// A type and a value of it. Refuses MismatchedTypes where the value isn't one of the type.
+    pub fn new(dtype: DType, value: Value) -> Result<Scalar, Refused<(DType, Value)>>
+        ensures { MakesSurely (unless (fits (type_of dtype) (value_of value)) MismatchedTypes None) (scalar (type_of dtype) (value_of value)) (dtype, value) result }
+    {
+        if !fits(&dtype, &value) {
+            return Err(Refused {
+                error: VortexError::MismatchedTypes,
+                inputs: (dtype, value),
+            });
+        }
+        Ok(Scalar { dtype, value })
+    }
 
     pub fn dtype(&self) -> &DType
         ensures { type_of result.now ≡ self.now.dtype }
