@@ -34,7 +34,7 @@ impl Fraction {
 
     /// The number below the line, as it was given.
     pub fn den(&self) -> u64
-        ensures num { result ≡ divisor self.now }
+        ensures den { result ≡ divisor self.now }
         ensures positive { 0 < result }
     {
         self.den
