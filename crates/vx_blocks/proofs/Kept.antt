@@ -1,12 +1,11 @@
 -- Rows that are packed as they are, tested many at once.
-use Rattle.std.proofs.Common.{◌≡◌, ℕ, ◌+◌, ◌*◌, ◌/◌, ◌^◌, ◌<◌, ◌≤◌, Bool, true, false, ◌&&◌, List, length, get_or, map, ap, ◌∙◌, arith, inl, inr, sym, refl, nat_eq}
+use Rattle.std.proofs.Common.{◌≡◌, ℕ, ◌+◌, ◌/◌, ◌^◌, ◌<◌, ◌≤◌, Bool, true, false, ◌&&◌, List, length, get_or, ◌∙◌, arith, inl, inr, refl, nat_eq}
 use Rattle.std.specs.Bool.{OnTrue}
 use Rattle.std.specs.Int.RustNames.{bit_or}
 use Rattle.std.proofs.lemmas.Bool.{cases_lt}
 use Rattle.std.proofs.lemmas.Bool.Decides.{nat_tests}
 use Rattle.std.proofs.lemmas.Nat.{pow_pos, le_or_l, le_or_r}
 use Rattle.std.proofs.Math.Nat as nat
-use Rattle.vx_base.specs.Packed.{fields}
 use Rattle.vx_blocks.specs.AreKept.{AreKept}
 use Rattle.vx_blocks.proofs.Rows.{fields-get, field-fits}
 
@@ -48,6 +47,6 @@ seen-all width bits valid start end word all same within is_all seen true e =
     let small : word < 2 ^ width = omega (arith, rw none at (nat.lt-div-mul-add {a = word} {b = 2 ^ width} (pow_pos width))) in
     record {
       each = λ k first last.
-      let row = seen k first last in
-      fields-get width bits valid k same (omega arith) ∙ field-fits width (get_or bits k 0) (get_or valid k false) (row.1 is_all) (nat.lt_of_le_of_lt row.0 small);
+          let row = seen k first last in
+          fields-get width bits valid k same (omega arith) ∙ field-fits width (get_or bits k 0) (get_or valid k false) (row.1 is_all) (nat.lt_of_le_of_lt row.0 small);
     }

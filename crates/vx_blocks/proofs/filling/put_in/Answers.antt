@@ -1,4 +1,4 @@
-use Rattle.std.proofs.Common.{arith, ◌≡◌, ◌+◌, ◌*◌, ◌/◌, ◌%◌, ◌^◌, ◌-◌, ◌++◌, List, length, take, ap, sym, ◌∙◌, append_assoc}
+use Rattle.std.proofs.Common.{arith, ◌≡◌, ◌+◌, ◌*◌, ◌/◌, ◌%◌, ◌^◌, ◌-◌, ◌++◌, length, take, ap, ◌∙◌, append_assoc}
 use Rattle.std.specs.Int.RustNames.{bit_or}
 use Rattle.std.proofs.Math.Nat as nat
 use Rattle.std.proofs.lemmas.Nat.{or_lt, pow_pos}

@@ -1,4 +1,4 @@
-use Rattle.std.proofs.Common.{◌≡◌, ◌<◌, ◌∙◌, sym, refl, arith, length, map, ap}
+use Rattle.std.proofs.Common.{◌≡◌, ◌∙◌, sym, refl, arith, length, map}
 use Rattle.std.proofs.lemmas.List.{length-map}
 use Rattle.vx_base.specs.Integers.{bits_in}
 use Rattle.vx_blocks.proofs.Kept.{seen-more, seen-all}
