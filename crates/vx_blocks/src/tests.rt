@@ -89,7 +89,7 @@ fn reads_back(alloc: Global, values: &[u64], width: u32, start: u64) -> Result<b
     Ok(true)
 }
 
-// Numbers without a pattern, all of them below 2 to the width.
+// Numbers without a pattern, all of them below 2 to the width but one.
 fn numbers(alloc: Global, rows: usize, width: u32) -> Result<Vec<u64>, AllocError>
     requires { width ≤ 64 }
     ensures { IfOk result (λ values. vec_len values ≡ rows) }
