@@ -1,3 +1,4 @@
 pub mod AtNode
 pub mod Cells
 pub mod Making
+pub mod Unpacked

@@ -1,19 +1,23 @@
 -- What a constructor has to show of its array, from its tests.
-use Rattle.std.proofs.Common.{◌≡◌, ℕ, List, Bool, true, false, None, Some, length, sym, ◌∙◌}
-use Rattle.std.specs.Prelude.{IsTrue}
+use Rattle.std.proofs.Common.{◌≡◌, ℕ, suc, ℤ, List, [], ◌∷◌, Bool, true, false, None, Some, length, refl, sym, ◌∙◌, arith, Fits, w8}
+use Rattle.std.proofs.lemmas.Bool.Decides.{nat_tests}
+use Rattle.std.specs.Prelude.{IsTrue, IfSome, Option, nat_lt, slice_index_or}
 use Rattle.std.specs.List.{list_any, list_all}
 use Rattle.vx_base.specs.declared.dtype.Nullability.{Nullability}
+use Rattle.vx_base.specs.declared.ptype.PType.TheVariants.{U64}
 use Rattle.vx_base.specs.Integers.{lies_in}
 use Rattle.vx_base.specs.PlainScalar.{PlainScalar, fits}
-use Rattle.vx_base.specs.PlainType.{PlainType, is_leaf, is_nullable}
+use Rattle.vx_base.specs.PlainType.{PlainType, is_leaf, is_nullable, integer_of, nullability_of}
 use Rattle.vx_base.specs.PlainType as types
-use Rattle.vx_base.specs.PlainValue.{is_null}
-use Rattle.vx_model.specs.Tree.{Tree, Validity, primitive, constant, masked}
-use Rattle.vx_model.specs.Refusals.{validity_length, validity_allowed, kept}
+use Rattle.vx_base.specs.PlainValue.{PlainValue, is_null, int, cell}
+use Rattle.vx_model.specs.Tree.{Tree, Validity, PlainPacked, PlainPatches, primitive, constant, masked, packed_of, frame_of_reference}
+use Rattle.vx_model.specs.Refusals.{validity_length, validity_allowed, kept, kept_packed, bit_packed_refusal, for_refusal}
 use Rattle.vx_model.specs.Rows.{rows}
 use Rattle.vx_model.specs.TreeType.{tree_type}
-use Rattle.vx_model.specs.WellFormed.{WellFormed}
+use Rattle.vx_model.specs.WellFormed.{WellFormed, WellFormedPatches}
 use Rattle.vx_model.proofs.MadeLemmas.{primitive_made, constant_made, masked_made}
+use Rattle.vx_model.proofs.PackedLemmas.{packed_accepted, for_accepted, length-frame_of_reference}
+use Rattle.vx_model.proofs.PackedOfLemmas.{type-packed_of, length-packed_of}
 use Rattle.vx_model.proofs.RowLemmas.{length-primitive, length-constant, length-masked}
 use Rattle.vx_array.specs.declared.ints.Ints.{Ints}
 use Rattle.vx_array.specs.IntsOf.{ptype_of, wholes_of}
@@ -33,3 +37,22 @@ pub masked_array : (child : Tree) (valid : List Bool) (own : PlainType) (len : �
 masked_array child valid own len leaf nullable lengths no_null h own_is len_is =
     let w : WellFormed (masked child valid) = masked_made child valid leaf nullable lengths no_null h in
     record { well_formed = w; own_type_is = own_is; len_is = len_is ∙ sym (length-masked child valid w) }
+
+pub packed_array : (k : PlainPacked) (o : Option PlainPatches) (own : PlainType) (len : ℕ) → bit_packed_refusal k o ≡ None → IsTrue (list_all (λ byte. nat_lt byte 256) k.bytes) → IfSome o WellFormedPatches
+    → own ≡ types.primitive k.ptype k.nullability → len ≡ k.len → IsArray (packed_of (kept_packed k) o) (Some own) len
+packed_array k o own len accepted held known own_is len_is =
+    let w : WellFormed (packed_of (kept_packed k) o) = packed_accepted k o accepted held known in
+    record { well_formed = w; own_type_is = own_is ∙ sym (type-packed_of (kept_packed k) o); len_is = len_is ∙ sym (length-packed_of (kept_packed k) o w) }
+
+pub frame_array : (encoded : Tree) (reference : PlainScalar) (own : PlainType) (len : ℕ) → for_refusal encoded reference ≡ None → IsTrue (fits reference.dtype reference.value) → WellFormed encoded
+    → own ≡ types.primitive (integer_of reference.dtype) (nullability_of (tree_type encoded)) → len ≡ length (rows encoded) → IsArray (frame_of_reference encoded reference) (Some own) len
+frame_array encoded reference own len accepted fitting w own_is len_is =
+    record { well_formed = for_accepted encoded reference accepted fitting w; own_type_is = own_is; len_is = len_is ∙ sym (length-frame_of_reference encoded reference) }
+
+pub bytes_fit : (xs : List ℕ) → ((i : ℕ) → Fits w8 (slice_index_or xs i 0)) → list_all (λ byte. nat_lt byte 256) xs ≡ true
+bytes_fit [] a = refl
+bytes_fit (x ∷ xs) a = let b = a 0 in rw (bytes_fit xs (λ k. a (suc k))) (grind (arith, nat_tests, b))
+
+pub words_where : (o : Option ℤ) (v : PlainValue) → cell o ≡ v → ((z : ℤ) → v ≡ int z → lies_in U64 z ≡ true) → IfSome o (λ z. IsTrue (lies_in U64 z))
+words_where None v e f = tt
+words_where (Some z) v e f = f z (sym e)

@@ -5,7 +5,7 @@ ghost use Rattle.vx_model.specs.Rows.{rows};
 
 use crate::ints::Ints;
 use std::marker::Model;
-use vx_base::{ArrayId, DType, Mask, Nullability, Scalar};
+use vx_base::{ArrayId, Bytes, DType, Mask, Nullability, PType, Scalar};
 
 /// The root of a tree with its own fields. Children stand in boxes.
 #[cycle(tree)]
@@ -17,6 +17,22 @@ pub enum Node {
     Constant(Scalar, u64),
     /// Child 0's rows, null where the mask is false.
     Masked(Box<ArrayRef>, Mask),
+    /// Integers of a type, `width` bits each: type, width, bytes, rows, validity, patches and nullability. The children
+    /// are the patches' indices and values, where there are patches.
+    BitPacked(PType, u32, Bytes, u64, Option<Mask>, Option<Box<Patches>>, Nullability),
+    /// Child 0's integers, each summed with the reference in the reference's type.
+    FoR(Box<ArrayRef>, Scalar),
+}
+
+/// Values, and the rows of an array where they stand in place of its own: the value whose index is x stands at row
+/// x less the offset. Contracts see them as plain data.
+#[cycle(tree)]
+#[derive(Drop)]
+pub struct Patches {
+    pub(crate) array_len: u64,
+    pub(crate) offset: u64,
+    pub(crate) indices: ArrayRef,
+    pub(crate) values: ArrayRef,
 }
 
 /// A well-formed tree of encodings. Contracts see it as plain data.
@@ -51,6 +67,27 @@ impl Model for ArrayRef {
     ghost use Rattle.vx_array.specs.TreeFalls.{depth_le-node_count};
 
     ghost size_decreases = { λ a h. depth_le-node_count a.node };
+}
+
+impl Model for Patches {
+    ghost use Rattle.vx_model.specs.Tree.{PlainPatches, patches, patches_count};
+    ghost use Rattle.vx_model.specs.TreeCode.{patches_code};
+
+    ghost Value = { PlainPatches };
+
+    ghost coded = { patches_code };
+
+    ghost use Rattle.vx_model.specs.WellFormed.{WellFormedPatches};
+
+    ghost view = { λ a. patches a.array_len a.offset a.indices a.values };
+
+    ghost invariant = { λ a. WellFormedPatches (patches a.array_len a.offset a.indices a.values) };
+
+    ghost size = { patches_count };
+
+    ghost use Rattle.std.proofs.Common.{arith};
+
+    ghost size_decreases = { λ a h. omega arith };
 }
 
 impl ArrayRef {
@@ -111,6 +148,8 @@ impl ArrayRef {
             Node::Primitive(_, _, _) => ArrayId::Primitive,
             Node::Constant(_, _) => ArrayId::Constant,
             Node::Masked(_, _) => ArrayId::Masked,
+            Node::BitPacked(_, _, _, _, _, _, _) => ArrayId::BitPacked,
+            Node::FoR(_, _) => ArrayId::FoR,
         }
     }
 
@@ -120,7 +159,9 @@ impl ArrayRef {
     {
         match &self.node {
             Node::Primitive(_, _, _) | Node::Constant(_, _) => 0,
-            Node::Masked(_, _) => 1,
+            Node::Masked(_, _) | Node::FoR(_, _) => 1,
+            Node::BitPacked(_, _, _, _, _, Some(_), _) => 2,
+            Node::BitPacked(_, _, _, _, _, None, _) => 0,
         }
     }
 
@@ -130,6 +171,11 @@ impl ArrayRef {
     {
         match &self.node {
             Node::Masked(child, _) if place == 0 => Some(child),
+            Node::FoR(encoded, _) if place == 0 => Some(encoded),
+            Node::BitPacked(_, _, _, _, _, Some(patches), _) if place == 0 => Some(
+                &patches.indices,
+            ),
+            Node::BitPacked(_, _, _, _, _, Some(patches), _) if place == 1 => Some(&patches.values),
             _ => None,
         }
     }

@@ -12,7 +12,9 @@ ghost use Rattle.vx_array.specs.IntsOf.{ptype_of, wholes_of};
 
 use crate::array::{ArrayRef, Node};
 use crate::ints::Ints;
-use crate::node::{copy_validity, decoded_constant, keep, validity_of_constant};
+use crate::node::{
+    copy_validity, decoded_constant, keep, moved, unpacked, validity_of_constant, written,
+};
 use std::alloc::Global;
 use vx_base::{Mask, VortexResult};
 
@@ -42,6 +44,17 @@ impl ArrayRef {
                 let values = child.decoded(alloc)?;
                 values.zeroed(valid)
             }
+            Node::BitPacked(ptype, width, packed, len, valid, patches, _) => {
+                let values = unpacked(alloc, *ptype, *width, packed.as_slice(), *len)?;
+                let values = written(values, patches);
+                values.zeroed_by(valid)
+            }
+            Node::FoR(encoded, reference) => {
+                let differences = encoded.decoded(alloc)?;
+                let values = moved(alloc, reference, &differences)?;
+                let valid = encoded.validity(alloc)?;
+                values.zeroed_by(&valid)
+            }
         }
     }
 
@@ -54,6 +67,8 @@ impl ArrayRef {
             Node::Primitive(_, valid, _) => copy_validity(valid, alloc),
             Node::Constant(value, len) => validity_of_constant(alloc, value, *len),
             Node::Masked(_, valid) => Ok(keep(Some(valid.copy(alloc)?))),
+            Node::BitPacked(_, _, _, _, valid, _, _) => copy_validity(valid, alloc),
+            Node::FoR(encoded, _) => encoded.validity(alloc),
         }
     }
 }

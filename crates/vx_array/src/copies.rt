@@ -4,7 +4,7 @@ ghost use Rattle.std.specs.Prelude.{◌≡◌, option_map};
 ghost use Rattle.vx_base.specs.Answers.{Answers, OrMemory};
 ghost use Rattle.vx_base.specs.TypeOf.{type_of};
 
-use crate::array::{ArrayRef, Node};
+use crate::array::{ArrayRef, Node, Patches};
 use crate::node::copy_validity;
 use std::alloc::Global;
 use vx_base::{DType, VortexResult};
@@ -43,7 +43,36 @@ impl Node {
                 let child = Box::new(alloc, child.copy(alloc)?)?;
                 Ok(Node::Masked(child, valid.copy(alloc)?))
             }
+            Node::BitPacked(ptype, width, packed, len, valid, patches, nullability) => {
+                let packed = packed.copy(alloc)?;
+                let valid = copy_validity(valid, alloc)?;
+                let patches = match patches {
+                    Some(patches) => Some(Box::new(alloc, patches.copy(alloc)?)?),
+                    None => None,
+                };
+                Ok(Node::BitPacked(*ptype, *width, packed, *len, valid, patches, *nullability))
+            }
+            Node::FoR(encoded, reference) => {
+                let encoded = Box::new(alloc, encoded.copy(alloc)?)?;
+                Ok(Node::FoR(encoded, reference.copy(alloc)?))
+            }
         }
+    }
+}
+
+impl Patches {
+    #[cycle(copy)]
+    fn copy(&self, alloc: Global) -> VortexResult<Patches>
+        ensures { Answers result self.now }
+    {
+        let indices = self.indices.copy(alloc)?;
+        let values = self.values.copy(alloc)?;
+        Ok(Patches {
+            array_len: self.array_len,
+            offset: self.offset,
+            indices,
+            values,
+        })
     }
 }
 

@@ -1,9 +1,10 @@
 //! Lists of integers of one type.
 
-ghost use Rattle.std.specs.Prelude.{◌≡◌, ◌<◌, length, slice_index_or, pos, IsTrue, replicate, true, map, option_map};
+ghost use Rattle.std.specs.Prelude.{◌≡◌, ◌<◌, length, slice_index_or, pos, IsTrue, replicate, true, map, option_map, nat_lt, ◌^◌, ◌+ℤ◌, slice_set};
 ghost use Rattle.std.specs.List.{list_all};
 ghost use Rattle.vx_base.specs.Answers.{Answers, OrMemory};
-ghost use Rattle.vx_base.specs.Integers.{lies_in};
+ghost use Rattle.vx_base.specs.Integers.{lies_in, natural_bits, unsigned_of};
+ghost use Rattle.vx_base.specs.Wrapping.{wrap};
 ghost use Rattle.vx_model.specs.Decoded.{zeroed, zeroed_by, zero_beneath};
 ghost use Rattle.vx_model.specs.Refusals.{validity_length};
 ghost use Rattle.vx_base.specs.PlainValue.{int};
@@ -123,6 +124,17 @@ impl Ints {
         map_ints!(self, items => slices::zeroed(items, mask.as_slice()))
     }
 
+    /// The list with 0 where a row isn't valid.
+    pub(crate) fn zeroed_by(self, valid: &Option<Mask>) -> VortexResult<Ints>
+        requires { validity_length valid.now (length (wholes_of self)) ≡ true }
+        ensures { OrMemory result (λ ints. (ptype_of ints ≡ ptype_of self) × (wholes_of ints ≡ zeroed_by valid.now (wholes_of self))) }
+    {
+        match valid {
+            Some(mask) => self.zeroed(mask),
+            None => Ok(self),
+        }
+    }
+
     /// Whether each integer whose bit is false is 0.
     pub(crate) fn is_zero_beneath(&self, mask: &Mask) -> bool
         requires { length mask.now ≡ length (wholes_of self.now) }
@@ -161,6 +173,93 @@ impl Ints {
             PType::I16 => Ok(Ints::I16(slices::filled(alloc, whole, len)?)),
             PType::I32 => Ok(Ints::I32(slices::filled(alloc, whole, len)?)),
             PType::I64 => Ok(Ints::I64(slices::filled(alloc, whole, len)?)),
+        }
+    }
+
+    /// The list with a whole number in a row.
+    pub(crate) fn with_whole(self, row: u64, whole: i128) -> Ints
+        requires held { IsTrue (lies_in (ptype_of self) whole) }
+        requires in_range { row < length (wholes_of self) }
+        ensures ptype { ptype_of result ≡ ptype_of self }
+        ensures wholes { wholes_of result ≡ slice_set (wholes_of self) row whole }
+    {
+        match self {
+            Ints::U8(items) => Ints::U8(slices::with_whole(items, row, whole)),
+            Ints::U16(items) => Ints::U16(slices::with_whole(items, row, whole)),
+            Ints::U32(items) => Ints::U32(slices::with_whole(items, row, whole)),
+            Ints::U64(items) => Ints::U64(slices::with_whole(items, row, whole)),
+            Ints::I8(items) => Ints::I8(slices::with_whole(items, row, whole)),
+            Ints::I16(items) => Ints::I16(slices::with_whole(items, row, whole)),
+            Ints::I32(items) => Ints::I32(slices::with_whole(items, row, whole)),
+            Ints::I64(items) => Ints::I64(slices::with_whole(items, row, whole)),
+        }
+    }
+
+    /// Words as integers of a type.
+    pub(crate) fn from_words(alloc: Global, ptype: PType, words: &[u64]) -> VortexResult<Ints>
+        requires { IsTrue (list_all (λ n. nat_lt n (2 ^ natural_bits ptype)) words.now) }
+        ensures { OrMemory result (λ ints. (ptype_of ints ≡ ptype) × (wholes_of ints ≡ map pos words.now)) }
+    {
+        match ptype {
+            PType::U8 => Ok(Ints::U8(slices::from_words(alloc, words)?)),
+            PType::U16 => Ok(Ints::U16(slices::from_words(alloc, words)?)),
+            PType::U32 => Ok(Ints::U32(slices::from_words(alloc, words)?)),
+            PType::U64 => Ok(Ints::U64(slices::from_words(alloc, words)?)),
+            PType::I8 => Ok(Ints::I8(slices::from_words(alloc, words)?)),
+            PType::I16 => Ok(Ints::I16(slices::from_words(alloc, words)?)),
+            PType::I32 => Ok(Ints::I32(slices::from_words(alloc, words)?)),
+            PType::I64 => Ok(Ints::I64(slices::from_words(alloc, words)?)),
+        }
+    }
+
+    /// The sums of a reference and each integer, in the reference's type, whose width is the integers'.
+    pub(crate) fn moved(&self, alloc: Global, ptype: PType, reference: i128) -> VortexResult<Ints>
+        requires held { IsTrue (lies_in ptype reference) }
+        requires unsigned { ptype_of self.now ≡ unsigned_of ptype }
+        ensures { OrMemory result (λ ints. (ptype_of ints ≡ ptype) × (wholes_of ints ≡ map (λ z. wrap ptype (reference +ℤ z)) (wholes_of self.now))) }
+    {
+        match (ptype, self) {
+            (PType::U8, Ints::U8(d)) => Ok(Ints::U8(slices::moved(
+                alloc,
+                reference,
+                d.as_slice(),
+            )?)),
+            (PType::U16, Ints::U16(d)) => Ok(Ints::U16(slices::moved(
+                alloc,
+                reference,
+                d.as_slice(),
+            )?)),
+            (PType::U32, Ints::U32(d)) => Ok(Ints::U32(slices::moved(
+                alloc,
+                reference,
+                d.as_slice(),
+            )?)),
+            (PType::U64, Ints::U64(d)) => Ok(Ints::U64(slices::moved(
+                alloc,
+                reference,
+                d.as_slice(),
+            )?)),
+            (PType::I8, Ints::U8(d)) => Ok(Ints::I8(slices::moved(
+                alloc,
+                reference,
+                d.as_slice(),
+            )?)),
+            (PType::I16, Ints::U16(d)) => Ok(Ints::I16(slices::moved(
+                alloc,
+                reference,
+                d.as_slice(),
+            )?)),
+            (PType::I32, Ints::U32(d)) => Ok(Ints::I32(slices::moved(
+                alloc,
+                reference,
+                d.as_slice(),
+            )?)),
+            (PType::I64, Ints::U64(d)) => Ok(Ints::I64(slices::moved(
+                alloc,
+                reference,
+                d.as_slice(),
+            )?)),
+            _ => unreachable!(),
         }
     }
 }

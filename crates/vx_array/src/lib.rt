@@ -6,11 +6,12 @@ mod canonical;
 mod copies;
 mod ints;
 mod node;
+mod patches;
 mod reads;
 mod sizes;
 mod slices;
 
-pub use array::{ArrayRef, Node};
+pub use array::{ArrayRef, Node, Patches};
 pub use ints::Ints;
 pub use node::Made;
 

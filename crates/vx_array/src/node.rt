@@ -6,12 +6,16 @@ ghost use Rattle.vx_base.specs.Answers.{Answers};
 ghost use Rattle.vx_model.specs.Refusals.{validity_length, validity_allowed, kept};
 ghost use Rattle.vx_model.specs.Rows.{is_valid_at};
 
+mod bit_packed;
 mod constant;
+mod frame_of_reference;
 mod masked;
 mod primitive;
 
 use crate::array::ArrayRef;
+pub(crate) use bit_packed::{packed_size, unpacked, written};
 pub(crate) use constant::{decoded_constant, validity_of_constant};
+pub(crate) use frame_of_reference::{moved, moved_at};
 pub(crate) use primitive::{is_zero_beneath, primitive_at};
 use std::alloc::Global;
 use vx_base::{Mask, Nullability, Refused, VortexResult};

@@ -8,12 +8,14 @@ ghost use Rattle.vx_model.specs.Rows.{rows, row_at};
 ghost use Rattle.vx_model.specs.TreeType.{tree_type};
 
 use crate::array::{ArrayRef, Node};
-use crate::node::{is_zero_beneath, primitive_at};
+use crate::node::{is_valid, is_zero_beneath, moved_at, primitive_at};
+use vx_blocks::get;
 
 impl ArrayRef {
     ghost use Rattle.vx_model.specs.Plain.{IsPlain};
 
     /// The integer in a row, None at a null.
+    #[cycle(integer_at)]
     #[tactic(auto, using(vx_model::proofs::RowLemmas::reads))]
     pub fn integer_at(&self, row: u64) -> Option<i128>
         requires integer { IsTrue (is_integer (tree_type self.now)) }
@@ -30,6 +32,18 @@ impl ArrayRef {
                     None
                 }
             }
+            Node::BitPacked(_, width, packed, _, valid, patches, _) => {
+                if !is_valid(valid, row) {
+                    return None;
+                }
+                if let Some(patches) = patches {
+                    if let Some(place) = patches.place_of(row) {
+                        return patches.values.integer_at(place);
+                    }
+                }
+                Some(i128::from(get(packed.as_slice(), *width, row)))
+            }
+            Node::FoR(encoded, reference) => moved_at(reference, encoded.integer_at(row)),
         }
     }
 
@@ -42,6 +56,8 @@ impl ArrayRef {
             Node::Primitive(_, valid, _) => valid.is_some(),
             Node::Constant(value, len) => value.is_null() && *len > 0,
             Node::Masked(_, valid) => !valid.all_true(),
+            Node::BitPacked(_, _, _, _, valid, _, _) => valid.is_some(),
+            Node::FoR(encoded, _) => encoded.has_null(),
         }
     }
 

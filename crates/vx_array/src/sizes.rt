@@ -6,6 +6,7 @@ ghost use Rattle.vx_model.specs.Extents.{extents_fit};
 ghost use Rattle.vx_model.specs.Size.{nbytes, bit_bytes, validity_size, payload};
 
 use crate::array::{ArrayRef, Node};
+use crate::node::packed_size;
 use vx_base::{DType, Mask, Scalar};
 
 /// The greatest number of rows that is compressed.
@@ -23,6 +24,17 @@ impl ArrayRef {
             }
             Node::Constant(value, _) => 1 + payload_bytes(value),
             Node::Masked(child, valid) => child.nbytes().saturating_add(bit_bytes(valid.len())),
+            Node::BitPacked(_, width, _, len, valid, patches, _) => {
+                let own = packed_size(*width, *len) + validity_bytes(valid);
+                match patches {
+                    Some(patches) => {
+                        let indices = patches.indices.nbytes();
+                        own.saturating_add(indices.saturating_add(patches.values.nbytes()))
+                    }
+                    None => own,
+                }
+            }
+            Node::FoR(encoded, _) => encoded.nbytes(),
         }
     }
 
@@ -36,6 +48,8 @@ impl ArrayRef {
                 DType::Primitive(_, _) => *len <= ROW_LIMIT,
             },
             Node::Masked(child, _) => child.extents_fit(),
+            Node::BitPacked(_, _, _, len, _, _, _) => *len <= ROW_LIMIT,
+            Node::FoR(encoded, _) => encoded.extents_fit(),
         }
     }
 }

@@ -1,10 +1,11 @@
 //! Work on slices of any integer type.
 
-ghost use Rattle.std.specs.Prelude.{◌≡◌, ◌<◌, length, slice_index_or, slice_set, pos, if◌then◌else◌, ◌||◌, IsTrue, true, false, map, replicate, option_map};
+ghost use Rattle.std.specs.Prelude.{◌≡◌, ◌<◌, length, slice_index_or, slice_set, pos, if◌then◌else◌, ◌||◌, IsTrue, true, false, map, replicate, option_map, nat_lt, ◌^◌, ◌+ℤ◌};
 ghost use Rattle.std.specs.List.{list_all};
 ghost use Rattle.std.specs.Ordering.{int_eq};
 ghost use Rattle.vx_base.specs.Answers.{OrMemory};
-ghost use Rattle.vx_base.specs.Integers.{lies_in};
+ghost use Rattle.vx_base.specs.Integers.{lies_in, natural_bits, unsigned_of};
+ghost use Rattle.vx_base.specs.Wrapping.{wrap};
 ghost use Rattle.vx_model.specs.Decoded.{zeroed, zeroed_by, zero_beneath};
 ghost use Rattle.vx_model.specs.Refusals.{validity_length};
 ghost use Rattle.vx_base.specs.PlainValue.{cell, int};
@@ -172,4 +173,82 @@ pub(crate) fn each_null_or<T: Integer>(items: &[T], valid: &Option<Mask>, whole:
         }
     }
     true
+}
+
+// Words as integers.
+pub(crate) fn from_words<T: Integer>(alloc: Global, words: &[u64]) -> VortexResult<IntList<T>>
+    requires { IsTrue (list_all (λ n. nat_lt n (2 ^ natural_bits T.kind)) words.now) }
+    ensures { OrMemory result (λ list. map T.whole list ≡ map pos words.now) }
+{
+    let mut items = Vec::with_capacity(alloc, words.len())?;
+    for row in 0..words.len() {
+        items.push(T::from_low_bits(words[row]))?;
+    }
+    Ok(IntList::from_vec(items))
+}
+
+// The sum of a reference and a difference, in the reference's type.
+#[inline(always)]
+#[tactic(auto, using(vx_base::proofs::WrapBitsLemmas::wrap_words))]
+pub(crate) fn summed<T: Integer>(reference: T, difference: u64) -> T
+    ensures { T.whole result ≡ wrap T.kind (T.whole reference +ℤ pos difference) }
+{
+    let _whole = reference.to_whole();
+    T::from_low_bits(reference.to_bits().wrapping_add(difference))
+}
+
+// The sum of a reference and a difference of the unsigned type of its width.
+#[inline(always)]
+fn summed_with<T: Integer, D: Integer>(reference: T, difference: D) -> T
+    requires { D.kind ≡ unsigned_of T.kind }
+    ensures { T.whole result ≡ wrap T.kind (T.whole reference +ℤ D.whole difference) }
+{
+    let _whole = difference.to_whole();
+    summed(reference, difference.to_bits())
+}
+
+// The sums of a reference and each difference.
+fn sums<T: Integer, D: Integer>(
+    alloc: Global,
+    reference: T,
+    differences: &[D],
+) -> VortexResult<IntList<T>>
+    requires { D.kind ≡ unsigned_of T.kind }
+    ensures { OrMemory result (λ list. map T.whole list ≡ map (λ z. wrap T.kind (T.whole reference +ℤ z)) (map D.whole differences.now)) }
+{
+    let mut items = Vec::with_capacity(alloc, differences.len())?;
+    for row in 0..differences.len() {
+        items.push(summed_with(reference, differences[row]))?;
+    }
+    Ok(IntList::from_vec(items))
+}
+
+// The same of a reference as a whole number.
+pub(crate) fn moved<T: Integer, D: Integer>(
+    alloc: Global,
+    reference: i128,
+    differences: &[D],
+) -> VortexResult<IntList<T>>
+    requires held { IsTrue (lies_in T.kind reference) }
+    requires unsigned { D.kind ≡ unsigned_of T.kind }
+    ensures { OrMemory result (λ list. map T.whole list ≡ map (λ z. wrap T.kind (reference +ℤ z)) (map D.whole differences.now)) }
+{
+    let Some(reference) = T::from_whole(reference) else {
+        unreachable!();
+    };
+    sums(alloc, reference, differences)
+}
+
+// The list with a whole number in a row.
+pub(crate) fn with_whole<T: Integer>(items: IntList<T>, row: u64, whole: i128) -> IntList<T>
+    requires held { IsTrue (lies_in T.kind whole) }
+    requires in_range { row < length items }
+    ensures { map T.whole result ≡ slice_set (map T.whole items) row whole }
+{
+    let Some(item) = T::from_whole(whole) else {
+        unreachable!();
+    };
+    let mut items = items.into_vec();
+    items[row as usize] = item;
+    IntList::from_vec(items)
 }

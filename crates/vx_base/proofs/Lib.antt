@@ -1,3 +1,6 @@
 pub mod IdSetLemmas
 pub mod MakesLemmas
 pub mod PackedLemmas
+pub mod WrapLemmas
+pub mod WrapSumLemmas
+pub mod WrapBitsLemmas

@@ -62,7 +62,7 @@ abbrev pub lies_in : PType → ℤ → Bool
 lies_in p (pos n) = nat_lt n (2 ^ natural_bits p)
 lies_in p (negsuc n) = is_signed p && nat_lt n (2 ^ natural_bits p)
 
-abbrev least_where : Bool → ℕ → ℤ
+abbrev pub least_where : Bool → ℕ → ℤ
 least_where true n = negsuc (2 ^ n - 1)
 least_where false n = pos 0
 

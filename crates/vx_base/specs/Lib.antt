@@ -18,4 +18,5 @@ pub mod PlainValue
 pub mod Storable
 pub mod TypeOf
 pub mod TypeText
+pub mod Wrapping
 pub mod Writes

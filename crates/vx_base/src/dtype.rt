@@ -72,7 +72,7 @@ fn ptype_number(ptype: PType) -> u8
 impl DType {
     ghost use Rattle.vx_base.specs.declared.dtype.Nullability.TheVariants.{NonNullable};
     ghost use Rattle.vx_base.specs.TypeOf.{type_of};
-    ghost use Rattle.vx_base.specs.PlainType.{primitive, is_nullable, is_leaf, is_integer, nullability_of, with_nullability};
+    ghost use Rattle.vx_base.specs.PlainType.{primitive, is_nullable, is_leaf, is_integer, integer_of, nullability_of, with_nullability};
 
     /// Integers of a type. Contracts of other crates see it through this call.
     pub fn primitive(ptype: PType, nullability: Nullability) -> DType
@@ -87,6 +87,15 @@ impl DType {
     {
         match self {
             DType::Primitive(_, nullability) => nullability.allows_null(),
+        }
+    }
+
+    /// The type of its integers.
+    pub fn ptype(&self) -> PType
+        ensures { result ≡ integer_of (type_of self.now) }
+    {
+        match self {
+            DType::Primitive(ptype, _) => *ptype,
         }
     }
 

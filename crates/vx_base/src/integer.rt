@@ -1,9 +1,10 @@
 //! The eight integer types behind one trait.
 
-ghost use Rattle.std.specs.Prelude.{◌≡◌, ◌<◌, ◌^◌, ◌↔◌, ℤ, pos, IsTrue, refl, MatchOption, false, true};
+ghost use Rattle.std.specs.Prelude.{◌≡◌, ◌<◌, ◌%◌, ◌^◌, ◌↔◌, ℤ, pos, IsTrue, refl, MatchOption, false, true};
 ghost use Rattle.vx_base.specs.declared.ptype.PType.{PType};
 ghost use Rattle.vx_base.specs.declared.ptype.PType.TheVariants.{U8, U16, U32, U64, I8, I16, I32, I64};
 ghost use Rattle.vx_base.specs.Integers.{lies_in, bits_of, bits_in};
+ghost use Rattle.vx_base.specs.Wrapping.{from_bits};
 ghost use Rattle.std.proofs.Common.{rules};
 ghost use Rattle.std.specs.Ordering.{int_cmp};
 ghost use Rattle.vx_base.specs.Ordered.{cmp_pos};
@@ -35,6 +36,10 @@ pub trait Integer: Copy + Drop + Ord + Hash {
     fn to_bits(self) -> u64
         ensures value { result ≡ bits_in kind (whole self) }
         ensures small { result < 2 ^ bits_of kind };
+
+    /// The value whose bits, in two's complement, are the low ones of a number.
+    fn from_low_bits(bits: u64) -> Self
+        ensures { whole result ≡ from_bits kind (bits % 2 ^ bits_of kind) };
 
     fn zero() -> Self
         ensures { whole result ≡ pos 0 };
@@ -68,6 +73,11 @@ impl Integer for u8 {
     #[inline(always)]
     fn to_bits(self) -> u64 {
         self as u64
+    }
+
+    #[inline(always)]
+    fn from_low_bits(bits: u64) -> Self {
+        (bits % 256) as u8
     }
 
     #[inline(always)]
@@ -107,6 +117,11 @@ impl Integer for u16 {
     }
 
     #[inline(always)]
+    fn from_low_bits(bits: u64) -> Self {
+        (bits % 65536) as u16
+    }
+
+    #[inline(always)]
     fn zero() -> Self {
         0
     }
@@ -140,6 +155,11 @@ impl Integer for u32 {
     #[inline(always)]
     fn to_bits(self) -> u64 {
         self as u64
+    }
+
+    #[inline(always)]
+    fn from_low_bits(bits: u64) -> Self {
+        (bits % 4294967296) as u32
     }
 
     #[inline(always)]
@@ -179,6 +199,11 @@ impl Integer for u64 {
     }
 
     #[inline(always)]
+    fn from_low_bits(bits: u64) -> Self {
+        bits
+    }
+
+    #[inline(always)]
     fn zero() -> Self {
         0
     }
@@ -212,6 +237,11 @@ impl Integer for i8 {
     #[inline(always)]
     fn to_bits(self) -> u64 {
         self.cast_unsigned() as u64
+    }
+
+    #[inline(always)]
+    fn from_low_bits(bits: u64) -> Self {
+        ((bits % 256) as u8).cast_signed()
     }
 
     #[inline(always)]
@@ -251,6 +281,11 @@ impl Integer for i16 {
     }
 
     #[inline(always)]
+    fn from_low_bits(bits: u64) -> Self {
+        ((bits % 65536) as u16).cast_signed()
+    }
+
+    #[inline(always)]
     fn zero() -> Self {
         0
     }
@@ -287,6 +322,11 @@ impl Integer for i32 {
     }
 
     #[inline(always)]
+    fn from_low_bits(bits: u64) -> Self {
+        ((bits % 4294967296) as u32).cast_signed()
+    }
+
+    #[inline(always)]
     fn zero() -> Self {
         0
     }
@@ -320,6 +360,11 @@ impl Integer for i64 {
     #[inline(always)]
     fn to_bits(self) -> u64 {
         self.cast_unsigned()
+    }
+
+    #[inline(always)]
+    fn from_low_bits(bits: u64) -> Self {
+        bits.cast_signed()
     }
 
     #[inline(always)]

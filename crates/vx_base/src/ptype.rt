@@ -1,7 +1,7 @@
 //! The types of integers.
 
 ghost use Rattle.std.specs.Prelude.{◌≡◌, ◌≤◌};
-ghost use Rattle.vx_base.specs.Integers.{bits_of, bytes_of, is_signed, unsigned_of, least, greatest};
+ghost use Rattle.vx_base.specs.Integers.{bits_of, bytes_of, natural_bits, is_signed, unsigned_of, least, greatest};
 ghost use Rattle.vx_base.specs.TypeText.{ptype_text};
 ghost use Rattle.std.specs.Prelude.{not};
 
@@ -42,6 +42,23 @@ impl PType {
             PType::U16 | PType::I16 => 2,
             PType::U32 | PType::I32 => 4,
             PType::U64 | PType::I64 => 8,
+        }
+    }
+
+    /// How many binary digits the numbers from 0 on have at most: one less than bits in a signed type.
+    pub fn natural_bits(self) -> u32
+        ensures width { result ≡ natural_bits self }
+        ensures most { result ≤ 64 }
+    {
+        match self {
+            PType::U8 => 8,
+            PType::U16 => 16,
+            PType::U32 => 32,
+            PType::U64 => 64,
+            PType::I8 => 7,
+            PType::I16 => 15,
+            PType::I32 => 31,
+            PType::I64 => 63,
         }
     }
 

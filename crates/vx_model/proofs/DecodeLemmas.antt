@@ -114,7 +114,8 @@ kept-validity vs = by_any (list_any is_null vs) refl
     by_any true e = rw (all_valid_bits vs, e) refl
     by_any false e = refl
 
-null_allowed : (p : PType) (vs : List PlainValue) → list_all (fits (types.primitive p NonNullable)) vs ≡ true → list_any is_null vs ≡ false
+-- a type that isn't nullable has no null
+pub null_allowed : (p : PType) (vs : List PlainValue) → list_all (fits (types.primitive p NonNullable)) vs ≡ true → list_any is_null vs ≡ false
 null_allowed p [] h = refl
 null_allowed p (null ∷ vs) h = absurd cc
 null_allowed p (int z ∷ vs) h = null_allowed p vs (second (fits (types.primitive p NonNullable) (int z)) h)

@@ -1,15 +1,16 @@
 -- The tree of a leaf column: it keeps rows and type, and is never larger than the plain one.
-use Rattle.std.proofs.Common.{◌≡◌, ◌≢◌, ◌<◌, ◌≤◌, ◌*◌, ℕ, Bool, true, false, List, [], ◌∷◌, map, length, Option, Some, None, cond, refl, ap, ◌∙◌, subst, arith}
+use Rattle.std.proofs.Common.{◌≡◌, ◌≢◌, ◌<◌, ◌≤◌, ◌+◌, ◌*◌, ℕ, Bool, true, false, List, [], ◌∷◌, map, length, Option, Some, None, cond, refl, ap, ◌∙◌, subst, arith}
 use Rattle.std.specs.Prelude.{IfSome, ◌==◌, nat_lt, replicate, if◌then◌else◌, option_and_then}
 use Rattle.std.specs.List.{list_all}
 use Rattle.std.proofs.lemmas.Bool.{cond_both, cond-true, cond-false, eqb-false, eq-eqb, ne_eqb, ltb-true}
 use Rattle.std.proofs.lemmas.List.{length-map, length-replicate}
+use Rattle.std.proofs.lemmas.List.FromFn.{length-map-range_with_len}
 use Rattle.vx_base.specs.PlainType.{PlainType, primitive}
 use Rattle.vx_base.specs.PlainScalar.{scalar}
 use Rattle.vx_base.specs.PlainValue.{PlainValue, null, int, is_null}
-use Rattle.vx_model.specs.Tree.{Tree, Validity, constant, masked}
+use Rattle.vx_model.specs.Tree.{Tree, Validity, constant, masked, bit_packed, bit_packed_with, frame_of_reference}
 use Rattle.vx_model.specs.Tree as trees
-use Rattle.vx_model.specs.Rows.{rows, masked_rows, valid_rows}
+use Rattle.vx_model.specs.Rows.{rows, masked_rows, valid_rows, below, patched, packed_at, moved}
 use Rattle.vx_model.specs.TreeType.{tree_type}
 use Rattle.vx_model.specs.Size.{size}
 use Rattle.vx_model.specs.Column.{Column, column, column_of}
@@ -134,10 +135,14 @@ length-valid_rows-le : (valid : Validity) (rs : List PlainValue) → length (val
 length-valid_rows-le None rs = omega arith
 length-valid_rows-le (Some bits) rs = length-masked_rows-le bits rs
 
--- fewer rows of a leaf column have no more counts
-counts-fewer : (t : PlainType) (vs ws : List PlainValue) (es : List ℕ) → length vs ≤ length ws → AreWithin (counts t ws) es → AreWithin (counts t vs) es
-counts-fewer (primitive p n) vs ws [] fewer h = h
-counts-fewer (primitive p n) vs ws (e ∷ es) fewer h = (let here = h.0 in omega arith, h.1)
+-- fewer rows of a leaf column have no more counts, whatever its type
+counts-fewer : (t u : PlainType) (vs ws : List PlainValue) (es : List ℕ) → length vs ≤ length ws → AreWithin (counts u ws) es → AreWithin (counts t vs) es
+counts-fewer (primitive p n) (primitive q m) vs ws [] fewer h = h
+counts-fewer (primitive p n) (primitive q m) vs ws (e ∷ es) fewer h = (let here = h.0 in omega arith, h.1)
+
+-- rows by their number, some of them null
+counts-below : (valid : Validity) (f : ℕ → PlainValue) (len : ℕ) → length (valid_rows valid (below f len)) ≤ len
+counts-below valid f len = let fewer = length-valid_rows-le valid (below f len) in omega (arith, length-map-range_with_len f 0 len)
 
 pub counts_within_extents : CountsWithinExtents
 counts_within_extents (trees.primitive p xs valid n) w = (let fewer = length-valid_rows-le valid (map int xs) in omega (arith, length-map xs int), tt)
@@ -146,4 +151,9 @@ counts_within_extents (constant s len) w = of_type s.dtype
     of_type : (t : PlainType) → AreWithin (counts t (replicate len s.value)) (map (λ count. len * count) (counts t (s.value ∷ [])))
     of_type (primitive p n) = (let same = length-replicate len s.value in omega arith, tt)
 counts_within_extents (masked child valid) w =
-    counts-fewer (tree_type child) (masked_rows valid (rows child)) (rows child) (extents child) (length-masked_rows-le valid (rows child)) (counts_within_extents child w.0)
+    counts-fewer (tree_type child) (tree_type child) (masked_rows valid (rows child)) (rows child) (extents child) (length-masked_rows-le valid (rows child)) (counts_within_extents child w.0)
+counts_within_extents (bit_packed k) w = (counts-below k.valid (packed_at k) k.len, tt)
+counts_within_extents (bit_packed_with k len offset indices values) w = (counts-below k.valid (λ i. patched (rows indices) (rows values) (packed_at k i) (offset + i)) k.len, tt)
+counts_within_extents (frame_of_reference encoded reference) w =
+    counts-fewer (tree_type (frame_of_reference encoded reference)) (tree_type encoded) (map (moved reference) (rows encoded)) (rows encoded) (extents encoded)
+    (let same = length-map (rows encoded) (moved reference) in omega arith) (counts_within_extents encoded w.0)

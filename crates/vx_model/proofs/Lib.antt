@@ -1,8 +1,14 @@
 pub mod DecodeLemmas
+pub mod FrameLemmas
 pub mod LeafLemmas
 pub mod MadeLemmas
 pub mod NullLemmas
 pub mod OneValueLemmas
+pub mod PackedDecodeLemmas
+pub mod PackedLemmas
+pub mod PackedOfLemmas
+pub mod PatchLemmas
+pub mod PatchWriteLemmas
 pub mod PlainLemmas
 pub mod RowLemmas
 pub mod SizeLemmas

@@ -11,7 +11,7 @@ use Rattle.vx_base.specs.PlainScalar.{PlainScalar, fits}
 use Rattle.vx_base.specs.PlainType.{PlainType, is_leaf, is_nullable}
 use Rattle.vx_base.specs.PlainType as types
 use Rattle.vx_base.specs.PlainValue.{PlainValue, null, int, is_null}
-use Rattle.vx_model.specs.Tree.{Tree, Validity, primitive, constant, masked}
+use Rattle.vx_model.specs.Tree.{Tree, Validity, primitive, constant, masked, bit_packed, bit_packed_with, frame_of_reference}
 use Rattle.vx_model.specs.Refusals.{validity_length, validity_allowed, kept}
 use Rattle.vx_model.specs.Rows.{rows, masked_rows, valid_rows}
 use Rattle.vx_model.specs.TreeType.{tree_type}
@@ -22,7 +22,7 @@ all_or_allowed true bits len n e l a = tt
 all_or_allowed false bits len NonNullable e l a = absurd cc
 all_or_allowed false bits len Nullable e l a = (grind (arith, nat_tests), refl, e)
 
-kept_validity : (valid : Validity) (len : ℕ) (n : Nullability) → validity_length valid len ≡ true → validity_allowed valid n ≡ true → IsValidityOf (kept valid) len n
+pub kept_validity : (valid : Validity) (len : ℕ) (n : Nullability) → validity_length valid len ≡ true → validity_allowed valid n ≡ true → IsValidityOf (kept valid) len n
 kept_validity None len n l a = tt
 kept_validity (Some bits) len n l a = all_or_allowed (list_all (λ b. b) bits) bits len n refl l a
 
@@ -45,7 +45,7 @@ masked_fit t (b ∷ bits) (r ∷ rs) n h = both b (fits t r) refl h (masked_fit 
     both false true e h rest = rw n (rest h)
     both b false e h rest = absurd cc
 
-valid_fit : (valid : Validity) (p : PType) (n : Nullability) (len : ℕ) (rs : List PlainValue) → IsValidityOf valid len n → list_all (fits (types.primitive p n)) rs ≡ true → list_all (fits (types.primitive p n)) (valid_rows valid rs) ≡ true
+pub valid_fit : (valid : Validity) (p : PType) (n : Nullability) (len : ℕ) (rs : List PlainValue) → IsValidityOf valid len n → list_all (fits (types.primitive p n)) rs ≡ true → list_all (fits (types.primitive p n)) (valid_rows valid rs) ≡ true
 valid_fit None p n len rs v h = h
 valid_fit (Some bits) p n len rs v h = masked_fit (types.primitive p n) bits rs (ap types.allows_null v.1) h
 
@@ -65,12 +65,15 @@ pub rows_fit : (t : Tree) → WellFormed t → RowsFit t
 rows_fit (primitive p xs valid n) h = h.1
 rows_fit (constant s len) h = h.1
 rows_fit (masked child valid) h = h.2
+rows_fit (bit_packed k) h = h.1
+rows_fit (bit_packed_with k len offset indices values) h = h.5
+rows_fit (frame_of_reference encoded reference) h = h.2
 
 pub masked_made : (child : Tree) (valid : List Bool) → is_leaf (tree_type child) ≡ true → is_nullable (tree_type child) ≡ true → length valid ≡ length (rows child) → list_any is_null (rows child) ≡ false → WellFormed child → WellFormed (masked child valid)
 masked_made child valid leaf nullable lengths no_null h =
     (h, record { leaf = leaf; nullable = nullable; lengths = lengths; no_null = no_null }, masked_fit (tree_type child) valid (rows child) nullable (rows_fit child h))
 
-has_length : (valid : Validity) (len : ℕ) (n : Nullability) → IsValidityOf valid len n → validity_length valid len ≡ true
+pub has_length : (valid : Validity) (len : ℕ) (n : Nullability) → IsValidityOf valid len n → validity_length valid len ≡ true
 has_length None len n h = refl
 has_length (Some bits) len n h = let e = h.0 in grind (arith, nat_tests)
 

@@ -11,10 +11,11 @@ use Rattle.vx_base.specs.PlainScalar.{PlainScalar}
 use Rattle.vx_base.specs.PlainType.{PlainType}
 use Rattle.vx_base.specs.PlainType as types
 use Rattle.vx_base.specs.PlainValue.{PlainValue, int, is_null}
-use Rattle.vx_model.specs.Tree.{Tree, Validity, primitive, constant, masked}
+use Rattle.vx_model.specs.Tree.{Tree, Validity, PlainPacked, primitive, constant, masked, bit_packed, bit_packed_with, frame_of_reference}
 use Rattle.vx_model.specs.Decoded.{zeroed, zeroed_by, zero_beneath, zero_beneath_by}
 use Rattle.vx_model.specs.Plain.{IsPlain, plain_of}
 use Rattle.vx_model.specs.Rows.{rows}
+use Rattle.vx_model.specs.TreeType.{tree_type}
 use Rattle.vx_model.specs.WellFormed.{WellFormed}
 use Rattle.vx_model.proofs.DecodeLemmas.{any_masked, no_null-map-int, wholes-valid_rows, validity-valid_rows}
 
@@ -88,10 +89,30 @@ not_constant s len (types.primitive p n) vs e = cc
 not_masked : (child : Tree) (valid : List Bool) (t : PlainType) (vs : List PlainValue) → masked child valid ≡ plain_of t vs → ⊥
 not_masked child valid (types.primitive p n) vs e = cc
 
+not_bit_packed : (k : PlainPacked) (t : PlainType) (vs : List PlainValue) → bit_packed k ≡ plain_of t vs → ⊥
+not_bit_packed k (types.primitive p n) vs e = cc
+
+not_bit_packed_with : (k : PlainPacked) (len offset : ℕ) (indices values : Tree) (t : PlainType) (vs : List PlainValue) → bit_packed_with k len offset indices values ≡ plain_of t vs → ⊥
+not_bit_packed_with k len offset indices values (types.primitive p n) vs e = cc
+
+not_frame_of_reference : (encoded : Tree) (reference : PlainScalar) (t : PlainType) (vs : List PlainValue) → frame_of_reference encoded reference ≡ plain_of t vs → ⊥
+not_frame_of_reference encoded reference (types.primitive p n) vs e = cc
+
 pub plain-constant : (s : PlainScalar) (len : ℕ) → IsPlain (constant s len) → ⊥
 plain-constant s len = not_constant s len s.dtype (replicate len s.value)
 
 pub plain-masked : (child : Tree) (valid : List Bool) → IsPlain (masked child valid) → ⊥
 plain-masked child valid = not_masked child valid _ _
 
-pub ruleset plains = (plain-constant, plain-masked)
+pub plain-bit_packed : (k : PlainPacked) → IsPlain (bit_packed k) → ⊥
+plain-bit_packed k = not_bit_packed k (tree_type (bit_packed k)) (rows (bit_packed k))
+
+pub plain-bit_packed_with : (k : PlainPacked) (len offset : ℕ) (indices values : Tree) → IsPlain (bit_packed_with k len offset indices values) → ⊥
+plain-bit_packed_with k len offset indices values =
+    let t = bit_packed_with k len offset indices values in not_bit_packed_with k len offset indices values (tree_type t) (rows t)
+
+pub plain-frame_of_reference : (encoded : Tree) (reference : PlainScalar) → IsPlain (frame_of_reference encoded reference) → ⊥
+plain-frame_of_reference encoded reference =
+    let t = frame_of_reference encoded reference in not_frame_of_reference encoded reference (tree_type t) (rows t)
+
+pub ruleset plains = (plain-constant, plain-masked, plain-bit_packed, plain-bit_packed_with, plain-frame_of_reference)

@@ -1,17 +1,22 @@
 -- Worked values, counted by hand, so that a wrong rule in the definitions does not check.
-use Rattle.std.specs.Prelude.{◌≡◌, true, false, List, [], ◌∷◌, map, Some, None, pos, negsuc, replicate, refl}
-use Rattle.vx_base.specs.declared.ptype.PType.TheVariants.{U8, U16, U64, I8, I32, I64}
+use Rattle.std.specs.Prelude.{◌≡◌, ℕ, true, false, List, [], ◌∷◌, map, Some, None, pos, negsuc, replicate, refl}
+use Rattle.vx_base.specs.declared.ptype.PType.TheVariants.{U8, U16, U32, U64, I8, I32, I64}
 use Rattle.vx_base.specs.declared.dtype.Nullability.TheVariants.{NonNullable, Nullable}
+use Rattle.vx_base.specs.declared.error.VortexError.TheVariants.{MismatchedTypes, LengthMismatch, OutOfBounds, IndicesNotAscending}
 use Rattle.vx_base.specs.Integers.{lies_in, least, greatest}
+use Rattle.vx_base.specs.Packed.{packed_row}
 use Rattle.vx_base.specs.PlainType as types
 use Rattle.vx_base.specs.PlainScalar.{scalar}
 use Rattle.vx_base.specs.PlainValue.{PlainValue, null, int}
-use Rattle.vx_model.specs.Tree.{Tree, primitive, constant, masked}
+use Rattle.vx_base.specs.Wrapping.{wrap}
+use Rattle.vx_model.specs.Tree.{Tree, Validity, PlainPacked, PlainPatches, patches, packed_of, primitive, constant, masked, bit_packed, frame_of_reference}
 use Rattle.vx_model.specs.Column.{Column, column}
 use Rattle.vx_model.specs.Rows.{rows}
+use Rattle.vx_model.specs.TreeType.{tree_type}
 use Rattle.vx_model.specs.Size.{size, bit_bytes}
 use Rattle.vx_model.specs.Extents.{extents, extents_fit}
 use Rattle.vx_model.specs.Plain.{plain}
+use Rattle.vx_model.specs.Refusals.{patches_refusal, bit_packed_refusal, for_refusal}
 use Rattle.vx_model.specs.Site.{Site, fresh}
 use Rattle.vx_model.specs.Leaf.{no_scheme, leaf}
 use Rattle.vx_model.specs.Cascade.{cascade}
@@ -111,3 +116,65 @@ whole_bytes = refl
 pub extents-constant : (map (λ len. extents (constant (scalar (types.primitive I32 Nullable) null) len)) (0 ∷ 5 ∷ []) ≡ (0 ∷ []) ∷ (5 ∷ []) ∷ [])
     × (map (λ len. extents_fit (constant (scalar (types.primitive I32 Nullable) null) len)) (2_147_483_648 ∷ 2_147_483_649 ∷ []) ≡ true ∷ false ∷ [])
 extents-constant = (refl, refl)
+
+-- ---- packed integers, patches and references
+
+-- 300, -1 and -257 as u8; 200, -129 and -128 as i8
+pub wrapped : (map (wrap U8) (pos 300 ∷ negsuc 0 ∷ negsuc 256 ∷ []) ≡ pos 44 ∷ pos 255 ∷ pos 255 ∷ [])
+    × (map (wrap I8) (pos 200 ∷ negsuc 128 ∷ negsuc 127 ∷ []) ≡ negsuc 55 ∷ pos 127 ∷ negsuc 127 ∷ [])
+wrapped = (refl, refl)
+
+-- 1, 2, 3 and 0 at two bits each are the byte 57; at three bits 1, 2 and 7 go over into the next byte
+pub packed_rows : (map (packed_row (57 ∷ []) 2) (0 ∷ 1 ∷ 2 ∷ 3 ∷ []) ≡ 1 ∷ 2 ∷ 3 ∷ 0 ∷ []) × (map (packed_row (209 ∷ 1 ∷ []) 3) (0 ∷ 1 ∷ 2 ∷ []) ≡ 1 ∷ 2 ∷ 7 ∷ [])
+packed_rows = (refl, refl)
+
+-- u8 at no bits
+abbrev zeros : ℕ → Validity → PlainPacked
+zeros len valid = record { ptype = U8; width = 0; bytes = []; len = len; valid = valid; nullability = Nullable }
+
+abbrev indices_of : List PlainValue → Tree
+indices_of vs = plain (column (types.primitive U16 NonNullable) vs)
+
+-- 7 and 9 at rows 1 and 3 of four
+abbrev two_patches : PlainPatches
+two_patches = patches 4 10 (indices_of (int (pos 11) ∷ int (pos 13) ∷ [])) (primitive U8 (pos 7 ∷ pos 9 ∷ []) None NonNullable)
+
+-- no bit a row, a byte of validity, and two u16 and two u8 of patches
+pub rows-zeros : (rows (bit_packed (zeros 3 None)) ≡ replicate 3 (int (pos 0))) × (size (bit_packed (zeros 3 None)) ≡ 0)
+    × (rows (packed_of (zeros 4 (Some (true ∷ true ∷ false ∷ true ∷ []))) (Some two_patches)) ≡ int (pos 0) ∷ seven ∷ null ∷ int (pos 9) ∷ [])
+    × (size (packed_of (zeros 4 (Some (true ∷ true ∷ false ∷ true ∷ []))) (Some two_patches)) ≡ 7)
+rows-zeros = (refl, refl, refl, refl)
+
+-- a block of 1,024 rows for each beginning one, 128 bytes a bit
+pub size-packed : map (λ len. size (bit_packed (record { ptype = U32; width = 3; bytes = []; len = len; valid = None; nullability = NonNullable }))) (0 ∷ 1 ∷ 1_024 ∷ 1_025 ∷ []) ≡ 0 ∷ 384 ∷ 384 ∷ 768 ∷ []
+size-packed = refl
+
+-- an i32 less 1000, which is nullable as the differences are
+abbrev from_thousand : Tree
+from_thousand = frame_of_reference (primitive U32 (pos 0 ∷ pos 5 ∷ pos 0 ∷ pos 4_294_967_295 ∷ []) (Some (true ∷ true ∷ false ∷ true ∷ [])) Nullable) (scalar (types.primitive I32 NonNullable) (int (pos 1_000)))
+
+pub rows-from_thousand : (rows from_thousand ≡ int (pos 1_000) ∷ int (pos 1_005) ∷ null ∷ int (pos 999) ∷ []) × (tree_type from_thousand ≡ types.primitive I32 Nullable) × (size from_thousand ≡ 17) × (extents from_thousand ≡ 4 ∷ [])
+rows-from_thousand = (refl, refl, refl, refl)
+
+-- indices that fall, or lie before the offset
+pub refused_patches :
+    (patches_refusal (patches 8 0 (indices_of (int (pos 3) ∷ int (pos 1) ∷ [])) (indices_of (seven ∷ seven ∷ []))) ≡ Some IndicesNotAscending)
+    × (patches_refusal (patches 8 2 (indices_of (int (pos 1) ∷ [])) (indices_of (seven ∷ []))) ≡ Some IndicesNotAscending)
+    × (patches_refusal (patches 8 0 (indices_of (int (pos 7) ∷ [])) (indices_of (seven ∷ []))) ≡ None)
+    × (patches_refusal (patches 8 0 (indices_of (int (pos 8) ∷ [])) (indices_of (seven ∷ []))) ≡ Some IndicesNotAscending)
+    × (patches_refusal (patches 8 0 (indices_of (int (pos 1) ∷ [])) (indices_of [])) ≡ Some LengthMismatch)
+refused_patches = (refl, refl, refl, refl, refl)
+
+-- patches of four rows for three, and of u16 for u8; eight bits of an i8, which has seven for natural numbers
+pub refused_packed :
+    (bit_packed_refusal (zeros 3 None) (Some two_patches) ≡ Some LengthMismatch)
+    × (bit_packed_refusal (zeros 4 None) (Some (record two_patches { values = indices_of (seven ∷ seven ∷ []) })) ≡ Some MismatchedTypes)
+    × (bit_packed_refusal (zeros 4 None) (Some two_patches) ≡ None)
+    × (map (λ width. bit_packed_refusal (record { ptype = I8; width = width; bytes = []; len = 0; valid = None; nullability = NonNullable }) None) (7 ∷ 8 ∷ []) ≡ None ∷ Some OutOfBounds ∷ [])
+refused_packed = (refl, refl, refl, refl)
+
+-- an i32 wants differences of u32, and a reference that isn't null
+pub refused_references :
+    (map (λ p. for_refusal (primitive p [] None Nullable) (scalar (types.primitive I32 NonNullable) seven)) (U32 ∷ I32 ∷ U16 ∷ []) ≡ None ∷ Some MismatchedTypes ∷ Some MismatchedTypes ∷ [])
+    × (for_refusal (primitive U32 [] None Nullable) (scalar (types.primitive I32 Nullable) null) ≡ Some MismatchedTypes)
+refused_references = (refl, refl)

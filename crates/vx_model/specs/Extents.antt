@@ -3,7 +3,7 @@ use Rattle.std.specs.Prelude.{ℕ, ◌*◌, ◌^◌, Bool, List, [], ◌∷◌, 
 use Rattle.std.specs.List.{list_all}
 use Rattle.vx_base.specs.PlainType.{PlainType, primitive}
 use Rattle.vx_base.specs.PlainValue.{PlainValue}
-use Rattle.vx_model.specs.Tree.{Tree, constant, masked}
+use Rattle.vx_model.specs.Tree.{Tree, constant, masked, bit_packed, bit_packed_with, frame_of_reference}
 use Rattle.vx_model.specs.Tree as trees
 
 -- the rows of the column, then of each nested column in the order of the type
@@ -15,6 +15,9 @@ abbrev pub extents : Tree → List ℕ
 extents (trees.primitive p xs valid n) = length xs ∷ []
 extents (constant s len) = map (λ count. len * count) (counts s.dtype (s.value ∷ []))
 extents (masked child valid) = extents child
+extents (bit_packed k) = k.len ∷ []
+extents (bit_packed_with k len offset indices values) = k.len ∷ []
+extents (frame_of_reference encoded reference) = extents encoded
 
 -- the greatest number of rows that is compressed
 abbrev pub row_limit : ℕ

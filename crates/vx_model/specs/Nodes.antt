@@ -2,14 +2,20 @@
 use Rattle.std.specs.Prelude.{List, [], ◌∷◌}
 use Rattle.vx_base.specs.declared.array_id.ArrayId.{ArrayId}
 use Rattle.vx_base.specs.declared.array_id.ArrayId.TheVariants as ids
-use Rattle.vx_model.specs.Tree.{Tree, primitive, constant, masked}
+use Rattle.vx_model.specs.Tree.{Tree, primitive, constant, masked, bit_packed, bit_packed_with, frame_of_reference}
 
 abbrev pub encoding : Tree → ArrayId
 encoding (primitive p xs valid n) = ids.Primitive
 encoding (constant s len) = ids.Constant
 encoding (masked child valid) = ids.Masked
+encoding (bit_packed k) = ids.BitPacked
+encoding (bit_packed_with k len offset indices values) = ids.BitPacked
+encoding (frame_of_reference encoded reference) = ids.FoR
 
 abbrev pub children : Tree → List Tree
 children (primitive p xs valid n) = []
 children (constant s len) = []
 children (masked child valid) = child ∷ []
+children (bit_packed k) = []
+children (bit_packed_with k len offset indices values) = indices ∷ values ∷ []
+children (frame_of_reference encoded reference) = encoded ∷ []

@@ -1,16 +1,24 @@
 -- When the constructors refuse, in the order of their checks, and what they keep.
-use Rattle.std.specs.Prelude.{ℕ, Bool, true, not, ◌&&◌, ◌||◌, ◌==◌, if◌then◌else◌, List, length, Option, Some, None}
+use Rattle.std.specs.Prelude.{ℕ, ◌+◌, Bool, true, not, ◌&&◌, ◌||◌, ◌==◌, nat_le, if◌then◌else◌, List, length, Option, Some, None}
 use Rattle.std.specs.List.{list_all, list_any}
 use Rattle.vx_base.specs.declared.error.VortexError.{VortexError}
-use Rattle.vx_base.specs.declared.error.VortexError.TheVariants.{MismatchedTypes, LengthMismatch, TooManyRows}
+use Rattle.vx_base.specs.declared.error.VortexError.TheVariants.{MismatchedTypes, LengthMismatch, OutOfBounds, IndicesNotAscending, TooManyRows}
+use Rattle.vx_base.specs.declared.ptype.PType.{PType}
 use Rattle.vx_base.specs.declared.dtype.Nullability.{Nullability}
+use Rattle.vx_base.specs.declared.dtype.Nullability.TheVariants.{NonNullable}
 use Rattle.vx_base.specs.Answers.{unless}
-use Rattle.vx_base.specs.PlainType.{is_nullable, is_leaf, allows_null}
+use Rattle.vx_base.specs.Integers.{natural_bits}
+use Rattle.vx_base.specs.Packed.{packed_size}
+use Rattle.vx_base.specs.PlainScalar.{PlainScalar}
+use Rattle.vx_base.specs.PlainType.{PlainType, is_nullable, is_leaf, is_integer, allows_null, stored_type}
+use Rattle.vx_base.specs.PlainType as types
 use Rattle.vx_base.specs.PlainValue.{is_null}
-use Rattle.vx_model.specs.Tree.{Tree, Validity}
+use Rattle.vx_base.specs.Storable.{same}
+use Rattle.vx_model.specs.Tree.{Tree, Validity, PlainPacked, PlainPatches}
 use Rattle.vx_model.specs.Rows.{rows}
 use Rattle.vx_model.specs.TreeType.{tree_type}
 use Rattle.vx_model.specs.Extents.{extents_fit}
+use Rattle.vx_model.specs.WellFormed.{ascend, differences_type}
 
 -- validity has a bit a row
 abbrev pub validity_length : Validity → ℕ → Bool
@@ -35,6 +43,39 @@ masked_refusal child valid =
     unless (is_leaf (tree_type child) && is_nullable (tree_type child)) MismatchedTypes
     (unless (length valid == length (rows child)) LengthMismatch
     (unless (not (list_any is_null (rows child))) MismatchedTypes None))
+
+abbrev pub patches_refusal : PlainPatches → Option VortexError
+patches_refusal p =
+    unless (is_integer (tree_type p.indices) && not (is_nullable (tree_type p.indices))) MismatchedTypes
+    (unless (length (rows p.indices) == length (rows p.values)) LengthMismatch
+    (unless (ascend p.offset (p.offset + p.array_len) (rows p.indices)) IndicesNotAscending None))
+
+abbrev pub same_type : PlainType → PlainType → Bool
+same_type = same stored_type
+
+-- the patches that there are have values of the type
+abbrev pub patches_of_type : PType → Option PlainPatches → Bool
+patches_of_type p None = true
+patches_of_type p (Some patches) = same_type (tree_type patches.values) (types.primitive p NonNullable)
+
+-- and are of an array of so many rows
+abbrev pub patches_length : ℕ → Option PlainPatches → Bool
+patches_length len None = true
+patches_length len (Some patches) = patches.array_len == len
+
+abbrev pub bit_packed_refusal : PlainPacked → Option PlainPatches → Option VortexError
+bit_packed_refusal k patches =
+    unless (patches_of_type k.ptype patches) MismatchedTypes
+    (unless (length k.bytes == packed_size k.width k.len && (validity_length k.valid k.len && patches_length k.len patches)) LengthMismatch
+    (unless (nat_le k.width (natural_bits k.ptype)) OutOfBounds
+    (unless (validity_allowed k.valid k.nullability) MismatchedTypes None)))
+
+abbrev pub kept_packed : PlainPacked → PlainPacked
+kept_packed k = record k { valid = kept k.valid }
+
+abbrev pub for_refusal : Tree → PlainScalar → Option VortexError
+for_refusal encoded reference =
+    unless (is_integer reference.dtype && (not (is_null reference.value) && same_type (tree_type encoded) (differences_type reference.dtype (tree_type encoded)))) MismatchedTypes None
 
 -- compression refuses a tree with an extent above the limit
 abbrev pub compress_refusal : Tree → Option VortexError

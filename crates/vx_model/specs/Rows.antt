@@ -1,7 +1,12 @@
 -- The rows of a tree, the values that it stands for; the children are decoded first.
-use Rattle.std.specs.Prelude.{ℕ, Bool, true, false, List, [], ◌∷◌, map, None, Some, replicate, slice_index_or, cond}
-use Rattle.vx_base.specs.PlainValue.{PlainValue, null, int}
-use Rattle.vx_model.specs.Tree.{Tree, Validity, primitive, constant, masked}
+use Rattle.std.specs.Prelude.{ℕ, ◌+◌, pos, negsuc, ◌+ℤ◌, Bool, true, false, ◌==◌, List, [], ◌∷◌, map, Option, None, Some, position, replicate, slice_index_or, cond}
+use Rattle.std.specs.List.{range_with_len}
+use Rattle.vx_base.specs.Packed.{packed_row}
+use Rattle.vx_base.specs.PlainScalar.{PlainScalar}
+use Rattle.vx_base.specs.PlainType.{integer_of}
+use Rattle.vx_base.specs.PlainValue.{PlainValue, null, int, whole_or_zero}
+use Rattle.vx_base.specs.Wrapping.{wrap}
+use Rattle.vx_model.specs.Tree.{Tree, Validity, PlainPacked, PlainPatches, primitive, constant, masked, bit_packed, bit_packed_with, frame_of_reference}
 
 -- null where the mask is false
 abbrev pub masked_rows : List Bool → List PlainValue → List PlainValue
@@ -21,7 +26,50 @@ is_valid_at (Some bits) i = slice_index_or bits i false
 abbrev pub row_at : List PlainValue → ℕ → PlainValue
 row_at rows i = slice_index_or rows i null
 
+-- f at each number below n
+abbrev pub below : {A : Type 0} → (ℕ → A) → ℕ → List A
+below f n = map f (range_with_len 0 n)
+
+-- the natural number that a row is
+abbrev pub index_of : PlainValue → Option ℕ
+index_of (int (pos k)) = Some k
+index_of (int (negsuc k)) = None
+index_of null = None
+
+-- whether a row is this number
+abbrev pub is_index : PlainValue → ℕ → Bool
+is_index (int (pos k)) n = k == n
+is_index (int (negsuc k)) n = false
+is_index null n = false
+
+-- the place of the patch whose index is n
+abbrev pub place_of : List PlainValue → ℕ → Option ℕ
+place_of is n = position (λ i. is_index i n) is
+
+-- that patch, else what it patches
+abbrev pub patched : List PlainValue → List PlainValue → PlainValue → ℕ → PlainValue
+patched [] rows fill n = fill
+patched (i ∷ is) [] fill n = fill
+patched (i ∷ is) (row ∷ rows) fill n = cond (is_index i n) row (patched is rows fill n)
+
+-- a row as it is packed
+abbrev pub packed_at : PlainPacked → ℕ → PlainValue
+packed_at k i = int (pos (packed_row k.bytes k.width i))
+
+-- a row and the reference, summed in the reference's type
+abbrev pub moved : PlainScalar → PlainValue → PlainValue
+moved reference null = null
+moved reference (int z) = int (wrap (integer_of reference.dtype) (whole_or_zero reference.value +ℤ z))
+
 abbrev pub rows : Tree → List PlainValue
 rows (primitive p xs valid n) = valid_rows valid (map int xs)
 rows (constant s len) = replicate len s.value
 rows (masked child valid) = masked_rows valid (rows child)
+rows (bit_packed k) = valid_rows k.valid (below (packed_at k) k.len)
+rows (bit_packed_with k len offset indices values) = valid_rows k.valid (below (λ i. patched (rows indices) (rows values) (packed_at k i) (offset + i)) k.len)
+rows (frame_of_reference encoded reference) = map (moved reference) (rows encoded)
+
+-- a row of packed integers where it is valid: its patch, else its bits
+abbrev pub packed_or_patch : PlainPacked → Option PlainPatches → ℕ → PlainValue
+packed_or_patch k None i = packed_at k i
+packed_or_patch k (Some p) i = patched (rows p.indices) (rows p.values) (packed_at k i) (p.offset + i)

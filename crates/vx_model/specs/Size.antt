@@ -1,9 +1,10 @@
 -- The bytes of a tree.
-use Rattle.std.specs.Prelude.{ℕ, min, ◌-◌, ◌^◌, ◌+◌, ◌*◌, ◌/◌, length, Some, None}
+use Rattle.std.specs.Prelude.{ℕ, min, ◌-◌, ◌^◌, ◌+◌, ◌*◌, ◌/◌, length, Option, Some, None}
 use Rattle.vx_base.specs.Integers.{bytes_of}
+use Rattle.vx_base.specs.Packed.{packed_size}
 use Rattle.vx_base.specs.PlainType.{PlainType, primitive}
 use Rattle.vx_base.specs.PlainValue.{PlainValue, null, int}
-use Rattle.vx_model.specs.Tree.{Tree, Validity, constant, masked}
+use Rattle.vx_model.specs.Tree.{Tree, Validity, PlainPatches, constant, masked, bit_packed, bit_packed_with, frame_of_reference}
 use Rattle.vx_model.specs.Tree as trees
 
 -- whole bytes that hold this many bits
@@ -23,6 +24,13 @@ abbrev pub size : Tree → ℕ
 size (trees.primitive p xs valid n) = length xs * bytes_of p + validity_size valid
 size (constant s len) = 1 + payload s.dtype s.value
 size (masked child valid) = size child + bit_bytes (length valid)
+size (bit_packed k) = packed_size k.width k.len + validity_size k.valid
+size (bit_packed_with k len offset indices values) = packed_size k.width k.len + (size indices + size values) + validity_size k.valid
+size (frame_of_reference encoded reference) = size encoded
+
+abbrev pub patches_size : Option PlainPatches → ℕ
+patches_size None = 0
+patches_size (Some p) = size p.indices + size p.values
 
 -- the bytes as 128 bits count them
 abbrev pub nbytes : Tree → ℕ

@@ -1,5 +1,5 @@
--- A tree of encodings as plain data: one constructor a node, its fields in the order of the node's constructor in code.
-use Rattle.std.specs.Prelude.{ℕ, suc, ℤ, Bool, List, Option}
+-- A tree of encodings as plain data: its fields in the order of the node's constructor in code.
+use Rattle.std.specs.Prelude.{ℕ, suc, ◌+◌, ℤ, Bool, List, Option, None, Some}
 use Rattle.vx_base.specs.declared.ptype.PType.{PType}
 use Rattle.vx_base.specs.declared.dtype.Nullability.{Nullability}
 use Rattle.vx_base.specs.PlainScalar.{PlainScalar}
@@ -8,6 +8,18 @@ use Rattle.vx_base.specs.PlainScalar.{PlainScalar}
 abbrev pub Validity : Type 0
 Validity = Option (List Bool)
 
+-- integers of a type, so many bits each, in bytes
+pub record PlainPacked : Type 0 where
+  pub ptype : PType
+  pub width : ℕ
+  pub bytes : List ℕ
+  pub len : ℕ
+  pub valid : Validity
+  pub nullability : Nullability
+
+abbrev pub plain_packed : PType → ℕ → List ℕ → ℕ → Validity → Nullability → PlainPacked
+plain_packed p width bytes len valid n = record { ptype = p; width = width; bytes = bytes; len = len; valid = valid; nullability = n }
+
 pub data Tree : Type 0 where
   -- integers of one type, their validity and nullability
   primitive : PType → List ℤ → Validity → Nullability → Tree
@@ -15,9 +27,36 @@ pub data Tree : Type 0 where
   constant : PlainScalar → ℕ → Tree
   -- the child's rows, null where the mask is false
   masked : Tree → List Bool → Tree
+  -- integers of some bits each, without patches
+  bit_packed : PlainPacked → Tree
+  -- and with patches: their array length and offset, indices and values
+  bit_packed_with : PlainPacked → ℕ → ℕ → Tree → Tree → Tree
+  -- integers less a reference
+  frame_of_reference : Tree → PlainScalar → Tree
 
--- how many nodes it has
+-- how many nodes it has, and one for a node's patches
 abbrev pub node_count : Tree → ℕ
 node_count (primitive p xs valid n) = 1
 node_count (constant s len) = 1
 node_count (masked child valid) = suc (node_count child)
+node_count (bit_packed k) = 1
+node_count (bit_packed_with k len offset indices values) = suc (suc (node_count indices + node_count values))
+node_count (frame_of_reference encoded reference) = suc (node_count encoded)
+
+-- Patches: the value whose index is x stands at row x less the offset, in an array of so many rows.
+pub record PlainPatches : Type 0 where
+  pub array_len : ℕ
+  pub offset : ℕ
+  pub indices : Tree
+  pub values : Tree
+
+abbrev pub patches : ℕ → ℕ → Tree → Tree → PlainPatches
+patches len offset indices values = record { array_len = len; offset = offset; indices = indices; values = values }
+
+abbrev pub patches_count : PlainPatches → ℕ
+patches_count p = suc (node_count p.indices + node_count p.values)
+
+-- packed integers with the patches that there are
+abbrev pub packed_of : PlainPacked → Option PlainPatches → Tree
+packed_of k None = bit_packed k
+packed_of k (Some p) = bit_packed_with k p.array_len p.offset p.indices p.values

@@ -1,12 +1,12 @@
 -- How the logic stores a tree: a number for the node, its own data, and the trees inside.
-use Rattle.std.specs.Prelude.{◌≡◌, ℕ, ℤ, Bool, List, cond, ◌==◌}
+use Rattle.std.specs.Prelude.{◌≡◌, ℕ, ℤ, Bool, List, [], ◌∷◌, cond, ◌==◌}
 use Rattle.std.specs.Coded.{Coded}
 use Rattle.vx_base.specs.declared.ptype.PType.{PType}
 use Rattle.vx_base.specs.declared.dtype.Nullability.{Nullability}
 use Rattle.vx_base.specs.PlainType.{stored_ptype, stored_nullability}
 use Rattle.vx_base.specs.PlainScalar.{PlainScalar, stored_scalar}
 use Rattle.vx_base.specs.Storable.{Storable, code_of, first, rest, stored_ℕ, stored_ℤ, stored_bool, stored_list, stored_option, stored×}
-use Rattle.vx_model.specs.Tree.{Tree, Validity, primitive, constant, masked}
+use Rattle.vx_model.specs.Tree.{Tree, Validity, PlainPacked, PlainPatches, patches, primitive, constant, masked, bit_packed, bit_packed_with, frame_of_reference}
 use base.Stored.{Gv, gnil, gnum, gcons, num}
 
 abbrev pub stored_bits : Storable (List Bool)
@@ -21,13 +21,57 @@ stored_primitive = stored× stored_ptype (stored× (stored_list stored_ℤ) (sto
 abbrev pub stored_constant : Storable (PlainScalar × ℕ)
 stored_constant = stored× stored_scalar stored_ℕ
 
+abbrev pub Packed : Type 0
+Packed = (PType × (ℕ × List ℕ)) × (ℕ × (Validity × Nullability))
+
+abbrev pub stored_packed_parts : Storable Packed
+stored_packed_parts = stored× (stored× stored_ptype (stored× stored_ℕ (stored_list stored_ℕ))) (stored× stored_ℕ (stored× stored_validity stored_nullability))
+
+abbrev pub packed_parts : PlainPacked → Packed
+packed_parts k = ((k.ptype, (k.width, k.bytes)), (k.len, (k.valid, k.nullability)))
+
+abbrev pub packed_by : Packed → PlainPacked
+packed_by l = record { ptype = l.0.0; width = l.0.1.0; bytes = l.0.1.1; len = l.1.0; valid = l.1.1.0; nullability = l.1.1.1 }
+
+abbrev pub stored_packed : Storable PlainPacked
+stored_packed =
+    record {
+      to = λ k. stored_packed_parts.to (packed_parts k);
+      from = λ g. packed_by (stored_packed_parts.from g);
+      back = λ k i. packed_by (stored_packed_parts.back (packed_parts k) i);
+    }
+
+abbrev pub stored_packed_with : Storable (PlainPacked × (ℕ × ℕ))
+stored_packed_with = stored× stored_packed (stored× stored_ℕ stored_ℕ)
+
 abbrev pub node : ℕ → Gv → Gv → Gv
 node number label inside = gcons (gcons (gnum number) label) inside
+
+-- the trees inside, as a list
+abbrev pub one : Gv → Gv
+one a = gcons a gnil
+
+abbrev pub two : Gv → Gv → Gv
+two a b = gcons a (gcons b gnil)
 
 abbrev pub to : Tree → Gv
 to (primitive p xs valid n) = node 0 (stored_primitive.to (p, (xs, (valid, n)))) gnil
 to (constant s len) = node 1 (stored_constant.to (s, len)) gnil
-to (masked child valid) = node 2 (stored_bits.to valid) (to child)
+to (masked child valid) = node 2 (stored_bits.to valid) (one (to child))
+to (bit_packed k) = node 3 (stored_packed.to k) gnil
+to (bit_packed_with k len offset indices values) = node 4 (stored_packed_with.to (k, (len, offset))) (two (to indices) (to values))
+to (frame_of_reference encoded reference) = node 5 (stored_scalar.to reference) (one (to encoded))
+
+abbrev pub some_tree : Tree
+some_tree = constant (stored_scalar.from gnil) 0
+
+abbrev pub tree_1 : List Tree → Tree
+tree_1 [] = some_tree
+tree_1 (t ∷ ts) = t
+
+abbrev pub tree_2 : List Tree → Tree
+tree_2 [] = some_tree
+tree_2 (t ∷ ts) = tree_1 ts
 
 abbrev pub primitive_by : PType × (List ℤ × (Validity × Nullability)) → Tree
 primitive_by l = primitive l.0 l.1.0 l.1.1.0 l.1.1.1
@@ -35,27 +79,59 @@ primitive_by l = primitive l.0 l.1.0 l.1.1.0 l.1.1.1
 abbrev pub constant_by : PlainScalar × ℕ → Tree
 constant_by l = constant l.0 l.1
 
-abbrev pub tree_at : ℕ → Gv → Tree → Tree
+abbrev pub packed_with_by : PlainPacked × (ℕ × ℕ) → Tree → Tree → Tree
+packed_with_by l indices values = bit_packed_with l.0 l.1.0 l.1.1 indices values
+
+abbrev pub tree_at : ℕ → Gv → List Tree → Tree
 tree_at number label inside =
     cond (number == 0) (primitive_by (stored_primitive.from label))
     (cond (number == 1) (constant_by (stored_constant.from label))
-    (masked inside (stored_bits.from label)))
+    (cond (number == 2) (masked (tree_1 inside) (stored_bits.from label))
+    (cond (number == 3) (bit_packed (stored_packed.from label))
+    (cond (number == 4) (packed_with_by (stored_packed_with.from label) (tree_1 inside) (tree_2 inside))
+    (frame_of_reference (tree_1 inside) (stored_scalar.from label))))))
 
-abbrev pub some_tree : Tree
-some_tree = constant (stored_scalar.from gnil) 0
+-- what is read as a tree, and as a list of trees
+abbrev pub read : Gv → Tree × List Tree
+read gnil = (some_tree, [])
+read (gnum n) = (some_tree, [])
+read (gcons label inside) = (tree_at (num (first label)) (rest label) (read inside).1, (read label).0 ∷ (read inside).1)
 
 abbrev pub from : Gv → Tree
-from gnil = some_tree
-from (gnum n) = some_tree
-from (gcons label inside) = tree_at (num (first label)) (rest label) (from inside)
+from g = (read g).0
 
 pub from-to : (t : Tree) → from (to t) ≡ t
 from-to (primitive p xs valid n) = λ i. primitive_by (stored_primitive.back (p, (xs, (valid, n))) i)
 from-to (constant s len) = λ i. constant_by (stored_constant.back (s, len) i)
 from-to (masked child valid) = λ i. masked (from-to child i) (stored_bits.back valid i)
+from-to (bit_packed k) = λ i. bit_packed (stored_packed.back k i)
+from-to (bit_packed_with k len offset indices values) = λ i. packed_with_by (stored_packed_with.back (k, (len, offset)) i) (from-to indices i) (from-to values i)
+from-to (frame_of_reference encoded reference) = λ i. frame_of_reference (from-to encoded i) (stored_scalar.back reference i)
 
 abbrev pub stored_tree : Storable Tree
 stored_tree = record { to = to; from = from; back = from-to }
 
 abbrev pub tree_code : Coded Tree
 tree_code = code_of stored_tree
+
+-- ---- and patches
+
+abbrev pub stored_patches_parts : Storable ((ℕ × ℕ) × (Tree × Tree))
+stored_patches_parts = stored× (stored× stored_ℕ stored_ℕ) (stored× stored_tree stored_tree)
+
+abbrev pub patches_parts : PlainPatches → (ℕ × ℕ) × (Tree × Tree)
+patches_parts p = ((p.array_len, p.offset), (p.indices, p.values))
+
+abbrev pub patches_by : (ℕ × ℕ) × (Tree × Tree) → PlainPatches
+patches_by l = patches l.0.0 l.0.1 l.1.0 l.1.1
+
+abbrev pub stored_patches : Storable PlainPatches
+stored_patches =
+    record {
+      to = λ p. stored_patches_parts.to (patches_parts p);
+      from = λ g. patches_by (stored_patches_parts.from g);
+      back = λ p i. patches_by (stored_patches_parts.back (patches_parts p) i);
+    }
+
+abbrev pub patches_code : Coded PlainPatches
+patches_code = code_of stored_patches

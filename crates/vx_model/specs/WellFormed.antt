@@ -1,14 +1,16 @@
 -- When a tree is well formed: each node's own conditions hold, and every row fits the type.
-use Rattle.std.specs.Prelude.{◌≡◌, ℕ, ℤ, Bool, false, IsTrue, List, length, Some, None}
+use Rattle.std.specs.Prelude.{◌≡◌, ℕ, ◌+◌, ℤ, pos, negsuc, Bool, true, false, ◌&&◌, nat_lt, nat_le, IsTrue, List, [], ◌∷◌, length, Some, None}
 use Rattle.std.specs.List.{list_all, list_any}
 use Rattle.vx_base.specs.declared.ptype.PType.{PType}
 use Rattle.vx_base.specs.declared.dtype.Nullability.{Nullability}
-use Rattle.vx_base.specs.declared.dtype.Nullability.TheVariants.{Nullable}
-use Rattle.vx_base.specs.Integers.{lies_in}
-use Rattle.vx_base.specs.PlainType.{is_nullable, is_leaf}
-use Rattle.vx_base.specs.PlainScalar.{fits}
-use Rattle.vx_base.specs.PlainValue.{is_null}
-use Rattle.vx_model.specs.Tree.{Tree, Validity, primitive, constant, masked}
+use Rattle.vx_base.specs.declared.dtype.Nullability.TheVariants.{NonNullable, Nullable}
+use Rattle.vx_base.specs.Integers.{lies_in, natural_bits, unsigned_of}
+use Rattle.vx_base.specs.Packed.{packed_size}
+use Rattle.vx_base.specs.PlainType.{PlainType, is_nullable, is_leaf, is_integer, integer_of, nullability_of}
+use Rattle.vx_base.specs.PlainType as types
+use Rattle.vx_base.specs.PlainScalar.{PlainScalar, fits}
+use Rattle.vx_base.specs.PlainValue.{PlainValue, null, int, is_null}
+use Rattle.vx_model.specs.Tree.{Tree, Validity, PlainPacked, PlainPatches, primitive, constant, masked, bit_packed, bit_packed_with, frame_of_reference}
 use Rattle.vx_model.specs.Rows.{rows}
 use Rattle.vx_model.specs.TreeType.{tree_type}
 
@@ -27,6 +29,42 @@ pub record IsMasked (child : Tree) (valid : List Bool) : Type 0 where
   pub lengths : length valid ≡ length (rows child)
   pub no_null : list_any is_null (rows child) ≡ false
 
+-- whole numbers from low on, below high, each above the one before
+abbrev pub ascend : ℕ → ℕ → List PlainValue → Bool
+ascend low high [] = true
+ascend low high (int (pos n) ∷ is) = nat_le low n && nat_lt n high && ascend (n + 1) high is
+ascend low high (int (negsuc n) ∷ is) = false
+ascend low high (null ∷ is) = false
+
+-- of an array of len rows
+pub record IsPatches (len offset : ℕ) (indices values : Tree) : Type 0 where
+  pub indices_type : IsTrue (is_integer (tree_type indices))
+  pub not_null : is_nullable (tree_type indices) ≡ false
+  pub lengths : length (rows indices) ≡ length (rows values)
+  pub ascending : IsTrue (ascend offset (offset + len) (rows indices))
+
+-- whole blocks of rows, none wider than the type's natural numbers
+pub record IsPacked (k : PlainPacked) : Type 0 where
+  pub held : IsTrue (list_all (λ byte. nat_lt byte 256) k.bytes)
+  pub sized : length k.bytes ≡ packed_size k.width k.len
+  pub narrow : IsTrue (nat_le k.width (natural_bits k.ptype))
+  pub validity : IsValidityOf k.valid k.len k.nullability
+
+-- patches of an array of len rows are those of packed integers
+pub record IsPatched (k : PlainPacked) (len : ℕ) (values : Tree) : Type 0 where
+  pub lengths : len ≡ k.len
+  pub values_type : tree_type values ≡ types.primitive k.ptype NonNullable
+
+-- the unsigned type of a reference's width, as nullable as another type
+abbrev pub differences_type : PlainType → PlainType → PlainType
+differences_type reference t = types.primitive (unsigned_of (integer_of reference)) (nullability_of t)
+
+pub record IsFrame (encoded : Tree) (reference : PlainScalar) : Type 0 where
+  pub reference_type : IsTrue (is_integer reference.dtype)
+  pub not_null : is_null reference.value ≡ false
+  pub fitting : IsTrue (fits reference.dtype reference.value)
+  pub encoded_type : tree_type encoded ≡ differences_type reference.dtype (tree_type encoded)
+
 -- every row fits the tree's type
 abbrev pub RowsFit : Tree → Type 0
 RowsFit t = IsTrue (list_all (fits (tree_type t)) (rows t))
@@ -35,3 +73,11 @@ abbrev pub WellFormed : Tree → Type 0
 WellFormed (primitive p xs valid n) = IsPrimitive p xs valid n × RowsFit (primitive p xs valid n)
 WellFormed (constant s len) = IsTrue (fits s.dtype s.value) × RowsFit (constant s len)
 WellFormed (masked child valid) = WellFormed child × IsMasked child valid × RowsFit (masked child valid)
+WellFormed (bit_packed k) = IsPacked k × RowsFit (bit_packed k)
+WellFormed (bit_packed_with k len offset indices values) =
+    WellFormed indices × WellFormed values × IsPatches len offset indices values × IsPacked k × IsPatched k len values
+    × RowsFit (bit_packed_with k len offset indices values)
+WellFormed (frame_of_reference encoded reference) = WellFormed encoded × IsFrame encoded reference × RowsFit (frame_of_reference encoded reference)
+
+abbrev pub WellFormedPatches : PlainPatches → Type 0
+WellFormedPatches p = WellFormed p.indices × WellFormed p.values × IsPatches p.array_len p.offset p.indices p.values

@@ -3,17 +3,23 @@ use Rattle.std.specs.Prelude.{ℕ, List, [], ◌∷◌, ◌++◌, length, decima
 use Rattle.std.specs.List.{concat}
 use Rattle.vx_base.specs.IdName.{id_name}
 use Rattle.vx_base.specs.TypeText.{type_text, value_text}
-use Rattle.vx_model.specs.Tree.{Tree, primitive, constant, masked}
+use Rattle.vx_model.specs.Tree.{Tree, primitive, constant, masked, bit_packed, bit_packed_with, frame_of_reference}
 use Rattle.vx_model.specs.Nodes.{encoding}
 use Rattle.vx_model.specs.TreeType.{tree_type}
 use Rattle.vx_model.specs.Rows.{rows}
 use Rattle.vx_model.specs.Size.{size}
+
+abbrev pub packed_numbers : ℕ → ℕ → List ℕ
+packed_numbers width patches = codes " width=" ++ decimal width ++ codes " patches=" ++ decimal patches
 
 -- the numbers that only the root's encoding has
 abbrev pub own_numbers : Tree → List ℕ
 own_numbers (primitive p xs valid n) = []
 own_numbers (constant s len) = codes " value=" ++ value_text s.value
 own_numbers (masked child valid) = []
+own_numbers (bit_packed k) = packed_numbers k.width 0
+own_numbers (bit_packed_with k len offset indices values) = packed_numbers k.width (length (rows indices))
+own_numbers (frame_of_reference encoded reference) = codes " reference=" ++ value_text reference.value
 
 -- the root's encoding, type, rows and bytes
 unfoldable pub heading : Tree → List ℕ
@@ -33,6 +39,10 @@ abbrev pub listing : List ℕ → Tree → List ℕ
 listing indent (primitive p xs valid n) = line indent (primitive p xs valid n)
 listing indent (constant s len) = line indent (constant s len)
 listing indent (masked child valid) = line indent (masked child valid) ++ listing (deeper indent) child
+listing indent (bit_packed k) = line indent (bit_packed k)
+listing indent (bit_packed_with k len offset indices values) =
+    line indent (bit_packed_with k len offset indices values) ++ listing (deeper indent) indices ++ listing (deeper indent) values
+listing indent (frame_of_reference encoded reference) = line indent (frame_of_reference encoded reference) ++ listing (deeper indent) encoded
 
 -- the bytes of the plain tree and of the compressed one
 unfoldable pub sizes_line : ℕ → ℕ → List ℕ

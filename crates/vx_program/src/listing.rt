@@ -4,27 +4,46 @@ ghost use Rattle.std.specs.Prelude.{◌≡◌, ◌<◌, ◌^◌, ◌++◌, IfOk,
 ghost use Rattle.vx_base.specs.TypeOf.{value_of};
 ghost use Rattle.vx_base.specs.TypeText.{value_text};
 ghost use Rattle.vx_model.specs.Size.{size};
-ghost use Rattle.vx_array.specs.TreeOf.{tree_of};
-ghost use Rattle.vx_program.specs.Listing.{own_numbers, heading, line, deeper, listing, sizes_line};
+ghost use Rattle.vx_model.specs.Tree.{PlainPacked, packed_of};
+ghost use Rattle.vx_array.specs.TreeOf.{tree_of, unboxed};
+ghost use Rattle.vx_program.specs.Listing.{packed_numbers, own_numbers, heading, line, deeper, listing, sizes_line};
 
 use std::alloc::{AllocError, Global};
-use vx_array::{ArrayRef, Node};
+use vx_array::{ArrayRef, Node, Patches};
 use vx_base::Value;
 
-// Adds a constant's value, as compact JSON.
+// Adds a value, as compact JSON.
 fn push_value(text: &mut String, value: &Value) -> Result<(), AllocError>
-    ensures { OnOk result (string_bytes text.new
-        ≡ string_bytes text.old ++ (codes " value=" ++ value_text (value_of value.now))) }
+    ensures { OnOk result (string_bytes text.new ≡ string_bytes text.old ++ value_text (value_of value.now)) }
 {
     match value {
         Value::Null => {
-            write!(text, " value=null")?;
+            write!(text, "null")?;
             Ok(())
         }
         Value::Int(whole) => {
-            write!(text, " value={whole}")?;
+            write!(text, "{whole}")?;
             Ok(())
         }
+    }
+}
+
+// Adds a value behind its name.
+fn push_named(text: &mut String, name: &str, value: &Value) -> Result<(), AllocError>
+    ensures { OnOk result (string_bytes text.new
+        ≡ string_bytes text.old ++ (codes " " ++ name.now ++ codes "=" ++ value_text (value_of value.now))) }
+{
+    write!(text, " {name}=")?;
+    push_value(text, value)
+}
+
+// How many patches there are.
+fn patch_count(patches: &Option<Box<Patches>>) -> u64
+    ensures { (k : PlainPacked) → own_numbers (packed_of k (unboxed patches.now)) ≡ packed_numbers k.width result }
+{
+    match patches {
+        Some(patches) => patches.num_patches(),
+        None => 0,
     }
 }
 
@@ -34,7 +53,13 @@ fn push_own_numbers(text: &mut String, node: &Node) -> Result<(), AllocError>
         ≡ string_bytes text.old ++ own_numbers (tree_of node.now)) }
 {
     match node {
-        Node::Constant(scalar, _) => push_value(text, scalar.value()),
+        Node::Constant(scalar, _) => push_named(text, "value", scalar.value()),
+        Node::FoR(_, reference) => push_named(text, "reference", reference.value()),
+        Node::BitPacked(_, width, _, _, _, patches, _) => {
+            let count = patch_count(patches);
+            write!(text, " width={width} patches={count}")?;
+            Ok(())
+        }
         Node::Primitive(_, _, _) | Node::Masked(_, _) => Ok(()),
     }
 }
@@ -86,10 +111,18 @@ pub(crate) fn push_tree(
 {
     push_line(text, indent, tree)?;
     match tree.node() {
-        Node::Masked(child, _) => {
+        Node::Masked(child, _) | Node::FoR(child, _) => {
             let next = deeper(alloc, indent)?;
             push_tree(alloc, text, next.as_str(), child)
         }
+        Node::BitPacked(_, _, _, _, _, patches, _) => match patches {
+            Some(patches) => {
+                let next = deeper(alloc, indent)?;
+                push_tree(alloc, text, next.as_str(), patches.indices())?;
+                push_tree(alloc, text, next.as_str(), patches.values())
+            }
+            None => Ok(()),
+        },
         Node::Primitive(_, _, _) | Node::Constant(_, _) => Ok(()),
     }
 }

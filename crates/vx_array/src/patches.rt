@@ -1,0 +1,172 @@
+//! Patches: how they are made, and which of them stands at a row.
+
+ghost use Rattle.std.specs.Prelude.{◌≡◌, ◌+◌, ℕ, ℤ, length, IsTrue};
+ghost use Rattle.vx_base.specs.Answers.{MakesSurely};
+ghost use Rattle.vx_base.specs.PlainType.{is_integer};
+ghost use Rattle.vx_base.specs.declared.dtype.Nullability.TheVariants.{NonNullable};
+ghost use Rattle.vx_base.specs.PlainType as types;
+ghost use Rattle.vx_base.specs.PlainValue.{cell, int, whole_or_zero};
+ghost use Rattle.vx_model.specs.Refusals.{patches_refusal};
+ghost use Rattle.vx_model.specs.Rows.{rows, index_of, place_of, below, patched};
+ghost use Rattle.vx_model.specs.Tree.{patches};
+ghost use Rattle.vx_model.specs.TreeType.{tree_type};
+ghost use Rattle.vx_model.specs.WellFormed.{WellFormedPatches, ascend};
+ghost use Rattle.vx_array.specs.IntsOf.{ptype_of, wholes_of};
+
+use crate::array::{ArrayRef, Patches};
+use crate::ints::Ints;
+use vx_base::{Refused, VortexError};
+
+impl Patches {
+    /// Patches of an array of `array_len` rows. Refuses MismatchedTypes where the indices are no non-nullable integers,
+    /// then LengthMismatch where there aren't as many values, then IndicesNotAscending where the indices don't rise or
+    /// one lies outside `offset` to `offset + array_len - 1`, a sum that is taken exactly.
+    #[tactic(auto, using(vx_model::proofs::PackedLemmas::patches_accepted))]
+    pub fn new(
+        array_len: u64,
+        offset: u64,
+        indices: ArrayRef,
+        values: ArrayRef,
+    ) -> Result<Patches, Refused<(ArrayRef, ArrayRef)>>
+        ensures { let made = patches array_len offset indices values in MakesSurely (patches_refusal made) made (indices, values) result }
+    {
+        if !indices.dtype().is_integer() || indices.dtype().is_nullable() {
+            return Err(Refused {
+                error: VortexError::MismatchedTypes,
+                inputs: (indices, values),
+            });
+        }
+        if indices.len() != values.len() {
+            return Err(Refused {
+                error: VortexError::LengthMismatch,
+                inputs: (indices, values),
+            });
+        }
+        if !indices.is_ascending(offset, array_len) {
+            return Err(Refused {
+                error: VortexError::IndicesNotAscending,
+                inputs: (indices, values),
+            });
+        }
+        indices.known();
+        values.known();
+        Ok(Patches {
+            array_len,
+            offset,
+            indices,
+            values,
+        })
+    }
+
+    /// Tells a proof that the patches are well formed.
+    pub fn known(&self)
+        ensures { WellFormedPatches self.now }
+    {
+        let _indices = &self.indices;
+    }
+
+    /// The number of rows of the array that is patched.
+    pub fn array_len(&self) -> u64
+        ensures { result ≡ self.now.array_len }
+    {
+        self.array_len
+    }
+
+    /// How much an index lies above its row.
+    pub fn offset(&self) -> u64
+        ensures { result ≡ self.now.offset }
+    {
+        self.offset
+    }
+
+    pub fn num_patches(&self) -> u64
+        ensures { result ≡ length (rows self.now.indices) }
+    {
+        self.indices.len()
+    }
+
+    pub fn indices(&self) -> &ArrayRef
+        ensures { result.now ≡ self.now.indices }
+    {
+        &self.indices
+    }
+
+    pub fn values(&self) -> &ArrayRef
+        ensures { result.now ≡ self.now.values }
+    {
+        &self.values
+    }
+
+    // The place of the row's patch, found by halves.
+    #[cycle(integer_at)]
+    #[tactic(auto, using(vx_model::proofs::PatchLemmas::place_steps))]
+    pub(crate) fn place_of(&self, row: u64) -> Option<u64>
+        ensures { result ≡ place_of (rows self.now.indices) (self.now.offset + row) }
+    {
+        let wanted = u128::from(self.offset) + u128::from(row);
+        let mut low = 0;
+        let mut high = self.indices.len();
+        while low < high {
+            let middle = low + (high - low) / 2;
+            match as_index(self.indices.integer_at(middle)) {
+                Some(index) if index == wanted => return Some(middle),
+                Some(index) if index < wanted => low = middle + 1,
+                _ => high = middle,
+            }
+        }
+        None
+    }
+
+    // The integers with each patch in its row.
+    pub(crate) fn written(&self, values: Ints) -> Ints
+        requires integers { tree_type self.now.values ≡ types.primitive (ptype_of values) NonNullable }
+        requires rows { length (wholes_of values) ≡ self.now.array_len }
+        ensures ptype { ptype_of result ≡ ptype_of values }
+        ensures wholes { (f : ℕ → ℤ) → wholes_of values ≡ below f self.now.array_len → wholes_of result ≡ below (λ i. whole_or_zero (patched (rows self.now.indices) (rows self.now.values) (int (f i)) (self.now.offset + i))) self.now.array_len }
+    {
+        let mut values = values;
+        let _rows = self.array_len();
+        for place in 0..self.indices.len() {
+            let Some(index) = as_index(self.indices.integer_at(place)) else {
+                unreachable!();
+            };
+            let Some(whole) = self.values.integer_at(place) else {
+                unreachable!();
+            };
+            values = values.with_whole((index - u128::from(self.offset)) as u64, whole);
+        }
+        values
+    }
+}
+
+// An integer as an index, where it is one.
+fn as_index(integer: Option<i128>) -> Option<u128>
+    ensures { result ≡ index_of (cell integer) }
+{
+    match integer {
+        Some(index) if index >= 0 => Some(index as u128),
+        _ => None,
+    }
+}
+
+impl ArrayRef {
+    // Whether the rows rise from the offset, within the length.
+    #[tactic(auto, using(vx_model::proofs::PatchLemmas::ascend_steps))]
+    fn is_ascending(&self, offset: u64, len: u64) -> bool
+        requires { IsTrue (is_integer (tree_type self.now)) }
+        ensures { result ≡ ascend offset (offset + len) (rows self.now) }
+    {
+        let high = u128::from(offset) + u128::from(len);
+        let mut low = u128::from(offset);
+        for row in 0..self.len() {
+            let Some(index) = as_index(self.integer_at(row)) else {
+                return false;
+            };
+            if index < low || index >= high {
+                return false;
+            }
+            low = index + 1;
+        }
+        true
+    }
+}

@@ -1,0 +1,201 @@
+-- Patches: the test that their indices ascend, and the search for the patch of a row.
+use Rattle.std.proofs.Common.{◌≡◌, ◌<◌, ◌≤◌, ◌+◌, ◌&&◌, ◌∙◌, ℕ, zero, suc, pos, negsuc, List, [], ◌∷◌, length, drop, drop-cons, refl, arith, add-one, below_more, ⊎_elim, Bool, true, false, cond, Some, None}
+use Rattle.std.specs.Prelude.{nat_lt, nat_le}
+use Rattle.std.specs.List.{position_or_len}
+use Rattle.std.proofs.lemmas.Bool.{cond-true, cond-false, ltb-true, ltb-false, lt-ltb, le-ltb, leb-true, eq-eqb, ne_eqb, cases_lt}
+use Rattle.std.proofs.lemmas.List.Quantifiers.{position-Some}
+use Rattle.std.proofs.lemmas.List.Sums.{position_or_len_is, fails_before_first}
+use Rattle.vx_base.specs.PlainValue.{PlainValue, null, int}
+use Rattle.vx_model.specs.Rows.{row_at, patched, is_index, index_of, place_of}
+use Rattle.vx_model.specs.WellFormed.{ascend}
+
+-- ---- one step of the look at each patch
+
+-- where the row at i is the one that is wanted
+pub patched-found : (is rs : List PlainValue) (fill : PlainValue) (n i : ℕ) → length is ≡ length rs → i < length is → is_index (row_at is i) n ≡ true → patched (drop i is) (drop i rs) fill n ≡ row_at rs i
+patched-found [] rs fill n i l h e = absurd (omega arith)
+patched-found (j ∷ is) [] fill n i l h e = absurd (omega arith)
+patched-found (j ∷ is) (r ∷ rs) fill n zero l h e = rw e
+patched-found (j ∷ is) (r ∷ rs) fill n (suc i) l h e = patched-found is rs fill n i (omega arith) (omega arith) e
+
+-- where it isn't
+pub patched-next : (is rs : List PlainValue) (fill : PlainValue) (n i : ℕ) → length is ≡ length rs → i < length is → is_index (row_at is i) n ≡ false → patched (drop i is) (drop i rs) fill n ≡ patched (drop (suc i) is) (drop (suc i) rs) fill n
+patched-next [] rs fill n i l h e = absurd (omega arith)
+patched-next (j ∷ is) [] fill n i l h e = absurd (omega arith)
+patched-next (j ∷ is) (r ∷ rs) fill n zero l h e = rw e
+patched-next (j ∷ is) (r ∷ rs) fill n (suc i) l h e = patched-next is rs fill n i (omega arith) (omega arith) e
+
+pub patched-end : (is rs : List PlainValue) (fill : PlainValue) (n i : ℕ) → length is ≡ length rs → length is ≤ i → patched (drop i is) (drop i rs) fill n ≡ fill
+patched-end [] rs fill n zero l h = refl
+patched-end [] rs fill n (suc i) l h = refl
+patched-end (j ∷ is) [] fill n i l h = absurd (omega arith)
+patched-end (j ∷ is) (r ∷ rs) fill n zero l h = absurd (omega arith)
+patched-end (j ∷ is) (r ∷ rs) fill n (suc i) l h = patched-end is rs fill n i (omega arith) (omega arith)
+
+pub ruleset patch_steps = (patched-found, patched-next, patched-end)
+
+-- ---- one step of the test that indices ascend
+
+ascend_head : (low high : ℕ) (v : PlainValue) (vs : List PlainValue) (n : ℕ) → index_of v ≡ Some n → ascend low high (v ∷ vs) ≡ (nat_le low n && nat_lt n high && ascend (n + 1) high vs)
+ascend_head low high (int (pos m)) vs n e = let same : m ≡ n = cc in rw same
+ascend_head low high (int (negsuc m)) vs n e = absurd cc
+ascend_head low high null vs n e = absurd cc
+
+ascend_none : (low high : ℕ) (v : PlainValue) (vs : List PlainValue) → index_of v ≡ None → ascend low high (v ∷ vs) ≡ false
+ascend_none low high (int (pos m)) vs e = absurd cc
+ascend_none low high (int (negsuc m)) vs e = refl
+ascend_none low high null vs e = refl
+
+pub ascend-next : (low high : ℕ) (is : List PlainValue) (i n : ℕ) → i < length is → index_of (row_at is i) ≡ Some n → ascend low high (drop i is) ≡ (nat_le low n && nat_lt n high && ascend (n + 1) high (drop (i + 1) is))
+ascend-next low high is i n h e = rw (drop-cons is i null h) (rw (add-one i) (ascend_head low high (row_at is i) (drop (suc i) is) n e))
+
+pub ascend-stop : (low high : ℕ) (is : List PlainValue) (i : ℕ) → i < length is → index_of (row_at is i) ≡ None → ascend low high (drop i is) ≡ false
+ascend-stop low high is i h e = rw (drop-cons is i null h) (ascend_none low high (row_at is i) (drop (suc i) is) e)
+
+pub ascend-end : (low high : ℕ) (is : List PlainValue) (i : ℕ) → length is ≤ i → ascend low high (drop i is) ≡ true
+ascend-end low high [] zero h = refl
+ascend-end low high [] (suc i) h = refl
+ascend-end low high (v ∷ is) zero h = absurd (omega arith)
+ascend-end low high (v ∷ is) (suc i) h = ascend-end low high is i (omega arith)
+
+pub ruleset ascend_steps = (ascend-next, ascend-stop, ascend-end)
+
+-- ---- what indices that ascend rule out
+
+three : (a b c : Bool) → (a && b && c) ≡ true → (a ≡ true) × (b ≡ true) × (c ≡ true)
+three true true c e = (refl, refl, e)
+three true false c e = absurd cc
+three false b c e = absurd cc
+
+parts : (low high n : ℕ) (is : List PlainValue) → ascend low high (int (pos n) ∷ is) ≡ true → (low ≤ n) × (n < high) × (ascend (n + 1) high is ≡ true)
+parts low high n is e = let t = three (nat_le low n) (nat_lt n high) (ascend (n + 1) high is) e in (leb-true _ _ t.0, ltb-true _ _ t.1, t.2)
+
+-- each is a whole number from low on, below high
+pub ascend-within : (low high : ℕ) (is : List PlainValue) (i n : ℕ) → ascend low high is ≡ true → i < length is → index_of (row_at is i) ≡ Some n → (low ≤ n) × (n < high)
+ascend-within low high [] i n e h f = absurd (omega arith)
+ascend-within low high (null ∷ is) i n e h f = absurd cc
+ascend-within low high (int (negsuc m) ∷ is) i n e h f = absurd cc
+ascend-within low high (int (pos m) ∷ is) zero n e h f = let p = parts low high m is e in let same : m ≡ n = cc in (omega arith, omega arith)
+ascend-within low high (int (pos m) ∷ is) (suc i) n e h f =
+    let p = parts low high m is e in
+    let q = ascend-within (m + 1) high is i n p.2 (omega arith) f in
+    (omega arith, q.1)
+
+pub ascend-index : (low high : ℕ) (is : List PlainValue) (i : ℕ) → ascend low high is ≡ true → i < length is → index_of (row_at is i) ≡ None → ⊥
+ascend-index low high [] i e h f = absurd (omega arith)
+ascend-index low high (null ∷ is) i e h f = cc
+ascend-index low high (int (negsuc m) ∷ is) i e h f = cc
+ascend-index low high (int (pos m) ∷ is) zero e h f = cc
+ascend-index low high (int (pos m) ∷ is) (suc i) e h f = ascend-index (m + 1) high is i (parts low high m is e).2 (omega arith) f
+
+-- no place below i has the index n
+abbrev pub NoneBelow : List PlainValue → ℕ → ℕ → Type 0
+NoneBelow is n i = (j : ℕ) → j < i → is_index (row_at is j) n ≡ false
+
+-- nor has one from i on
+abbrev pub NoneFrom : List PlainValue → ℕ → ℕ → Type 0
+NoneFrom is n i = (j : ℕ) → i ≤ j → is_index (row_at is j) n ≡ false
+
+pub none_below-start : (is : List PlainValue) (n : ℕ) → NoneBelow is n 0
+none_below-start is n j h = absurd (omega arith)
+
+pub none_from-end : (is : List PlainValue) (n i : ℕ) → length is ≤ i → NoneFrom is n i
+none_from-end [] n i h zero l = refl
+none_from-end [] n i h (suc j) l = refl
+none_from-end (v ∷ is) n i h zero l = absurd (omega arith)
+none_from-end (v ∷ is) n zero h (suc j) l = absurd (omega arith)
+none_from-end (v ∷ is) n (suc i) h (suc j) l = none_from-end is n i (omega arith) j (omega arith)
+
+pub not_index-of : (v : PlainValue) (n k : ℕ) → index_of v ≡ Some k → (k ≡ n → ⊥) → is_index v n ≡ false
+not_index-of null n k e h = refl
+not_index-of (int (negsuc m)) n k e h = refl
+not_index-of (int (pos m)) n k e h = let same : m ≡ k = cc in ne_eqb m n (λ r. h (omega arith))
+
+pub earlier : (low high : ℕ) (is : List PlainValue) (n i k : ℕ) → ascend low high is ≡ true → i < length is → index_of (row_at is i) ≡ Some k → k ≤ n → NoneBelow is n i
+earlier low high [] n i k e h f l j m = absurd (omega arith)
+earlier low high (null ∷ is) n i k e h f l j m = absurd cc
+earlier low high (int (negsuc x) ∷ is) n i k e h f l j m = absurd cc
+earlier low high (int (pos x) ∷ is) n zero k e h f l j m = absurd (omega arith)
+earlier low high (int (pos x) ∷ is) n (suc i) k e h f l zero m =
+    let q = ascend-within (x + 1) high is i k (parts low high x is e).2 (omega arith) f in ne_eqb x n (λ r. omega arith)
+earlier low high (int (pos x) ∷ is) n (suc i) k e h f l (suc j) m = earlier (x + 1) high is n i k (parts low high x is e).2 (omega arith) f l j (omega arith)
+
+-- where the index at i is below n
+pub none_below-next : (low high : ℕ) (is : List PlainValue) (n i k : ℕ) → ascend low high is ≡ true → i < length is → index_of (row_at is i) ≡ Some k → k < n → NoneBelow is n (i + 1)
+none_below-next low high is n i k e h f l =
+    below_more (λ j. is_index (row_at is j) n ≡ false) i (earlier low high is n i k e h f (omega arith)) (not_index-of (row_at is i) n k f (λ r. omega arith))
+
+above_all : (low high : ℕ) (is : List PlainValue) (n : ℕ) → ascend low high is ≡ true → n < low → NoneFrom is n 0
+above_all low high [] n e l zero m = refl
+above_all low high [] n e l (suc j) m = refl
+above_all low high (null ∷ is) n e l j m = absurd cc
+above_all low high (int (negsuc x) ∷ is) n e l j m = absurd cc
+above_all low high (int (pos x) ∷ is) n e l zero m = let p = parts low high x is e in ne_eqb x n (λ r. omega arith)
+above_all low high (int (pos x) ∷ is) n e l (suc j) m = let p = parts low high x is e in above_all (x + 1) high is n p.2 (omega arith) j (omega arith)
+
+-- where it is above n
+pub none_from-next : (low high : ℕ) (is : List PlainValue) (n i k : ℕ) → ascend low high is ≡ true → i < length is → index_of (row_at is i) ≡ Some k → n < k → NoneFrom is n i
+none_from-next low high [] n i k e h f l j m = absurd (omega arith)
+none_from-next low high (null ∷ is) n i k e h f l j m = absurd cc
+none_from-next low high (int (negsuc x) ∷ is) n i k e h f l j m = absurd cc
+none_from-next low high (int (pos x) ∷ is) n zero k e h f l zero m = let same : x ≡ k = cc in ne_eqb x n (λ r. omega arith)
+none_from-next low high (int (pos x) ∷ is) n zero k e h f l (suc j) m = let same : x ≡ k = cc in above_all (x + 1) high is n (parts low high x is e).2 (omega arith) j (omega arith)
+none_from-next low high (int (pos x) ∷ is) n (suc i) k e h f l zero m = absurd (omega arith)
+none_from-next low high (int (pos x) ∷ is) n (suc i) k e h f l (suc j) m = none_from-next (x + 1) high is n i k (parts low high x is e).2 (omega arith) f l j (omega arith)
+
+-- ---- the place of a patch
+
+pub is_index-of : (v : PlainValue) (n : ℕ) → index_of v ≡ Some n → is_index v n ≡ true
+is_index-of null n e = absurd cc
+is_index-of (int (negsuc m)) n e = absurd cc
+is_index-of (int (pos m)) n e = eq-eqb m n cc
+
+pub place-first : (is : List PlainValue) (n i : ℕ) → NoneBelow is n i → i < length is → is_index (row_at is i) n ≡ true → place_of is n ≡ Some i
+place-first is n i b h e =
+    let at : position_or_len (λ v. is_index v n) is ≡ i = position_or_len_is (λ v. is_index v n) is i null (omega arith) b (λ _. e) in
+    rw at (cond-true _ _ _ (lt-ltb _ _ h))
+
+-- where the index at i is n
+pub place-found : (low high : ℕ) (is : List PlainValue) (n i : ℕ) → ascend low high is ≡ true → i < length is → index_of (row_at is i) ≡ Some n → place_of is n ≡ Some i
+place-found low high is n i e h f = place-first is n i (earlier low high is n i n e h f (omega arith)) h (is_index-of (row_at is i) n f)
+
+-- where none is
+pub place-none : (is : List PlainValue) (n i : ℕ) → NoneBelow is n i → NoneFrom is n i → place_of is n ≡ None
+place-none is n i b f =
+    let at : position_or_len (λ v. is_index v n) is ≡ length is = position_or_len_is (λ v. is_index v n) is (length is) null (omega arith) (λ j l. nowhere j) (λ l. absurd (omega arith)) in
+    rw at (cond-false _ _ _ (le-ltb (length is) (length is) (omega arith)))
+  where
+    nowhere : (j : ℕ) → is_index (row_at is j) n ≡ false
+    nowhere j = ⊎_elim (b j) (f j) (cases_lt j i)
+
+pub ruleset place_steps = (none_below-start, none_from-end, none_below-next, none_from-next, place-found, place-none)
+
+-- ---- what stands at a row, by the place of its patch
+
+first_patched : (is rs : List PlainValue) (fill : PlainValue) (n i : ℕ) → length is ≡ length rs → i < length is → NoneBelow is n i → is_index (row_at is i) n ≡ true → patched is rs fill n ≡ row_at rs i
+first_patched [] rs fill n i l h b e = absurd (omega arith)
+first_patched (j ∷ is) [] fill n i l h b e = absurd (omega arith)
+first_patched (j ∷ is) (r ∷ rs) fill n zero l h b e = cond-true _ _ _ e
+first_patched (j ∷ is) (r ∷ rs) fill n (suc i) l h b e =
+    cond-false _ _ _ (b 0 (omega arith)) ∙ first_patched is rs fill n i (omega arith) (omega arith) (λ k m. b (suc k) (omega arith)) e
+
+pub patched-place : (is rs : List PlainValue) (fill : PlainValue) (n i : ℕ) → length is ≡ length rs → place_of is n ≡ Some i → patched is rs fill n ≡ row_at rs i
+patched-place is rs fill n i l e = let p = position-Some (λ v. is_index v n) is i null e in first_patched is rs fill n i l p.0 p.2 p.1
+
+-- the place is one of the values'
+pub place-lt : (is rs : List PlainValue) (n i : ℕ) → length is ≡ length rs → place_of is n ≡ Some i → i < length rs
+place-lt is rs n i l e = let p = position-Some (λ v. is_index v n) is i null e in omega (arith, p.0)
+
+unpatched : (is rs : List PlainValue) (fill : PlainValue) (n : ℕ) → NoneBelow is n (length is) → patched is rs fill n ≡ fill
+unpatched [] rs fill n b = refl
+unpatched (j ∷ is) [] fill n b = refl
+unpatched (j ∷ is) (r ∷ rs) fill n b = cond-false _ _ _ (b 0 (omega arith)) ∙ unpatched is rs fill n (λ k m. b (suc k) (omega arith))
+
+pub patched-fill : (is rs : List PlainValue) (fill : PlainValue) (n : ℕ) → place_of is n ≡ None → patched is rs fill n ≡ fill
+patched-fill is rs fill n e = unpatched is rs fill n (λ j m. let past = no_place _ _ (ltb-false _ _) e in fails_before_first (λ v. is_index v n) is j null (omega arith))
+  where
+    no_place : (b : Bool) (k : ℕ) {P : Type 0} → (b ≡ false → P) → cond b (Some k) None ≡ None → P
+    no_place true k h e = absurd cc
+    no_place false k h e = h refl
+
+pub ruleset places = (patched-place, place-lt, patched-fill)
