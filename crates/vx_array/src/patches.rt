@@ -1,6 +1,6 @@
 //! Patches: how they are made, and which of them stands at a row.
 
-ghost use Rattle.std.specs.Prelude.{◌≡◌, ◌+◌, ℕ, ℤ, length, IsTrue};
+ghost use Rattle.std.specs.Prelude.{◌≡◌, ◌<◌, ◌≤◌, ◌+◌, ◌-◌, ◌*◌, ◌^◌, ℕ, ℤ, length, IsTrue};
 ghost use Rattle.vx_base.specs.Answers.{MakesSurely};
 ghost use Rattle.vx_base.specs.PlainType.{is_integer};
 ghost use Rattle.vx_base.specs.declared.dtype.Nullability.TheVariants.{NonNullable};
@@ -15,7 +15,8 @@ ghost use Rattle.vx_array.specs.IntsOf.{ptype_of, wholes_of};
 
 use crate::array::{ArrayRef, Patches};
 use crate::ints::Ints;
-use vx_base::{Refused, VortexError};
+use std::sync::ledger::Ledger;
+use vx_base::{Refused, Steps, VortexError};
 
 impl Patches {
     /// Patches of an array of `array_len` rows. Refuses MismatchedTypes where the indices are no non-nullable integers,
@@ -95,6 +96,30 @@ impl Patches {
         ensures { result.now ≡ self.now.values }
     {
         &self.values
+    }
+
+    /// The place of the row's patch, found by halves. `row` is below the array's length. Each index that is read is a
+    /// step: p steps with 2^p at most 2 * patches + 1.
+    #[tactic(auto, using(vx_model::proofs::PatchLemmas::place_steps))]
+    pub fn search<L: Ledger>(&self, row: u64, steps: &mut Steps<L>) -> Option<u64>
+        requires { row < self.now.array_len }
+        ensures place { result ≡ place_of (rows self.now.indices) (self.now.offset + row) }
+        ensures rose { steps.old ≤ steps.new }
+        ensures probes { 2 ^ (steps.new - steps.old) ≤ 2 * length (rows self.now.indices) + 1 }
+    {
+        let wanted = u128::from(self.offset) + u128::from(row);
+        let mut low = 0;
+        let mut high = self.indices.len();
+        while low < high {
+            let middle = low + (high - low) / 2;
+            steps.tick();
+            match as_index(self.indices.integer_at(middle)) {
+                Some(index) if index == wanted => return Some(middle),
+                Some(index) if index < wanted => low = middle + 1,
+                _ => high = middle,
+            }
+        }
+        None
     }
 
     // The place of the row's patch, found by halves.

@@ -9,6 +9,7 @@ pub mod PackedLemmas
 pub mod PackedOfLemmas
 pub mod PatchLemmas
 pub mod PatchWriteLemmas
+pub mod PatchedLemmas
 pub mod PlainLemmas
 pub mod RowLemmas
 pub mod SizeLemmas

@@ -9,31 +9,6 @@ use Rattle.vx_base.specs.PlainValue.{PlainValue, null, int}
 use Rattle.vx_model.specs.Rows.{row_at, patched, is_index, index_of, place_of}
 use Rattle.vx_model.specs.WellFormed.{ascend}
 
--- ---- one step of the look at each patch
-
--- where the row at i is the one that is wanted
-pub patched-found : (is rs : List PlainValue) (fill : PlainValue) (n i : ℕ) → length is ≡ length rs → i < length is → is_index (row_at is i) n ≡ true → patched (drop i is) (drop i rs) fill n ≡ row_at rs i
-patched-found [] rs fill n i l h e = absurd (omega arith)
-patched-found (j ∷ is) [] fill n i l h e = absurd (omega arith)
-patched-found (j ∷ is) (r ∷ rs) fill n zero l h e = rw e
-patched-found (j ∷ is) (r ∷ rs) fill n (suc i) l h e = patched-found is rs fill n i (omega arith) (omega arith) e
-
--- where it isn't
-pub patched-next : (is rs : List PlainValue) (fill : PlainValue) (n i : ℕ) → length is ≡ length rs → i < length is → is_index (row_at is i) n ≡ false → patched (drop i is) (drop i rs) fill n ≡ patched (drop (suc i) is) (drop (suc i) rs) fill n
-patched-next [] rs fill n i l h e = absurd (omega arith)
-patched-next (j ∷ is) [] fill n i l h e = absurd (omega arith)
-patched-next (j ∷ is) (r ∷ rs) fill n zero l h e = rw e
-patched-next (j ∷ is) (r ∷ rs) fill n (suc i) l h e = patched-next is rs fill n i (omega arith) (omega arith) e
-
-pub patched-end : (is rs : List PlainValue) (fill : PlainValue) (n i : ℕ) → length is ≡ length rs → length is ≤ i → patched (drop i is) (drop i rs) fill n ≡ fill
-patched-end [] rs fill n zero l h = refl
-patched-end [] rs fill n (suc i) l h = refl
-patched-end (j ∷ is) [] fill n i l h = absurd (omega arith)
-patched-end (j ∷ is) (r ∷ rs) fill n zero l h = absurd (omega arith)
-patched-end (j ∷ is) (r ∷ rs) fill n (suc i) l h = patched-end is rs fill n i (omega arith) (omega arith)
-
-pub ruleset patch_steps = (patched-found, patched-next, patched-end)
-
 -- ---- one step of the test that indices ascend
 
 ascend_head : (low high : ℕ) (v : PlainValue) (vs : List PlainValue) (n : ℕ) → index_of v ≡ Some n → ascend low high (v ∷ vs) ≡ (nat_le low n && nat_lt n high && ascend (n + 1) high vs)
@@ -169,33 +144,3 @@ place-none is n i b f =
     nowhere j = ⊎_elim (b j) (f j) (cases_lt j i)
 
 pub ruleset place_steps = (none_below-start, none_from-end, none_below-next, none_from-next, place-found, place-none)
-
--- ---- what stands at a row, by the place of its patch
-
-first_patched : (is rs : List PlainValue) (fill : PlainValue) (n i : ℕ) → length is ≡ length rs → i < length is → NoneBelow is n i → is_index (row_at is i) n ≡ true → patched is rs fill n ≡ row_at rs i
-first_patched [] rs fill n i l h b e = absurd (omega arith)
-first_patched (j ∷ is) [] fill n i l h b e = absurd (omega arith)
-first_patched (j ∷ is) (r ∷ rs) fill n zero l h b e = cond-true _ _ _ e
-first_patched (j ∷ is) (r ∷ rs) fill n (suc i) l h b e =
-    cond-false _ _ _ (b 0 (omega arith)) ∙ first_patched is rs fill n i (omega arith) (omega arith) (λ k m. b (suc k) (omega arith)) e
-
-pub patched-place : (is rs : List PlainValue) (fill : PlainValue) (n i : ℕ) → length is ≡ length rs → place_of is n ≡ Some i → patched is rs fill n ≡ row_at rs i
-patched-place is rs fill n i l e = let p = position-Some (λ v. is_index v n) is i null e in first_patched is rs fill n i l p.0 p.2 p.1
-
--- the place is one of the values'
-pub place-lt : (is rs : List PlainValue) (n i : ℕ) → length is ≡ length rs → place_of is n ≡ Some i → i < length rs
-place-lt is rs n i l e = let p = position-Some (λ v. is_index v n) is i null e in omega (arith, p.0)
-
-unpatched : (is rs : List PlainValue) (fill : PlainValue) (n : ℕ) → NoneBelow is n (length is) → patched is rs fill n ≡ fill
-unpatched [] rs fill n b = refl
-unpatched (j ∷ is) [] fill n b = refl
-unpatched (j ∷ is) (r ∷ rs) fill n b = cond-false _ _ _ (b 0 (omega arith)) ∙ unpatched is rs fill n (λ k m. b (suc k) (omega arith))
-
-pub patched-fill : (is rs : List PlainValue) (fill : PlainValue) (n : ℕ) → place_of is n ≡ None → patched is rs fill n ≡ fill
-patched-fill is rs fill n e = unpatched is rs fill n (λ j m. let past = no_place _ _ (ltb-false _ _) e in fails_before_first (λ v. is_index v n) is j null (omega arith))
-  where
-    no_place : (b : Bool) (k : ℕ) {P : Type 0} → (b ≡ false → P) → cond b (Some k) None ≡ None → P
-    no_place true k h e = absurd cc
-    no_place false k h e = h refl
-
-pub ruleset places = (patched-place, place-lt, patched-fill)

@@ -11,7 +11,8 @@ use Rattle.vx_model.specs.WellFormed.{WellFormed, ascend}
 use Rattle.vx_model.proofs.FrameLemmas.{difference-word}
 use Rattle.vx_model.proofs.PackedLemmas.{length-frame_of_reference}
 use Rattle.vx_model.proofs.PackedOfLemmas.{length-packed_of, row_at-packed_of, packed-packed_of, patches-packed_of}
-use Rattle.vx_model.proofs.PatchLemmas.{none_from-next, place-none, ascend-index, patched-place, patched-fill}
+use Rattle.vx_model.proofs.PatchLemmas.{none_from-next, place-none, ascend-index}
+use Rattle.vx_model.proofs.PatchedLemmas.{patched-place, patched-fill}
 use Rattle.vx_model.proofs.RowLemmas.{length-primitive, row_at-primitive}
 use Rattle.vx_array.specs.TreeOf.{unboxed}
 use Rattle.vx_array.proofs.AtNode.{at_node}

@@ -1,0 +1,19 @@
+use Rattle.std.proofs.Common.{◌-◌, ◌<◌, ◌≤◌, ◌+◌, ◌*◌, ◌^◌, length}
+use Rattle.vx_model.specs.Rows.{rows}
+use Rattle.vx_model.proofs.PatchLemmas.{NoneBelow, NoneFrom}
+use Rattle.vx_array.proofs.array.Patches.search.Given as goal
+
+abbrev pub invariant-loop-low : goal.invariant-loop-low
+invariant-loop-low g l =
+    record {
+      below : NoneBelow (rows l.fn.self.indices) (l.fn.self.offset + l.fn.row) l.low;
+      above : NoneFrom (rows l.fn.self.indices) (l.fn.self.offset + l.fn.row) l.high;
+      order : l.low ≤ l.high;
+      within : l.high ≤ length (rows l.fn.self.indices);
+      rose : l.fn.steps ≤ l.steps;
+      left : 2 ^ (l.steps - l.fn.steps) * (l.high - l.low) ≤ length (rows l.fn.self.indices);
+      probes : 2 ^ (l.steps - l.fn.steps) ≤ 2 * length (rows l.fn.self.indices) + 1;
+    }
+
+abbrev pub decreases-loop-low : goal.decreases-loop-low
+decreases-loop-low g l = l.high - l.low
