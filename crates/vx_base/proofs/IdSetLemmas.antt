@@ -1,16 +1,16 @@
 -- Bits set and cleared, and that sets with the same ids are equal.
-use Rattle.std.proofs.Common.{◌≡◌, ◌↔◌, ℕ, ◌+◌, ◌-◌, ◌*◌, ◌%◌, ◌^◌, ◌<◌, Bool, true, false, not, ◌||◌, ◌&&◌, List, [], ◌∷◌, length, bit_and, bit_or, w32, arith, ap, sym, refl, subst, ◌∙◌, eq-eqb, zero-add}
-use Rattle.std.specs.Prelude.{◌==◌, IsTrue, slice_index_or, zero, suc}
-use Rattle.std.specs.Cmp.{first_so, second_so}
+use Rattle.std.proofs.Common.{◌≡◌, ℕ, ◌+◌, ◌-◌, ◌*◌, ◌%◌, ◌^◌, ◌<◌, map, Bool, true, false, not, ◌||◌, ◌&&◌, List, [], ◌∷◌, length, bit_and, bit_or, w32, arith, ap, sym, refl, subst, ◌∙◌, eq-eqb, zero-add}
+use Rattle.std.specs.Prelude.{◌==◌, slice_index_or, zero, suc}
+use Rattle.std.specs.Cmp.{first_so, second_so, both_ways, booleans_Decides}
+use Rattle.std.specs.Cmp.Lexicographic.{pointwise_decides}
 use Rattle.std.specs.Int.{bit_at}
 use Rattle.std.proofs.lemmas.Bool.{eqb-true, eqb-false}
 use Rattle.std.proofs.lemmas.Bool.Decides.{nat_tests}
 use Rattle.std.proofs.lemmas.Nat.Bits.{bit_at_set_same, bit_at_set_other, bit_at_clear_same, bit_at_clear_other, same_from_bits_below, bit_at-lt}
 use Rattle.vx_base.specs.declared.array_id.ArrayId.{ArrayId}
-use Rattle.vx_base.specs.declared.array_id.ArrayId.TheVariants as ids
 use Rattle.vx_base.specs.declared.id_set.IdSet.{IdSet}
-use Rattle.vx_base.specs.IdNumber.{id_number, every_id, same_id}
-use Rattle.vx_base.specs.IdSets.{holds, same_set}
+use Rattle.vx_base.specs.IdNumber.{id_number, every_id}
+use Rattle.vx_base.specs.IdSets.{holds, members, same_set}
 
 pub id_number-lt : (id : ArrayId) → id_number id < 23
 id_number-lt id = grind arith
@@ -57,41 +57,18 @@ same_at a b same i within =
     let place : id_number found.0 ≡ i = found.1 ∙ zero-add i in
     same_bit (bit_at a.bits i) (bit_at b.bits i) (bit_at-lt a.bits i) (bit_at-lt b.bits i) (subst (λ n. (bit_at a.bits n == 1) ≡ (bit_at b.bits n == 1)) place (same found.0))
 
--- two sets are equal exactly where they have the same ids
-pub same_set-holds : (a b : IdSet) → IsTrue (same_set a b) ↔ ((id : ArrayId) → holds a id ≡ holds b id)
-same_set-holds a b = (
-  (λ e id. ap (λ n. bit_at n (id_number id) == 1) (eqb-true a.bits b.bits e)),
-  (λ same. eq-eqb a.bits b.bits (same_from_bits_below 23 a.bits b.bits a.within b.within (same_at a b same))),
-)
+-- where an id stands among the members
+member-at : (set : IdSet) (id : ArrayId) → slice_index_or (members set) (id_number id) false ≡ holds set id
+member-at set id = grind arith
 
-every_id-number : (id : ArrayId) → slice_index_or every_id (id_number id) ids.Null ≡ id
-every_id-number ids.Null = refl
-every_id-number ids.Bool = refl
-every_id-number ids.Primitive = refl
-every_id-number ids.VarBinView = refl
-every_id-number ids.Struct = refl
-every_id-number ids.List = refl
-every_id-number ids.FixedSizeList = refl
-every_id-number ids.Timestamp = refl
-every_id-number ids.Constant = refl
-every_id-number ids.Masked = refl
-every_id-number ids.Dict = refl
-every_id-number ids.VarBin = refl
-every_id-number ids.Sparse = refl
-every_id-number ids.DateTimeParts = refl
-every_id-number ids.RunEnd = refl
-every_id-number ids.BitPacked = refl
-every_id-number ids.BitPackedV2 = refl
-every_id-number ids.FoR = refl
-every_id-number ids.FoRV2 = refl
-every_id-number ids.Delta = refl
-every_id-number ids.Rle = refl
-every_id-number ids.ZigZag = refl
-every_id-number ids.Sequence = refl
-
--- two ids are one exactly where their places are
-pub same_id-≡ : (a b : ArrayId) → IsTrue (same_id a b) ↔ (a ≡ b)
-same_id-≡ a b = (
-  (λ e. sym (every_id-number a) ∙ ap (λ n. slice_index_or every_id n ids.Null) (eqb-true (id_number a) (id_number b) e) ∙ every_id-number b),
-  (λ e. eq-eqb (id_number a) (id_number b) (ap id_number e)),
-)
+-- two sets have the same bits exactly where they have the same ids
+pub same_bits : (a b : IdSet) → (a.bits == b.bits) ≡ same_set a b
+same_bits a b =
+    let members_decide = pointwise_decides booleans_Decides (members a) (members b) in
+    let alike : (e : same_set a b ≡ true) → (id : ArrayId) → holds a id ≡ holds b id =
+    λ e id. sym (member-at a id) ∙ ap (λ xs. slice_index_or xs (id_number id) false) (members_decide.0 e) ∙ member-at b id in
+    both_ways
+      (a.bits == b.bits)
+      (same_set a b)
+      (λ e. members_decide.1 (ap (λ n. map (λ id. bit_at n (id_number id) == 1) every_id) (eqb-true a.bits b.bits e)))
+      (λ e. eq-eqb a.bits b.bits (same_from_bits_below 23 a.bits b.bits a.within b.within (same_at a b (alike e))))

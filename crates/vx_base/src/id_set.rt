@@ -78,6 +78,7 @@ impl PartialEq for IdSet {
 
     ghost laws = { Prim.search (comparing, rules) };
 
+    #[tactic(auto, using(crate::proofs::IdSetLemmas::same_bits))]
     fn eq(&self, other: &IdSet) -> bool {
         self.bits == other.bits
     }
