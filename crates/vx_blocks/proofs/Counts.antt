@@ -1,16 +1,20 @@
-use Rattle.std.proofs.Common.{◌≡◌, ℕ, ◌+◌, ◌^◌, ◌<◌, ◌≤◌, Bool, true, false, List, length, get_or, sum, set, take, ap, ◌∙◌, arith, get_or-set_other, get_or-set_same, eqb, inl, inr, lit<, subst}
+use Rattle.std.proofs.Common.{◌≡◌, ℕ, ◌+◌, ◌-◌, ◌^◌, ◌<◌, ◌≤◌, Bool, true, false, List, [], ◌∷◌, ◌++◌, length, get_or, sum, set, take, replicate, cond, ap, ◌∙◌, refl, arith, get_or-set_other, get_or-set_same, eqb, inl, inr, lit<}
 use Rattle.std.proofs.Math.ListN.{length-set}
 use Rattle.std.proofs.Math.Nat as nat
 use Rattle.std.proofs.lemmas.Bool.{cases_lt, cases_eq}
 use Rattle.std.proofs.lemmas.Bool.Decides.{nat_tests}
-use Rattle.std.proofs.lemmas.List.Sums.{count_by_more_yes, count_by_more_no, count_by-le-length, sum_by-set}
-use Rattle.std.proofs.lemmas.List.{length-take}
-use Rattle.std.proofs.lemmas.Nat.{leading_length}
+use Rattle.std.proofs.lemmas.List.Sums.{sum_by-append, sum_by_push, sum_by-set, sum_by_more, sum_by-take-le}
+use Rattle.std.proofs.lemmas.List.Folds.{sum_by-replicate}
+use Rattle.std.proofs.lemmas.List.{length-append, set-get_or, take-set-le, get_or-replicate}
+use Rattle.std.proofs.lemmas.Nat.{leading_length, leading_le}
+use Rattle.std.specs.Int.Count.{count_leading_zeros}
 use Rattle.vx_base.specs.Digits.{digits}
-use Rattle.vx_blocks.specs.Histogram.{IsHistogram}
 use Rattle.vx_base.specs.Packed.{field}
+use Rattle.vx_blocks.specs.Histogram.{AreByZeros, IsHistogram}
+use Rattle.vx_blocks.proofs.Rows.{field-fits}
+use mir.Val.{bool_byte}
 
-pub digits-le : (bits k : ℕ) → bits < 2 ^ 64 → bits < 2 ^ k → digits bits ≤ k
+digits-le : (bits k : ℕ) → bits < 2 ^ 64 → bits < 2 ^ k → digits bits ≤ k
 digits-le bits k h small =
     let m = leading_length 64 bits h in
     elim (cases_lt k m.0) [
@@ -18,38 +22,91 @@ digits-le bits k h small =
       | inr le ↦ omega (arith, m.1)
     ]
 
-pub digits-enough : (bits : ℕ) → bits < 2 ^ 64 → bits < 2 ^ digits bits
-digits-enough bits h =
-    let m = leading_length 64 bits h in
-    let e : m.0 ≡ digits bits = omega (arith, m.1) in
-    subst (λ k. bits < 2 ^ k) e m.2
-
-pub field-le : (width bits : ℕ) (valid : Bool) → field width bits valid ≤ bits
-field-le width bits true = grind (arith, nat_tests)
-field-le width bits false = omega arith
-
-sum-add_one : (xs : List ℕ) (i : ℕ) → i < length xs → sum (set xs i (get_or xs i 0 + 1)) ≡ sum xs + 1
-sum-add_one xs i h = omega (arith, sum_by-set (λ x. x) xs i (get_or xs i 0 + 1) 0 h)
-
-pub histogram-more : (width : ℕ) (rows : List ℕ) (i : ℕ) (counts : List ℕ) (place : ℕ) → IsHistogram width (take i rows) counts → i < length rows → place ≡ digits (get_or rows i 0) → place < width + 1
-    → IsHistogram width (take (i + 1) rows) (set counts place (get_or counts place 0 + 1))
-histogram-more width rows i counts place h lt is within =
+-- ---- one row more
+by_zeros-counted : (width : ℕ) (rows counts : List ℕ) (row place : ℕ) → AreByZeros width rows counts → length counts ≡ 65 → place ≡ count_leading_zeros 64 row → digits row ≤ width
+    → AreByZeros width (rows ++ row ∷ []) (set counts place (get_or counts place 0 + 1))
+by_zeros-counted width rows counts row place h size is small =
+    let le : place ≤ 64 = omega (arith, leading_le 64 row) in
+    let room : place < length counts = omega arith in
+    let more = sum_by-set (λ x. x) counts place (get_or counts place 0 + 1) 0 room in
+    let len = length-append rows (row ∷ []) in
     record {
-      size = length-set counts place (get_or counts place 0 + 1) ∙ h.size;
-      each = λ w below. elim (cases_eq w place) [
-        | inl same ↦
-            let yes : eqb (digits (get_or rows i 0)) w ≡ true = grind (arith, nat_tests) in
-            let room : place < length counts = omega (arith, h.size) in
-            rw (count_by_more_yes (λ row. eqb (digits row) w) rows i 0 lt yes, same, get_or-set_same) (ap (λ n. n + 1) (h.each place within))
-        | inr other ↦
-            let no : eqb (digits (get_or rows i 0)) w ≡ false = grind (arith, nat_tests) in
-            rw (get_or-set_other, count_by_more_no (λ row. eqb (digits row) w) rows i 0 lt no) (h.each w below)
-      ];
-      total = sum-add_one counts place (omega (arith, h.size)) ∙ omega (arith, h.total, length-take i rows, length-take (i + 1) rows);
+      each = λ w some below.
+          let push = sum_by_push (λ r. cond (eqb (digits r) w) 1 0) rows row in
+          elim (cases_eq (64 - w) place) [
+            | inl same ↦
+                let yes : eqb (digits row) w ≡ true = grind (arith, nat_tests) in
+                rw (push, yes, same, get_or-set_same) (ap (λ n. n + 1) (rw same at (h.each w some below)))
+            | inr other ↦
+                let no : eqb (digits row) w ≡ false = grind (arith, nat_tests) in
+                rw (push, no, get_or-set_other) (omega (arith, h.each w some below))
+          ];
+      left_out =
+          let push = sum_by_push (λ r. cond (eqb (digits r) 0) 1 0) rows row in
+          elim (cases_eq 64 place) [
+            | inl same ↦
+                let yes : eqb (digits row) 0 ≡ true = grind (arith, nat_tests) in
+                rw (push, yes, same, get_or-set_same) (omega (arith, h.left_out, rw same at h.left_out, more, len))
+            | inr other ↦
+                let no : eqb (digits row) 0 ≡ false = grind (arith, nat_tests) in
+                rw (push, no, get_or-set_other) (omega (arith, h.left_out, more, len))
+          ];
+      within = rw (take-set-le (64 - width) counts place (get_or counts place 0 + 1) (omega arith)) h.within;
+      most = omega (arith, h.most, more, len);
     }
 
-pub histogram-room : (width : ℕ) (rows : List ℕ) (i : ℕ) (counts : List ℕ) (place : ℕ) → IsHistogram width (take i rows) counts → place < width + 1 → length rows < 2 ^ 40 → get_or counts place 0 < 2 ^ 63
-histogram-room width rows i counts place h within few =
-    let e = h.each place within in
-    let le = count_by-le-length (λ row. eqb (digits row) place) (take i rows) in
-    omega (arith, length-take i rows)
+by_zeros-null : (width : ℕ) (rows counts : List ℕ) → AreByZeros width rows counts → AreByZeros width (rows ++ 0 ∷ []) counts
+by_zeros-null width rows counts h =
+    let len = length-append rows (0 ∷ []) in
+    let none : digits 0 ≤ 0 = digits-le 0 0 (omega arith) (omega arith) in
+    let yes : eqb (digits 0) 0 ≡ true = grind (arith, nat_tests) in
+    record {
+      each = λ w some below.
+          let no : eqb (digits 0) w ≡ false = grind (arith, nat_tests) in
+          rw (sum_by_push (λ r. cond (eqb (digits r) w) 1 0) rows 0, no) (omega (arith, h.each w some below));
+      left_out = rw (sum_by_push (λ r. cond (eqb (digits r) 0) 1 0) rows 0, yes) (omega (arith, h.left_out, len));
+      within = h.within;
+      most = omega (arith, h.most, len);
+    }
+
+pub by_zeros-push : (width : ℕ) (rows counts : List ℕ) (bits : ℕ) (valid : Bool) → AreByZeros width rows counts → length counts ≡ 65 → bits < 2 ^ 64 → bits < 2 ^ width
+    → AreByZeros width (rows ++ field 64 bits valid ∷ []) (set counts (count_leading_zeros 64 bits) (get_or counts (count_leading_zeros 64 bits) 0 + bool_byte valid))
+by_zeros-push width rows counts bits true h size held small =
+    rw (field-fits 64 bits true refl held) (by_zeros-counted width rows counts bits (count_leading_zeros 64 bits) h size refl (digits-le bits width held small))
+by_zeros-push width rows counts bits false h size held small =
+    let place = count_leading_zeros 64 bits in
+    let same : set counts place (get_or counts place 0 + 0) ≡ counts = ap (set counts place) (omega arith) ∙ set-get_or counts place 0 in
+    rw same (by_zeros-null width rows counts h)
+
+pub by_zeros-none : (width : ℕ) → AreByZeros width [] (replicate 65 0)
+by_zeros-none width =
+    let none = sum_by-replicate (λ n. n) 65 0 in
+    record {
+      each = λ w some below. get_or-replicate {A = ℕ} 65 (64 - w) 0 0 (omega arith);
+      left_out = omega (arith, none, get_or-replicate {A = ℕ} 65 64 0 0 (omega arith));
+      within = omega (arith, none, sum_by-take-le (λ n. n) (replicate 65 0) (64 - width));
+      most = omega (arith, none);
+    }
+
+-- ---- by digits
+-- the entry of one width more, which is at k by leading zeros
+pub sums-more : (counts first second : List ℕ) (w j k total : ℕ) → w < length counts → get_or counts w 0 ≡ 0 → j ≡ k + 1 → k < length first → k < length second
+    → sum counts + sum (take j first) + sum (take j second) ≡ total → sum (set counts w (get_or first k 0 + get_or second k 0)) + sum (take k first) + sum (take k second) ≡ total
+sums-more counts first second w j k total room zero is lt less before =
+    omega (arith, rw is at before, zero, sum_by-set (λ n. n) counts w (get_or first k 0 + get_or second k 0) 0 room, sum_by_more (λ n. n) first k 0 lt, sum_by_more (λ n. n) second k 0 less)
+
+pub histogram-sum : (width : ℕ) (rows more first second counts : List ℕ) (count : ℕ) → AreByZeros width rows first → AreByZeros width more second → width ≤ 64 → length counts ≡ width + 1
+    → ((w : ℕ) → w < width + 1 → get_or counts w 0 ≡ get_or first (64 - w) 0 + get_or second (64 - w) 0) → sum counts ≡ sum first + sum second → length rows + length more ≡ count
+    → IsHistogram width (rows ++ more) (set counts 0 (get_or counts 0 0 + (count - sum counts)))
+histogram-sum width rows more first second counts count h k wide size each total all =
+    let room : 0 < length counts = omega arith in
+    record {
+      size = length-set counts 0 (get_or counts 0 0 + (count - sum counts)) ∙ size;
+      each = λ w below.
+          let both = sum_by-append (λ r. cond (eqb (digits r) w) 1 0) rows more in
+          elim (cases_eq w 0) [
+            | inl same ↦ rw (both, same, get_or-set_same) (omega (arith, each 0 (omega arith), h.left_out, k.left_out, h.most, k.most))
+            | inr other ↦ rw (both, get_or-set_other) (omega (arith, each w below, h.each w (omega arith) (omega arith), k.each w (omega arith) (omega arith)))
+          ];
+      total = omega (arith, sum_by-set (λ x. x) counts 0 (get_or counts 0 0 + (count - sum counts)) 0 room, h.most, k.most, length-append rows more);
+    }

@@ -1,34 +1,51 @@
 //! How wide rows are, and which width costs least.
 
-ghost use Rattle.std.specs.Prelude.{◌≡◌, ◌<◌, ◌≤◌, ◌+◌, ◌-◌, ◌*◌, ◌^◌, ℕ, length, map, slice_index, slice_set, sum};
+ghost use Rattle.std.specs.Prelude.{◌≡◌, ◌<◌, ◌≤◌, ◌+◌, ◌-◌, ◌^◌, ◌++◌, ◌∷◌, [], ℕ, List, length, map, sum};
 ghost use Rattle.vx_base.specs.Answers.{OrMemory};
-ghost use Rattle.vx_base.specs.Digits.{digits};
 ghost use Rattle.vx_base.specs.Integers.{bits_in, bits_of, bytes_of};
-ghost use Rattle.vx_base.specs.Packed.{fields};
+ghost use Rattle.vx_base.specs.Packed.{field, fields};
 ghost use Rattle.vx_blocks.specs.Cost.{IsBest, cost};
-ghost use Rattle.vx_blocks.specs.Histogram.{IsHistogram};
+ghost use Rattle.vx_blocks.specs.Histogram.{AreByZeros, IsHistogram};
 
-use crate::filling::fit;
 use std::alloc::Global;
 use vx_base::{Integer, Mask, PType, VortexResult};
 
-// How many binary digits the number has: the least k with the number below 2^k.
+// Counts one row more by its leading zeros. A null adds nothing, so that there is no branch.
 #[inline(always)]
-fn digits(bits: u64) -> u32
-    ensures value { result ≡ digits bits }
-    ensures enough { bits < 2 ^ result }
-    ensures least { (k : ℕ) → bits < 2 ^ k → result ≤ k }
+fn count_row<T: Integer>(counts: &mut [u64; 65], value: T, valid: bool)
+    requires { sum counts.old < 2 ^ 64 - 1 }
+    ensures { (rows : List ℕ) → AreByZeros (bits_of T.kind) rows counts.old → AreByZeros (bits_of T.kind) (rows ++ field 64 (bits_in T.kind (T.whole value)) valid ∷ []) counts.new }
 {
-    64 - bits.leading_zeros()
+    counts[value.to_bits().leading_zeros() as usize] += valid as u64;
 }
 
-#[inline(always)]
-fn add_one(counts: &mut Vec<u64>, place: usize)
-    requires place { place < length counts.old.items }
-    requires room { slice_index counts.old.items place < 2 ^ 64 - 1 }
-    ensures { counts.new.items ≡ slice_set counts.old.items place (slice_index counts.old.items place + 1) }
+// The sum of the entries.
+fn total(counts: &[u64]) -> u64
+    requires { sum counts.now < 2 ^ 64 }
+    ensures { result ≡ sum counts.now }
 {
-    counts[place] += 1;
+    counts.iter().sum()
+}
+
+// The histogram of rows that two tables count by their leading zeros.
+fn by_digits(
+    alloc: Global,
+    first: &[u64; 65],
+    second: &[u64; 65],
+    width: usize,
+    rows: u64,
+) -> VortexResult<Vec<u64>>
+    requires width { width ≤ 64 }
+    requires most { sum first.now + sum second.now ≤ rows }
+    ensures { OrMemory result (λ counts. (front back : List ℕ) → AreByZeros width front first.now → AreByZeros width back second.now → length front + length back ≡ rows → IsHistogram width (front ++ back) counts.items) }
+{
+    let mut counts = vec![in alloc; 0u64; width + 1]?;
+    for w in 0..width + 1 {
+        counts[w] = first[64 - w] + second[64 - w];
+    }
+    // The rows that are left are null.
+    counts[0] += rows - total(&counts);
+    Ok(counts)
 }
 
 fn count_widths<T: Integer>(alloc: Global, values: &[T], valid: &[bool]) -> VortexResult<Vec<u64>>
@@ -36,13 +53,21 @@ fn count_widths<T: Integer>(alloc: Global, values: &[T], valid: &[bool]) -> Vort
     ensures total { OrMemory result (λ counts. sum counts.items ≡ length values.now) }
     ensures widths { OrMemory result (λ counts. IsHistogram (bits_of T.kind) (fields 64 (map (bits_in T.kind) (map T.whole values.now)) valid.now) counts.items) }
 {
-    let width = T::ptype().bit_width() as usize;
-    let mut counts = vec![in alloc; 0u64; width + 1]?;
-    for i in 0..values.len() {
-        let bits = fit(values[i].to_bits(), valid[i], 64);
-        let place = digits(bits) as usize;
-        add_one(&mut counts, place);
+    let half = values.len() / 2;
+    let start = values.len() - half;
+    let mut first = [0u64; 65];
+    let mut second = [0u64; 65];
+    // Both halves at once, so that a row doesn't wait for the count of the row before it.
+    for i in 0..half {
+        count_row(&mut first, values[i], valid[i]);
+        count_row(&mut second, values[start + i], valid[start + i]);
     }
+    // The row in the middle, if there is one.
+    for i in half..start {
+        count_row(&mut first, values[i], valid[i]);
+    }
+    let width = T::ptype().bit_width() as usize;
+    let counts = by_digits(alloc, &first, &second, width, values.len() as u64)?;
     Ok(counts)
 }
 
@@ -58,14 +83,6 @@ pub fn bit_width_histogram<T: Integer>(
     ensures widths { OrMemory result (λ counts. IsHistogram (bits_of T.kind) (fields 64 (map (bits_in T.kind) (map T.whole values.now)) valid.now) counts.items) }
 {
     count_widths(alloc, values, valid.as_slice())
-}
-
-// The sum of the entries.
-fn total(counts: &[u64]) -> u64
-    requires { sum counts.now ≤ 2 ^ 32 }
-    ensures { result ≡ sum counts.now }
-{
-    counts.iter().sum()
 }
 
 /// The first width of least cost, from 0 bits to the type's. A width costs the bytes of the rows packed at it, and for

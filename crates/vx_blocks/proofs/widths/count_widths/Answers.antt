@@ -1,12 +1,13 @@
-use Rattle.std.proofs.Common.{arith, length, ◌≡◌, ◌≤◌, map, ap, ◌∙◌, false, get_or}
-use Rattle.std.proofs.Math.Nat as nat
-use Rattle.vx_base.specs.Packed.{fields, field}
-use Rattle.vx_base.specs.Digits.{digits}
-use Rattle.vx_blocks.proofs.Counts.{histogram-more, field-le}
-use Rattle.vx_blocks.proofs.Rows.{fields-at, fields-length, fields_all}
-use Rattle.vx_base.specs.Integers.{bits_in}
-use Rattle.vx_base.specs.Integers.{bits_of}
+use Rattle.std.proofs.Common.{arith, length, ◌≡◌, ◌+◌, ◌-◌, ◌/◌, map, ap, ◌∙◌, refl, take, drop}
+use Rattle.std.proofs.lemmas.List.{take_more, take_all, take-append-drop, length-take, length-drop, get_or-drop}
+use Rattle.vx_base.specs.Packed.{fields}
+use Rattle.vx_base.specs.Integers.{bits_in, bits_of}
+use Rattle.vx_blocks.proofs.Counts.{by_zeros-none}
+use Rattle.vx_blocks.proofs.Rows.{fields-at, fields-length}
 use Rattle.vx_blocks.proofs.widths.count_widths.Goals as goal
+
+pub loop-i-init : goal.loop-i-init
+loop-i-init g c = record { first = by_zeros-none (bits_of g.T.Integer.kind); second = by_zeros-none (bits_of g.T.Integer.kind) }
 
 pub loop-i-preserved : goal.loop-i-preserved
 loop-i-preserved g c =
@@ -14,24 +15,38 @@ loop-i-preserved g c =
     let h = g.T.Integer.whole in
     let rows = fields 64 (map f (map h c.args.values.now)) c.args.valid.now in
     let len = fields-length f h 64 c.args.values.now c.args.valid.now c.requires in
-    let valid = get_or c.args.valid.now c.loop-i.i false in
-    let is : c.fit-bits.result ≡ field 64 (f (h c.index-values-i.result)) valid = c.fit-bits.ensures ∙ ap (λ b. field 64 b valid) c.to_bits.ensures.value in
-    let at = fields-at f h 64 c.args.values.now c.args.valid.now c.loop-i.i c.index-values-i.result c.fit-bits.result c.requires c.loop-i-test.true c.index-values-i.is is in
-    let small : c.digits-place.result ≤ bits_of g.T.Integer.kind =
-    c.digits-place.ensures.least (bits_of g.T.Integer.kind) (rw is (nat.lt_of_le_of_lt (field-le 64 (f (h c.index-values-i.result)) valid) (rw c.to_bits.ensures.value at c.to_bits.ensures.small))) in
-    let more = histogram-more (bits_of g.T.Integer.kind) rows c.loop-i.i c.loop-i.counts.items c.digits-place.result c.loop-i.invariant (omega (arith, len)) (c.digits-place.ensures.value ∙ ap digits at) (omega arith) in
-    rw c.add_one.ensures more
+    let start = length c.args.values.now - length c.args.values.now / 2 in
+    let at = fields-at f h 64 c.args.values.now c.args.valid.now c.loop-i.i c.index-values-i.result _ c.requires (omega arith) c.index-values-i.is refl in
+    let at-second = fields-at f h 64 c.args.values.now c.args.valid.now (start + c.loop-i.i) c.index-values-start.result _ c.requires (omega arith) c.index-values-start.is refl in
+    record {
+      first = rw (take_more rows c.loop-i.i 0 (omega (arith, len)), ← at) (c.count_row.ensures (take c.loop-i.i rows) c.loop-i.invariant.first);
+      second = rw (take_more (drop start rows) c.loop-i.i 0 (omega (arith, len, length-drop start rows)), get_or-drop start rows c.loop-i.i 0, ← at-second) (c.count_row-in-loop-i.ensures (take c.loop-i.i (drop start rows)) c.loop-i.invariant.second);
+    }
+
+pub loop-i-2-preserved : goal.loop-i-2-preserved
+loop-i-2-preserved g c =
+    let f = bits_in g.T.Integer.kind in
+    let h = g.T.Integer.whole in
+    let rows = fields 64 (map f (map h c.args.values.now)) c.args.valid.now in
+    let len = fields-length f h 64 c.args.values.now c.args.valid.now c.requires in
+    let at = fields-at f h 64 c.args.values.now c.args.valid.now c.loop-i-2.i c.index-values-i-in-loop-i-2.result _ c.requires (omega arith) c.index-values-i-in-loop-i-2.is refl in
+    rw (take_more rows c.loop-i-2.i 0 (omega (arith, len)), ← at) (c.count_row-in-loop-i-2.ensures (take c.loop-i-2.i rows) c.loop-i-2.invariant)
 
 pub returns-clause-widths : goal.returns-clause-widths
 returns-clause-widths g c =
     let f = bits_in g.T.Integer.kind in
     let h = g.T.Integer.whole in
-    let all = fields_all f h 64 c.args.values.now c.args.valid.now c.loop-i.i c.requires c.loop-i-test.false in
-    rw all at c.loop-i.invariant
+    let rows = fields 64 (map f (map h c.args.values.now)) c.args.valid.now in
+    let len = fields-length f h 64 c.args.values.now c.args.valid.now c.requires in
+    let start = length c.args.values.now - length c.args.values.now / 2 in
+    let end : c.loop-i-2.i ≡ start = omega arith in
+    let last = take_all c.loop-i.i (drop start rows) (omega (arith, len, length-drop start rows)) in
+    let width : c.bit_width-width.result ≡ bits_of g.T.Integer.kind = c.bit_width-width.ensures.width ∙ ap bits_of c.ptype.ensures in
+    let first = rw (end, ← width) at c.loop-i-2.invariant in
+    let second = rw (last, ← width) at c.loop-i.invariant.second in
+    let all : length (take start rows) + length (drop start rows) ≡ length c.args.values.now = omega (arith, len, length-take start rows, length-drop start rows) in
+    let whole = c.in_ok-counts.ensures (take start rows) (drop start rows) first second all in
+    rw (width, take-append-drop start rows) at whole
 
 pub returns-clause-total : goal.returns-clause-total
-returns-clause-total g c =
-    let f = bits_in g.T.Integer.kind in
-    let h = g.T.Integer.whole in
-    let all = fields_all f h 64 c.args.values.now c.args.valid.now c.loop-i.i c.requires c.loop-i-test.false in
-    c.loop-i.invariant.total ∙ ap length all ∙ fields-length f h 64 c.args.values.now c.args.valid.now c.requires
+returns-clause-total g c = (returns-clause-widths g c).total ∙ fields-length (bits_in g.T.Integer.kind) g.T.Integer.whole 64 c.args.values.now c.args.valid.now c.requires

@@ -1,0 +1,11 @@
+use Rattle.std.proofs.Common.{◌≡◌, ◌+◌, ◌-◌, ◌<◌, ◌≤◌, ℕ, length, sum, take, get_or}
+use Rattle.vx_blocks.proofs.widths.by_digits.Given as goal
+
+abbrev pub invariant-loop-w : goal.invariant-loop-w
+invariant-loop-w l =
+    record {
+      size : length l.counts.items ≡ l.width + 1;
+      each : (k : ℕ) → k < l.w → get_or l.counts.items k 0 ≡ get_or l.first (64 - k) 0 + get_or l.second (64 - k) 0;
+      later : (k : ℕ) → l.w ≤ k → k < l.width + 1 → get_or l.counts.items k 0 ≡ 0;
+      total : sum l.counts.items + sum (take (65 - l.w) l.first) + sum (take (65 - l.w) l.second) ≡ sum l.first + sum l.second;
+    }
