@@ -98,6 +98,13 @@ impl Patches {
         &self.values
     }
 
+    // The index that a patch of the row has.
+    fn index_at(&self, row: u64) -> u128
+        ensures { result ≡ self.now.offset + row }
+    {
+        u128::from(self.offset) + u128::from(row)
+    }
+
     /// The place of the row's patch, found by halves. `row` is below the array's length. Each index that is read is a
     /// step: p steps with 2^p at most 2 * patches + 1.
     #[tactic(auto, using(vx_model::proofs::PatchLemmas::place_steps))]
@@ -107,7 +114,7 @@ impl Patches {
         ensures rose { steps.old ≤ steps.new }
         ensures probes { 2 ^ (steps.new - steps.old) ≤ 2 * length (rows self.now.indices) + 1 }
     {
-        let wanted = u128::from(self.offset) + u128::from(row);
+        let wanted = self.index_at(row);
         let mut low = 0;
         let mut high = self.indices.len();
         while low < high {
@@ -128,7 +135,7 @@ impl Patches {
     pub(crate) fn place_of(&self, row: u64) -> Option<u64>
         ensures { result ≡ place_of (rows self.now.indices) (self.now.offset + row) }
     {
-        let wanted = u128::from(self.offset) + u128::from(row);
+        let wanted = self.index_at(row);
         let mut low = 0;
         let mut high = self.indices.len();
         while low < high {

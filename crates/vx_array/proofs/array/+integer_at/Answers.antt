@@ -110,8 +110,7 @@ Patches::place_of-loop-low-preserved-in_default t c =
     let within : middle < length (rows p.indices) = omega (arith, inv.2, inv.3, c.loop-low-test.true) in
     let found : index_of (row_at (rows p.indices) middle) ≡ Some c.in-Some-2.index =
     sym (c.as_index.ensures ∙ ap index_of c.integer_at.ensures ∙ ap (λ q. index_of (row_at (rows q.indices) middle)) c.self.view_is) ∙ c.in-Some-2.is in
-    let offset = ap (λ q. q.offset) c.self.view_is in
-    let past : p.offset + c.args.row < c.in-Some-2.index = omega (arith, offset, c.from.ensures, c.from-2.ensures, c.if-index-wanted.false, c.if-index-wanted-2.false) in
+    let past : p.offset + c.args.row < c.in-Some-2.index = omega (arith, c.index_at-wanted.ensures, c.if-index-wanted.false, c.if-index-wanted-2.false) in
     (inv.0, none_from-next p.offset (p.offset + p.array_len) _ _ _ c.in-Some-2.index ascending within found past, omega arith, omega (arith, within))
 
 pub Patches::place_of-loop-low-preserved : goal.Patches::place_of-loop-low-preserved

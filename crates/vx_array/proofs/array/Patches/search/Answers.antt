@@ -19,8 +19,7 @@ loop-low-preserved-then-index-wanted-2 g c =
     let within : middle < length (rows p.indices) = omega (arith, inv.order, inv.within, c.loop-low-test.true) in
     let found : index_of (row_at (rows p.indices) middle) ≡ Some c.in-Some-2.index =
     sym (c.as_index.ensures ∙ ap index_of c.integer_at.ensures ∙ ap (λ q. index_of (row_at (rows q.indices) middle)) c.self.view_is) ∙ c.in-Some-2.is in
-    let offset = ap (λ q. q.offset) c.self.view_is in
-    let before : c.in-Some-2.index < p.offset + c.args.row = omega (arith, offset, c.from.ensures, c.from-2.ensures, c.if-index-wanted-2.true) in
+    let before : c.in-Some-2.index < p.offset + c.args.row = omega (arith, c.index_at-wanted.ensures, c.if-index-wanted-2.true) in
     let looks = looks-after c.args.steps.now c.loop-low.steps c.tick.new.self c.loop-low.low c.loop-low.high (c.loop-low.high - (middle + 1)) (length (rows p.indices)) inv.rose c.tick.ensures c.loop-low-test.true (omega arith) inv.left in
     record {
       below = none_below-next p.offset (p.offset + p.array_len) _ _ _ c.in-Some-2.index ascending within found before;
@@ -41,8 +40,7 @@ loop-low-preserved-in_default g c =
     let within : middle < length (rows p.indices) = omega (arith, inv.order, inv.within, c.loop-low-test.true) in
     let found : index_of (row_at (rows p.indices) middle) ≡ Some c.in-Some-2.index =
     sym (c.as_index.ensures ∙ ap index_of c.integer_at.ensures ∙ ap (λ q. index_of (row_at (rows q.indices) middle)) c.self.view_is) ∙ c.in-Some-2.is in
-    let offset = ap (λ q. q.offset) c.self.view_is in
-    let past : p.offset + c.args.row < c.in-Some-2.index = omega (arith, offset, c.from.ensures, c.from-2.ensures, c.if-index-wanted.false, c.if-index-wanted-2.false) in
+    let past : p.offset + c.args.row < c.in-Some-2.index = omega (arith, c.index_at-wanted.ensures, c.if-index-wanted.false, c.if-index-wanted-2.false) in
     let looks = looks-after c.args.steps.now c.loop-low.steps c.tick.new.self c.loop-low.low c.loop-low.high (middle - c.loop-low.low) (length (rows p.indices)) inv.rose c.tick.ensures c.loop-low-test.true (omega arith) inv.left in
     record {
       below = inv.below;
