@@ -1,9 +1,9 @@
 //! Lists of integers of one type.
 
-ghost use Rattle.std.specs.Prelude.{◌≡◌, ◌<◌, length, slice_index_or, pos, IsTrue, replicate, true, map, option_map, nat_lt, ◌^◌, ◌+ℤ◌, slice_set};
+ghost use Rattle.std.specs.Prelude.{◌≡◌, ◌<◌, length, slice_index_or, pos, IsTrue, replicate, true, map, option_map, ◌+ℤ◌, slice_set};
 ghost use Rattle.std.specs.List.{list_all};
 ghost use Rattle.vx_base.specs.Answers.{Answers, OrMemory};
-ghost use Rattle.vx_base.specs.Integers.{lies_in, natural_bits, unsigned_of};
+ghost use Rattle.vx_base.specs.Integers.{lies_in, unsigned_of};
 ghost use Rattle.vx_base.specs.Wrapping.{wrap};
 ghost use Rattle.vx_model.specs.Decoded.{zeroed, zeroed_by, zero_beneath};
 ghost use Rattle.vx_model.specs.Refusals.{validity_length};
@@ -192,23 +192,6 @@ impl Ints {
             Ints::I16(items) => Ints::I16(slices::with_whole(items, row, whole)),
             Ints::I32(items) => Ints::I32(slices::with_whole(items, row, whole)),
             Ints::I64(items) => Ints::I64(slices::with_whole(items, row, whole)),
-        }
-    }
-
-    /// Words as integers of a type.
-    pub(crate) fn from_words(alloc: Global, ptype: PType, words: &[u64]) -> VortexResult<Ints>
-        requires { IsTrue (list_all (λ n. nat_lt n (2 ^ natural_bits ptype)) words.now) }
-        ensures { OrMemory result (λ ints. (ptype_of ints ≡ ptype) × (wholes_of ints ≡ map pos words.now)) }
-    {
-        match ptype {
-            PType::U8 => Ok(Ints::U8(slices::from_words(alloc, words)?)),
-            PType::U16 => Ok(Ints::U16(slices::from_words(alloc, words)?)),
-            PType::U32 => Ok(Ints::U32(slices::from_words(alloc, words)?)),
-            PType::U64 => Ok(Ints::U64(slices::from_words(alloc, words)?)),
-            PType::I8 => Ok(Ints::I8(slices::from_words(alloc, words)?)),
-            PType::I16 => Ok(Ints::I16(slices::from_words(alloc, words)?)),
-            PType::I32 => Ok(Ints::I32(slices::from_words(alloc, words)?)),
-            PType::I64 => Ok(Ints::I64(slices::from_words(alloc, words)?)),
         }
     }
 

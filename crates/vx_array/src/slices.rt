@@ -1,10 +1,10 @@
 //! Work on slices of any integer type.
 
-ghost use Rattle.std.specs.Prelude.{◌≡◌, ◌<◌, length, slice_index_or, slice_set, pos, if◌then◌else◌, ◌||◌, IsTrue, true, false, map, replicate, option_map, nat_lt, ◌^◌, ◌+ℤ◌};
+ghost use Rattle.std.specs.Prelude.{◌≡◌, ◌<◌, length, slice_index_or, slice_set, pos, if◌then◌else◌, ◌||◌, IsTrue, true, false, map, replicate, option_map, ◌+ℤ◌};
 ghost use Rattle.std.specs.List.{list_all};
 ghost use Rattle.std.specs.Ordering.{int_eq};
 ghost use Rattle.vx_base.specs.Answers.{OrMemory};
-ghost use Rattle.vx_base.specs.Integers.{lies_in, natural_bits, unsigned_of};
+ghost use Rattle.vx_base.specs.Integers.{lies_in, unsigned_of};
 ghost use Rattle.vx_base.specs.Wrapping.{wrap};
 ghost use Rattle.vx_model.specs.Decoded.{zeroed, zeroed_by, zero_beneath};
 ghost use Rattle.vx_model.specs.Refusals.{validity_length};
@@ -173,18 +173,6 @@ pub(crate) fn each_null_or<T: Integer>(items: &[T], valid: &Option<Mask>, whole:
         }
     }
     true
-}
-
-// Words as integers.
-pub(crate) fn from_words<T: Integer>(alloc: Global, words: &[u64]) -> VortexResult<IntList<T>>
-    requires { IsTrue (list_all (λ n. nat_lt n (2 ^ natural_bits T.kind)) words.now) }
-    ensures { OrMemory result (λ list. map T.whole list ≡ map pos words.now) }
-{
-    let mut items = Vec::with_capacity(alloc, words.len())?;
-    for row in 0..words.len() {
-        items.push(T::from_low_bits(words[row]))?;
-    }
-    Ok(IntList::from_vec(items))
 }
 
 // The sum of a reference and a difference, in the reference's type.

@@ -1,32 +1,60 @@
 -- Rows that are read one behind the other.
-use Rattle.std.proofs.Common.{◌≡◌, ℕ, ◌+◌, ◌-◌, ◌<◌, ◌≤◌, List, [], ◌∷◌, ◌++◌, length, get_or, ap, ◌∙◌, arith, inl, inr, length-append}
-use Rattle.std.proofs.lemmas.Bool.{cases_lt}
-use Rattle.std.proofs.lemmas.List.{get_or_append_left, get_or-append_right}
-use Rattle.vx_base.specs.Packed.{packed_row}
-use Rattle.vx_blocks.specs.IsPacked.{IsUnpacked}
+use Rattle.std.proofs.Common.{◌≡◌, ℕ, ◌+◌, ◌-◌, ◌*◌, ◌/◌, ◌^◌, ◌<◌, ◌≤◌, ℤ, pos, List, [], ◌∷◌, ◌++◌, length, map, get_or, ap, sym, ◌∙◌, arith, inl, inr, length-append}
+use Rattle.std.proofs.lemmas.Bool.{cases_lt, lt-ltb}
+use Rattle.std.proofs.lemmas.List.{get_or_append_left, get_or-append_right, get_or-map, length-map}
+use Rattle.std.proofs.lemmas.Nat.{pow_pos}
+use Rattle.std.proofs.Math.Nat as nat
+use Rattle.vx_base.specs.declared.ptype.PType.{PType}
+use Rattle.vx_base.specs.declared.ptype.PType.TheVariants.{U64}
+use Rattle.vx_base.specs.Integers.{natural_bits}
+use Rattle.vx_base.specs.Packed.{joined, packed_row}
+use Rattle.vx_base.specs.Wrapping.{wrap}
+use Rattle.vx_base.proofs.WrapLemmas.{wrap-same}
+use Rattle.vx_blocks.specs.IsPacked.{IsUnpacked, IsUnpackedAs}
 
--- no row
-pub IsUnpacked-none : (bytes : List ℕ) (width start end : ℕ) → end ≤ start → IsUnpacked bytes width start end []
-IsUnpacked-none bytes width start end h = record { size = omega arith; each = λ i below. absurd (omega arith) }
+module _ (value : ℕ → ℤ) (bytes : List ℕ) (width start : ℕ) where
+  -- no row
+  pub IsUnpackedAs-none : (end : ℕ) → end ≤ start → IsUnpackedAs value bytes width start end []
+  IsUnpackedAs-none end h = record { size = omega arith; each = λ i below. absurd (omega arith) }
 
--- some rows more
-pub IsUnpacked-append : (bytes : List ℕ) (width start middle end : ℕ) (rows part : List ℕ) → start ≤ middle → middle ≤ end → IsUnpacked bytes width start middle rows
-    → length part ≡ end - middle → ((k : ℕ) → k < end - middle → get_or part k 0 ≡ packed_row bytes width (middle + k)) → IsUnpacked bytes width start end (rows ++ part)
-IsUnpacked-append bytes width start middle end rows part first second h len each =
+  -- some rows more
+  pub IsUnpackedAs-append : (middle end : ℕ) (rows part : List ℤ) → start ≤ middle → middle ≤ end → IsUnpackedAs value bytes width start middle rows
+      → length part ≡ end - middle → ((k : ℕ) → k < end - middle → get_or part k (pos 0) ≡ value (packed_row bytes width (middle + k))) → IsUnpackedAs value bytes width start end (rows ++ part)
+  IsUnpackedAs-append middle end rows part first second h len each =
+      record {
+        size = length-append rows part ∙ omega (arith, h.size, len);
+        each = λ i below. elim (cases_lt i (middle - start)) [
+          | inl lt ↦
+              let within : i < length rows = omega (arith, h.size) in
+              get_or_append_left rows part (pos 0) i within ∙ h.each i lt
+          | inr far ↦
+              let place : middle + (i - (middle - start)) ≡ start + i = omega arith in
+              get_or-append_right rows part (middle - start) i (pos 0) h.size far ∙ each (i - (middle - start)) (omega arith) ∙ ap (λ k. value (packed_row bytes width k)) place
+        ];
+      }
+
+  -- one row more
+  pub IsUnpackedAs-push : (row : ℕ) (rows : List ℤ) (x : ℤ) → start ≤ row → IsUnpackedAs value bytes width start row rows → x ≡ value (packed_row bytes width row) → IsUnpackedAs value bytes width start (row + 1) (rows ++ x ∷ [])
+  IsUnpackedAs-push row rows x h before is =
+      IsUnpackedAs-append row (row + 1) rows (x ∷ []) h (omega arith) before (omega arith)
+      (λ k below. let first : k ≡ 0 = omega arith in rw first (is ∙ ap (λ n. value (packed_row bytes width n)) (omega arith)))
+
+-- ---- rows that are wrapped into a type of enough bits
+
+row-wrapped : (kind : PType) (bytes : List ℕ) (width i : ℕ) → width ≤ natural_bits kind → wrap kind (pos (packed_row bytes width i)) ≡ pos (packed_row bytes width i)
+row-wrapped kind bytes width i h =
+    let lt : packed_row bytes width i < 2 ^ width = nat.mod-lt (joined 8 bytes / 2 ^ (width * i)) (pow_pos width) in
+    let le : 2 ^ width ≤ 2 ^ natural_bits kind = nat.pow-le-pow_right (omega arith) h in
+    wrap-same kind (pos (packed_row bytes width i)) (lt-ltb _ _ (omega arith))
+
+pub naturals_read : (kind : PType) (bytes : List ℕ) (width start end : ℕ) (wholes : List ℤ) → width ≤ natural_bits kind → IsUnpackedAs (λ n. wrap kind (pos n)) bytes width start end wholes → IsUnpackedAs pos bytes width start end wholes
+naturals_read kind bytes width start end wholes h read = record { size = read.size; each = λ i below. read.each i below ∙ row-wrapped kind bytes width (start + i) h }
+
+pub words_read : (bytes : List ℕ) (width start end : ℕ) (rows : List ℕ) → width ≤ 64 → IsUnpackedAs (λ n. wrap U64 (pos n)) bytes width start end (map pos rows) → IsUnpacked bytes width start end rows
+words_read bytes width start end rows h read =
+    let read' = naturals_read U64 bytes width start end (map pos rows) h read in
+    let size : length rows ≡ end - start = sym (length-map rows pos) ∙ read'.size in
     record {
-      size = length-append rows part ∙ omega (arith, h.size, len);
-      each = λ i below. elim (cases_lt i (middle - start)) [
-        | inl lt ↦
-            let within : i < length rows = omega (arith, h.size) in
-            get_or_append_left rows part 0 i within ∙ h.each i lt
-        | inr far ↦
-            let place : middle + (i - (middle - start)) ≡ start + i = omega arith in
-            get_or-append_right rows part (middle - start) i 0 h.size far ∙ each (i - (middle - start)) (omega arith) ∙ ap (λ k. packed_row bytes width k) place
-      ];
+      size = size;
+      each = λ i below. let e : pos (get_or rows i 0) ≡ pos (packed_row bytes width (start + i)) = sym (get_or-map pos rows i 0 (pos 0) (omega (arith, size))) ∙ read'.each i below in cc;
     }
-
--- one row more
-pub IsUnpacked-push : (bytes : List ℕ) (width start row : ℕ) (rows : List ℕ) (x : ℕ) → start ≤ row → IsUnpacked bytes width start row rows → x ≡ packed_row bytes width row → IsUnpacked bytes width start (row + 1) (rows ++ x ∷ [])
-IsUnpacked-push bytes width start row rows x h before is =
-    IsUnpacked-append bytes width start row (row + 1) rows (x ∷ []) h (omega arith) before (omega arith)
-    (λ k below. let first : k ≡ 0 = omega arith in rw first (is ∙ ap (λ n. packed_row bytes width n) (omega arith)))

@@ -13,7 +13,7 @@ pub use laws::unpack_gives_back;
 pub use narrowing::narrow_type;
 pub use packing::pack;
 pub use reading::get;
-pub use unpacking::unpack;
+pub use unpacking::{unpack, unpack_integers};
 pub use widths::{best_width, bit_width_histogram};
 
 #[cfg(test)]

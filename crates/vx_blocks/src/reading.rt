@@ -1,7 +1,10 @@
 //! Rows read from packed bytes.
 
-ghost use Rattle.std.specs.Prelude.{◌≡◌, ◌<◌, ◌≤◌, ◌+◌, ◌*◌, ◌/◌, ◌%◌, ◌^◌, ℕ, length, slice_index};
+ghost use Rattle.std.specs.Prelude.{◌≡◌, ◌<◌, ◌≤◌, ◌+◌, ◌*◌, ◌/◌, ◌%◌, ◌^◌, ℕ, pos, length, map, slice_index_or};
 ghost use Rattle.vx_base.specs.Packed.{joined, packed_row, packed_size};
+ghost use Rattle.vx_base.specs.Wrapping.{wrap};
+
+use vx_base::Integer;
 
 // Fewer than eight bytes as a word.
 #[cold]
@@ -92,20 +95,21 @@ pub fn get(packed: &[u8], width: u32, row: u64) -> u64
     row_of(packed, word_at(packed, byte), byte, (bit % 8) as u32, width)
 }
 
-// Reads eight rows at a time, from those in front of which there are `eight` eights.
+// Reads eight rows at a time, from those in front of which there are `eight` eights. Each is wrapped into the type.
 #[inline(always)]
-pub(crate) fn read_eights<const W: usize>(packed: &[u8], eight: usize, out: &mut [u64])
+pub(crate) fn read_eights<T: Integer, const W: usize>(packed: &[u8], eight: usize, out: &mut [T])
     requires some { 0 < W }
     requires width { W ≤ 64 }
     requires eights { length out.old % 8 ≡ 0 }
     requires room { (eight + length out.old / 8) * W + 8 ≤ length packed.now }
-    ensures { (k : ℕ) → k < length out.new → slice_index out.new k ≡ packed_row packed.now W (8 * eight + k) }
+    ensures { (k : ℕ) → k < length out.new → slice_index_or (map T.whole out.new) k (pos 0) ≡ wrap T.kind (pos (packed_row packed.now W (8 * eight + k))) }
 {
     for g in 0..out.len() / 8 {
         for j in 0..8 {
             let byte = (eight + g) * W + j * W / 8;
             let word = whole_word(packed, byte);
-            out[8 * g + j] = row_of(packed, word, byte, (j * W % 8) as u32, W as u32);
+            let row = row_of(packed, word, byte, (j * W % 8) as u32, W as u32);
+            out[8 * g + j] = T::from_low_bits(row);
         }
     }
 }

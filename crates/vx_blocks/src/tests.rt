@@ -2,10 +2,12 @@
 
 ghost use Rattle.std.specs.Prelude.{◌≡◌, ◌≤◌, length, vec_len, IfOk};
 
-use crate::{best_width, bit_width_histogram, get, narrow_type, pack, unpack, unpack_gives_back};
+use crate::{
+    best_width, bit_width_histogram, get, narrow_type, pack, unpack, unpack_gives_back, unpack_integers,
+};
 use std::alloc::{AllocError, Global};
 use std::test::Fail;
-use vx_base::{Mask, PType};
+use vx_base::{Integer, Mask, PType};
 
 fn all_valid(alloc: Global, rows: usize) -> Result<Mask, AllocError>
     ensures { IfOk result (λ mask. length mask ≡ rows) }
@@ -113,6 +115,28 @@ fn every_width_reads_back(rt: HostRuntime) -> Result<(), Fail> {
         assert!(rt; reads_back(rt.alloc(), values, width, 0)?);
         assert!(rt; reads_back(rt.alloc(), values, width, 3)?);
         assert!(rt; reads_back(rt.alloc(), values, width, 1029)?);
+    }
+    Ok(())
+}
+
+#[test]
+fn integers_of_their_type(rt: HostRuntime) -> Result<(), Fail> {
+    let valid = all_valid(rt.alloc(), 3)?;
+    let packed = pack(rt.alloc(), &[1u8, 2, 3], &valid, 2)?;
+    let rows = unpack_integers::<u8>(rt.alloc(), packed.as_slice(), 2, 0, 3)?;
+    assert_eq!(rt; rows.as_slice(), [1, 2, 3].as_slice());
+    Ok(())
+}
+
+#[test]
+fn integers_from_within_a_block(rt: HostRuntime) -> Result<(), Fail> {
+    let values = numbers(rt.alloc(), 1500, 31)?;
+    let valid = all_valid(rt.alloc(), 1500)?;
+    let packed = pack(rt.alloc(), values.as_slice(), &valid, 31)?;
+    let rows = unpack_integers::<i32>(rt.alloc(), packed.as_slice(), 31, 1027, 1491)?;
+    assert_eq!(rt; rows.len(), 464);
+    for (row, value) in rows.iter().zip(&values[1027..1491]) {
+        assert_eq!(rt; row.to_whole(), *value as i128);
     }
     Ok(())
 }

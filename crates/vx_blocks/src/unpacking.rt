@@ -1,17 +1,20 @@
 //! Many rows read at once.
 
-ghost use Rattle.std.specs.Prelude.{◌≡◌, ◌<◌, ◌≤◌, ◌+◌, ◌*◌, ◌/◌, ◌%◌, ℕ, length, IfOk, IfSome};
+ghost use Rattle.std.specs.Prelude.{◌≡◌, ◌<◌, ◌≤◌, ◌+◌, ◌*◌, ◌/◌, ◌%◌, ℕ, pos, length, map, IfOk, IfSome};
 ghost use Rattle.vx_base.specs.Answers.{OrMemory};
+ghost use Rattle.vx_base.specs.Integers.{natural_bits};
 ghost use Rattle.vx_base.specs.Packed.{packed_size};
-ghost use Rattle.vx_blocks.specs.IsPacked.{IsUnpacked};
+ghost use Rattle.vx_base.specs.Wrapping.{wrap};
+ghost use Rattle.vx_blocks.specs.IsPacked.{IsUnpacked, IsUnpackedAs};
 
 use crate::reading::{get, read_eights};
 use std::alloc::{AllocError, Global};
-use vx_base::VortexResult;
+use vx_base::{Integer, VortexResult};
 
-// Reads the rows from `start` to `end - 1` behind those that are read.
-fn read_each(
-    rows: &mut Vec<u64>,
+// Reads the rows from `start` to `end - 1` behind those that are read, each wrapped into the type.
+#[inline(never)]
+fn read_each<T: Integer>(
+    rows: &mut Vec<T>,
     packed: &[u8],
     width: u32,
     start: u64,
@@ -20,10 +23,10 @@ fn read_each(
     requires width { width ≤ 64 }
     requires order { start ≤ end }
     requires room { start < end → packed_size width end ≤ length packed.now }
-    ensures { IfOk result (λ _. (from : ℕ) → from ≤ start → IsUnpacked packed.now width from start rows.old.items → IsUnpacked packed.now width from end rows.new.items) }
+    ensures { IfOk result (λ _. (from : ℕ) → from ≤ start → IsUnpackedAs (λ n. wrap T.kind (pos n)) packed.now width from start (map T.whole rows.old.items) → IsUnpackedAs (λ n. wrap T.kind (pos n)) packed.now width from end (map T.whole rows.new.items)) }
 {
     for row in start..end {
-        rows.push(get(packed, width, row))?;
+        rows.push(T::from_low_bits(get(packed, width, row)))?;
     }
     Ok(())
 }
@@ -46,9 +49,28 @@ fn eights_within(bytes: usize, width: usize, start: u64, end: u64) -> Option<(us
     }
 }
 
-// Reads whole eights behind the rows that are read, up to 128 eights at a time.
-fn read_whole<const W: usize>(
-    rows: &mut Vec<u64>,
+// Reads some eights behind the rows that are read.
+fn read_part<T: Integer, const W: usize>(
+    rows: &mut Vec<T>,
+    packed: &[u8],
+    eight: usize,
+    eights: usize,
+) -> Result<(), AllocError>
+    requires some { 0 < W }
+    requires width { W ≤ 64 }
+    requires few { eights ≤ 128 }
+    requires room { (eight + eights) * W + 8 ≤ length packed.now }
+    ensures { IfOk result (λ _. (from : ℕ) → from ≤ 8 * eight → IsUnpackedAs (λ n. wrap T.kind (pos n)) packed.now W from (8 * eight) (map T.whole rows.old.items) → IsUnpackedAs (λ n. wrap T.kind (pos n)) packed.now W from (8 * (eight + eights)) (map T.whole rows.new.items)) }
+{
+    let len = rows.len();
+    rows.resize(len + 8 * eights, T::zero())?;
+    read_eights::<T, W>(packed, eight, rows.slice_mut(len..));
+    Ok(())
+}
+
+// Reads the eights up to `last`, a block of 1,024 rows at a time, so that what `resize` wrote is still in the cache.
+fn read_whole<T: Integer, const W: usize>(
+    rows: &mut Vec<T>,
     packed: &[u8],
     first: usize,
     last: usize,
@@ -57,36 +79,32 @@ fn read_whole<const W: usize>(
     requires width { W ≤ 64 }
     requires order { first ≤ last }
     requires room { last * W + 8 ≤ length packed.now }
-    ensures { IfOk result (λ _. (from : ℕ) → from ≤ 8 * first → IsUnpacked packed.now W from (8 * first) rows.old.items → IsUnpacked packed.now W from (8 * last) rows.new.items) }
+    ensures { IfOk result (λ _. (from : ℕ) → from ≤ 8 * first → IsUnpackedAs (λ n. wrap T.kind (pos n)) packed.now W from (8 * first) (map T.whole rows.old.items) → IsUnpackedAs (λ n. wrap T.kind (pos n)) packed.now W from (8 * last) (map T.whole rows.new.items)) }
 {
-    let mut buffer = [0u64; 1024];
     for part in 0..(last - first).div_ceil(128) {
         let eight = first + 128 * part;
-        let eights = (last - eight).min(128);
-        let read = &mut buffer[..8 * eights];
-        read_eights::<W>(packed, eight, read);
-        rows.extend_from_slice(read)?;
+        read_part::<T, W>(rows, packed, eight, (last - eight).min(128))?;
     }
     Ok(())
 }
 
-fn unpack_by<const W: usize>(
+fn unpack_by<T: Integer, const W: usize>(
     alloc: Global,
     packed: &[u8],
     start: u64,
     end: u64,
-) -> VortexResult<Vec<u64>>
+) -> VortexResult<Vec<T>>
     requires some { 0 < W }
     requires width { W ≤ 64 }
     requires order { start ≤ end }
     requires room { start < end → packed_size W end ≤ length packed.now }
-    ensures { OrMemory result (λ rows. IsUnpacked packed.now W start end rows.items) }
+    ensures { OrMemory result (λ rows. IsUnpackedAs (λ n. wrap T.kind (pos n)) packed.now W start end (map T.whole rows.items)) }
 {
     let mut rows = Vec::with_capacity(alloc, (end - start) as usize)?;
     match eights_within(packed.len(), W, start, end) {
         Some((first, last)) => {
             read_each(&mut rows, packed, W as u32, start, 8 * first as u64)?;
-            read_whole::<W>(&mut rows, packed, first, last)?;
+            read_whole::<T, W>(&mut rows, packed, first, last)?;
             read_each(&mut rows, packed, W as u32, 8 * last as u64, end)?;
         }
         None => read_each(&mut rows, packed, W as u32, start, end)?,
@@ -94,17 +112,17 @@ fn unpack_by<const W: usize>(
     Ok(rows)
 }
 
-fn unpack_rows(
+fn unpack_rows<T: Integer>(
     alloc: Global,
     packed: &[u8],
     width: u32,
     start: u64,
     end: u64,
-) -> VortexResult<Vec<u64>>
+) -> VortexResult<Vec<T>>
     requires width { width ≤ 64 }
     requires order { start ≤ end }
     requires room { start < end → packed_size width end ≤ length packed.now }
-    ensures { OrMemory result (λ rows. IsUnpacked packed.now width start end rows.items) }
+    ensures { OrMemory result (λ rows. IsUnpackedAs (λ n. wrap T.kind (pos n)) packed.now width start end (map T.whole rows.items)) }
 {
     let mut rows = Vec::with_capacity(alloc, (end - start) as usize)?;
     read_each(&mut rows, packed, width, start, end)?;
@@ -113,12 +131,28 @@ fn unpack_rows(
 
 // A body for each width.
 macro_rules! by_width {
-    ($alloc:ident, $packed:ident, $width:ident, $start:ident, $end:ident; $($w:literal),*) => {
+    ($type:ident, $alloc:ident, $packed:ident, $width:ident, $start:ident, $end:ident; $($w:literal),*) => {
         match $width {
-            $($w => unpack_by::<$w>($alloc, $packed, $start, $end),)*
+            $($w => unpack_by::<$type, $w>($alloc, $packed, $start, $end),)*
             _ => unpack_rows($alloc, $packed, $width, $start, $end),
         }
     };
+}
+
+// The rows from `start` to `end - 1`, each wrapped into the type.
+fn unpack_wrapped<T: Integer>(
+    alloc: Global,
+    packed: &[u8],
+    width: u32,
+    start: u64,
+    end: u64,
+) -> VortexResult<Vec<T>>
+    requires width { width ≤ 64 }
+    requires order { start ≤ end }
+    requires room { start < end → packed_size width end ≤ length packed.now }
+    ensures { OrMemory result (λ rows. IsUnpackedAs (λ n. wrap T.kind (pos n)) packed.now width start end (map T.whole rows.items)) }
+{
+    by_width!(T, alloc, packed, width, start, end; 1, 2, 3, 4, 5, 6, 7, 8, 9, 10, 11, 12, 13, 14, 15, 16, 17, 18, 19, 20, 21, 22, 23, 24, 25, 26, 27, 28, 29, 30, 31, 32, 33, 34, 35, 36, 37, 38, 39, 40, 41, 42, 43, 44, 45, 46, 47, 48, 49, 50, 51, 52, 53, 54, 55, 56, 57, 58, 59, 60, 61, 62, 63, 64)
 }
 
 /// The rows from `start` to `end - 1`, each as `get` reads it. `width` is in bits, at most 64, and the blocks of the rows
@@ -135,5 +169,25 @@ pub fn unpack(
     requires blocks { start < end → packed_size width end ≤ length packed.now }
     ensures { OrMemory result (λ rows. IsUnpacked packed.now width start end rows.items) }
 {
-    by_width!(alloc, packed, width, start, end; 1, 2, 3, 4, 5, 6, 7, 8, 9, 10, 11, 12, 13, 14, 15, 16, 17, 18, 19, 20, 21, 22, 23, 24, 25, 26, 27, 28, 29, 30, 31, 32, 33, 34, 35, 36, 37, 38, 39, 40, 41, 42, 43, 44, 45, 46, 47, 48, 49, 50, 51, 52, 53, 54, 55, 56, 57, 58, 59, 60, 61, 62, 63, 64)
+    let rows = unpack_wrapped::<u64>(alloc, packed, width, start, end)?;
+    Ok(rows)
+}
+
+/// The same rows as integers of a type. `width` is in bits, at most those of the numbers from 0 on that the type holds, so
+/// that each row is a value of the type.
+#[tactic(auto, using(crate::proofs::RowsRead::naturals_read))]
+pub fn unpack_integers<T: Integer>(
+    alloc: Global,
+    packed: &[u8],
+    width: u32,
+    start: u64,
+    end: u64,
+) -> VortexResult<Vec<T>>
+    requires width { width ≤ natural_bits T.kind }
+    requires order { start ≤ end }
+    requires blocks { start < end → packed_size width end ≤ length packed.now }
+    ensures { OrMemory result (λ rows. IsUnpackedAs pos packed.now width start end (map T.whole rows.items)) }
+{
+    let rows = unpack_wrapped::<T>(alloc, packed, width, start, end)?;
+    Ok(rows)
 }

@@ -1,6 +1,6 @@
 //! Integers of some bits each, and the values that are wider as patches.
 
-ghost use Rattle.std.specs.Prelude.{◌≡◌, ◌<◌, ◌≤◌, ◌^◌, length, nat_lt, MatchResult, IfSome, IsTrue, nat_le, pos};
+ghost use Rattle.std.specs.Prelude.{◌≡◌, ◌<◌, ◌≤◌, ◌^◌, length, nat_lt, MatchResult, IfSome, IsTrue, map, nat_le, pos};
 ghost use Rattle.std.specs.List.{list_all};
 ghost use Rattle.vx_base.specs.Answers.{Makes, OrMemory};
 ghost use Rattle.vx_base.specs.Integers.{natural_bits};
@@ -20,8 +20,10 @@ use crate::array::{ArrayRef, Node, Patches};
 use crate::ints::Ints;
 use crate::node::{Made, has_length, is_allowed, keep};
 use std::alloc::Global;
-use vx_base::{Bytes, DType, Mask, Nullability, PType, Refused, VortexError, VortexResult};
-use vx_blocks::unpack;
+use vx_base::{
+    Bytes, DType, IntList, Integer, Mask, Nullability, PType, Refused, VortexError, VortexResult,
+};
+use vx_blocks::unpack_integers;
 
 impl ArrayRef {
     /// Integers of `width` bits each, null where `valid` is false, with the patches' values where they stand. The bytes
@@ -151,7 +153,6 @@ fn known_patches(patches: &Option<Patches>)
 }
 
 // The integers without their patches.
-#[tactic(auto, using(crate::proofs::Unpacked::unpacked_rows))]
 pub(crate) fn unpacked(
     alloc: Global,
     ptype: PType,
@@ -163,8 +164,31 @@ pub(crate) fn unpacked(
     requires sized { length packed.now ≡ packed_size width len }
     ensures { OrMemory result (λ ints. (ptype_of ints ≡ ptype) × (wholes_of ints ≡ below (λ i. pos (packed_row packed.now width i)) len)) }
 {
-    let words = unpack(alloc, packed, width, 0, len)?;
-    Ints::from_words(alloc, ptype, words.as_slice())
+    match ptype {
+        PType::U8 => Ok(Ints::U8(unpacked_list(alloc, width, packed, len)?)),
+        PType::U16 => Ok(Ints::U16(unpacked_list(alloc, width, packed, len)?)),
+        PType::U32 => Ok(Ints::U32(unpacked_list(alloc, width, packed, len)?)),
+        PType::U64 => Ok(Ints::U64(unpacked_list(alloc, width, packed, len)?)),
+        PType::I8 => Ok(Ints::I8(unpacked_list(alloc, width, packed, len)?)),
+        PType::I16 => Ok(Ints::I16(unpacked_list(alloc, width, packed, len)?)),
+        PType::I32 => Ok(Ints::I32(unpacked_list(alloc, width, packed, len)?)),
+        PType::I64 => Ok(Ints::I64(unpacked_list(alloc, width, packed, len)?)),
+    }
+}
+
+// The same as a list of one type.
+fn unpacked_list<T: Integer>(
+    alloc: Global,
+    width: u32,
+    packed: &[u8],
+    len: u64,
+) -> VortexResult<IntList<T>>
+    requires narrow { IsTrue (nat_le width (natural_bits T.kind)) }
+    requires sized { length packed.now ≡ packed_size width len }
+    ensures { OrMemory result (λ list. map T.whole list ≡ below (λ i. pos (packed_row packed.now width i)) len) }
+{
+    let rows = unpack_integers(alloc, packed, width, 0, len)?;
+    Ok(IntList::from_vec(rows))
 }
 
 // The integers with the patches that there are.
