@@ -68,7 +68,7 @@ same_bits a b =
     let alike : (e : same_set a b ≡ true) → (id : ArrayId) → holds a id ≡ holds b id =
     λ e id. sym (member-at a id) ∙ ap (λ xs. slice_index_or xs (id_number id) false) (members_decide.0 e) ∙ member-at b id in
     both_ways
-      (a.bits == b.bits)
-      (same_set a b)
-      (λ e. members_decide.1 (ap (λ n. map (λ id. bit_at n (id_number id) == 1) every_id) (eqb-true a.bits b.bits e)))
-      (λ e. eq-eqb a.bits b.bits (same_from_bits_below 23 a.bits b.bits a.within b.within (same_at a b (alike e))))
+    (a.bits == b.bits)
+    (same_set a b)
+    (λ e. members_decide.1 (ap (λ n. map (λ id. bit_at n (id_number id) == 1) every_id) (eqb-true a.bits b.bits e)))
+    (λ e. eq-eqb a.bits b.bits (same_from_bits_below 23 a.bits b.bits a.within b.within (same_at a b (alike e))))

@@ -1,12 +1,11 @@
 -- Patches: the test that their indices ascend, and the search for the patch of a row.
-use Rattle.std.proofs.Common.{◌≡◌, ◌<◌, ◌≤◌, ◌+◌, ◌&&◌, ◌∙◌, ℕ, zero, suc, pos, negsuc, List, [], ◌∷◌, length, drop, drop-cons, refl, arith, add-one, below_more, ⊎_elim, Bool, true, false, cond, Some, None}
+use Rattle.std.proofs.Common.{◌≡◌, ◌<◌, ◌≤◌, ◌+◌, ◌&&◌, ℕ, zero, suc, pos, negsuc, List, [], ◌∷◌, length, drop, drop-cons, refl, arith, add-one, below_more, ⊎_elim, Bool, true, false, Some, None}
 use Rattle.std.specs.Prelude.{nat_lt, nat_le}
 use Rattle.std.specs.List.{position_or_len}
-use Rattle.std.proofs.lemmas.Bool.{cond-true, cond-false, ltb-true, ltb-false, lt-ltb, le-ltb, leb-true, eq-eqb, ne_eqb, cases_lt}
-use Rattle.std.proofs.lemmas.List.Quantifiers.{position-Some}
-use Rattle.std.proofs.lemmas.List.Sums.{position_or_len_is, fails_before_first}
+use Rattle.std.proofs.lemmas.Bool.{cond-true, cond-false, ltb-true, lt-ltb, le-ltb, leb-true, eq-eqb, ne_eqb, cases_lt}
+use Rattle.std.proofs.lemmas.List.Sums.{position_or_len_is}
 use Rattle.vx_base.specs.PlainValue.{PlainValue, null, int}
-use Rattle.vx_model.specs.Rows.{row_at, patched, is_index, index_of, place_of}
+use Rattle.vx_model.specs.Rows.{row_at, is_index, index_of, place_of}
 use Rattle.vx_model.specs.WellFormed.{ascend}
 
 -- ---- one step of the test that indices ascend

@@ -1,14 +1,11 @@
 -- Patches: what stands at a row, and how many looks its search takes.
-use Rattle.std.proofs.Common.{◌≡◌, ◌<◌, ◌≤◌, ◌+◌, ◌-◌, ◌*◌, ◌^◌, add-one, sym, ◌&&◌, ◌∙◌, ℕ, zero, suc, pos, negsuc, List, [], ◌∷◌, length, drop, drop-cons, refl, arith, add-one, below_more, ⊎_elim, Bool, true, false, cond, Some, None}
+use Rattle.std.proofs.Common.{◌≡◌, ◌<◌, ◌≤◌, ◌+◌, ◌-◌, ◌*◌, ◌^◌, add-one, ◌∙◌, ℕ, zero, suc, List, [], ◌∷◌, length, refl, arith, add-one, Bool, true, false, cond, Some, None}
 use Rattle.std.proofs.Math.Nat as nat
-use Rattle.std.specs.Prelude.{nat_lt, nat_le}
-use Rattle.std.specs.List.{position_or_len}
-use Rattle.std.proofs.lemmas.Bool.{cond-true, cond-false, ltb-true, ltb-false, lt-ltb, le-ltb, leb-true, eq-eqb, ne_eqb, cases_lt}
+use Rattle.std.proofs.lemmas.Bool.{cond-true, cond-false, ltb-false}
 use Rattle.std.proofs.lemmas.List.Quantifiers.{position-Some}
-use Rattle.std.proofs.lemmas.List.Sums.{position_or_len_is, fails_before_first}
-use Rattle.vx_base.specs.PlainValue.{PlainValue, null, int}
-use Rattle.vx_model.specs.Rows.{row_at, patched, is_index, index_of, place_of}
-use Rattle.vx_model.specs.WellFormed.{ascend}
+use Rattle.std.proofs.lemmas.List.Sums.{fails_before_first}
+use Rattle.vx_base.specs.PlainValue.{PlainValue, null}
+use Rattle.vx_model.specs.Rows.{row_at, patched, is_index, place_of}
 use Rattle.vx_model.proofs.PatchLemmas.{NoneBelow}
 
 -- ---- what stands at a row, by the place of its patch

@@ -4,7 +4,7 @@ use Rattle.std.proofs.lemmas.List.Folds.{sum_by-replicate}
 use Rattle.std.proofs.lemmas.List.{get_or-replicate, get_or-set_other, take_all}
 use Rattle.std.proofs.lemmas.Grind.{get_or_default_zero}
 use Rattle.vx_blocks.proofs.Counts.{sums-more, histogram-sum}
-use Rattle.vx_blocks.proofs.Written.{written-more}
+use Rattle.vx_blocks.proofs.Written.{set-more}
 use Rattle.vx_blocks.proofs.widths.by_digits.Goals as goal
 
 pub loop-w-init : goal.loop-w-init
@@ -29,7 +29,7 @@ loop-w-preserved c =
     let next : 65 - (w + 1) ≡ 64 - w = omega arith in
     record {
       size = length-set counts w row ∙ c.loop-w.invariant.size;
-      each = written-more (λ k. get_or first (64 - k) 0 + get_or second (64 - k) 0) counts w row (w + 1) room refl c.loop-w.invariant.each refl;
+      each = set-more 0 (λ k. get_or first (64 - k) 0 + get_or second (64 - k) 0) counts w row (w + 1) room refl c.loop-w.invariant.each refl;
       later = λ k le lt. let other : k ≢ w = omega arith in rw get_or-set_other (c.loop-w.invariant.later k (omega arith) lt);
       total = rw next (sums-more counts first second w (65 - w) (64 - w) (sum first + sum second) room (c.loop-w.invariant.later w (omega arith) (omega arith)) (omega arith) (omega arith) (omega arith) c.loop-w.invariant.total);
     }
