@@ -3,7 +3,8 @@
 ghost use Rattle.std.specs.Prelude.{◌≡◌, ◌≤◌, length, vec_len, IfOk};
 
 use crate::{
-    best_width, bit_width_histogram, get, narrow_type, pack, unpack, unpack_gives_back, unpack_integers,
+    best_width, bit_width_histogram, get, narrow_type, pack, unpack, unpack_gives_back,
+    unpack_integers,
 };
 use std::alloc::{AllocError, Global};
 use std::test::Fail;

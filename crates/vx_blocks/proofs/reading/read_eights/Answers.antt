@@ -1,4 +1,4 @@
-use Rattle.std.proofs.Common.{arith, length, ℕ, pos, ap, ◌∙◌, ◌<◌, ◌≡◌, ◌+◌, ◌*◌, ◌/◌}
+use Rattle.std.proofs.Common.{arith, length, ℕ, pos, ap, ◌∙◌, ◌≡◌, ◌+◌, ◌*◌, ◌/◌}
 use Rattle.vx_base.specs.Wrapping.{wrap}
 use Rattle.vx_base.specs.Packed.{packed_row}
 use Rattle.vx_blocks.proofs.Windows.{eight-place, eight-room, eight-end}

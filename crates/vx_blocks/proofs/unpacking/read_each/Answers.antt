@@ -1,4 +1,4 @@
-use Rattle.std.proofs.Common.{◌≡◌, ℕ, pos, map, ap, ◌∙◌, arith}
+use Rattle.std.proofs.Common.{ℕ, pos, map, ap, ◌∙◌, arith}
 use Rattle.std.proofs.lemmas.List.{map-append}
 use Rattle.vx_base.specs.Wrapping.{wrap}
 use Rattle.vx_blocks.proofs.RowsRead.{IsUnpackedAs-push}

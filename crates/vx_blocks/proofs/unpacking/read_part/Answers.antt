@@ -1,4 +1,4 @@
-use Rattle.std.proofs.Common.{arith, ◌≡◌, ◌+◌, ◌*◌, ◌∙◌, ◌++◌, pos, map, ap, length, sym, subst}
+use Rattle.std.proofs.Common.{arith, ◌≡◌, ◌+◌, ◌*◌, ◌∙◌, pos, map, ap, length, sym, subst}
 use Rattle.std.proofs.lemmas.List.{length-map, map-append}
 use Rattle.vx_base.specs.Wrapping.{wrap}
 use Rattle.vx_blocks.specs.IsPacked.{IsUnpackedAs}

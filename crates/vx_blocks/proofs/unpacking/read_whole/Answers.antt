@@ -1,4 +1,4 @@
-use Rattle.std.proofs.Common.{arith, ◌≡◌, ◌<◌, ◌+◌, ◌*◌, ℕ, pos, map, min}
+use Rattle.std.proofs.Common.{arith, ◌≡◌, ◌<◌, ◌+◌, ◌*◌, min}
 use Rattle.vx_blocks.proofs.unpacking.read_whole.Goals as goal
 
 pub loop-part-preserved : goal.loop-part-preserved
