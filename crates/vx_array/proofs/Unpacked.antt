@@ -1,19 +1,13 @@
 -- What is unpacked, row by row.
-use Rattle.std.proofs.Common.{◌≡◌, ◌<◌, ◌≤◌, ◌+◌, ◌^◌, ◌∙◌, ℕ, zero, suc, ℤ, pos, List, [], ◌∷◌, map, length, Bool, true, Some, None, refl, ap, sym, subst, arith}
-use Rattle.std.specs.Prelude.{nat_le, nat_lt, IfSome, Option}
-use Rattle.std.specs.List.{list_all, range_with_len}
-use Rattle.std.proofs.lemmas.Bool.{and_from, leb-true, lt-ltb}
+use Rattle.std.proofs.Common.{◌≡◌, ◌+◌, ◌∙◌, ℕ, ℤ, pos, List, length, Some, None, ap, sym, arith}
+use Rattle.std.specs.Prelude.{IfSome, Option}
 use Rattle.std.proofs.lemmas.List.FromFn.{fill_by_all, length-map-range_with_len}
-use Rattle.std.proofs.Math.Nat.{pow-le-pow_right}
-use Rattle.vx_base.specs.declared.ptype.PType.{PType}
-use Rattle.vx_base.specs.Integers.{natural_bits}
 use Rattle.vx_base.specs.Packed.{packed_row}
 use Rattle.vx_blocks.specs.IsPacked.{IsUnpackedAs}
 use Rattle.vx_model.specs.Rows.{below}
 use Rattle.vx_model.specs.Tree.{PlainPacked, PlainPatches, packed_of}
 use Rattle.vx_model.specs.WellFormed.{WellFormed}
 use Rattle.vx_model.proofs.PackedOfLemmas.{patches_len-packed_of}
-use Rattle.vx_model.proofs.PackedLemmas.{packed_row-lt}
 
 pub unpacked-wholes : (bytes : List ℕ) (width len : ℕ) (wholes : List ℤ) → IsUnpackedAs pos bytes width 0 len wholes → wholes ≡ below (λ i. pos (packed_row bytes width i)) len
 unpacked-wholes bytes width len wholes h =

@@ -11,7 +11,8 @@ use crate::reading::{get, read_eights};
 use std::alloc::{AllocError, Global};
 use vx_base::{Integer, VortexResult};
 
-// Reads the rows from `start` to `end - 1` behind those that are read, each wrapped into the type.
+// Reads the rows from `start` to `end - 1` behind those that are read, each wrapped into the type. It isn't inlined, since
+// the bodies of all widths call it.
 #[inline(never)]
 fn read_each<T: Integer>(
     rows: &mut Vec<T>,
@@ -23,7 +24,7 @@ fn read_each<T: Integer>(
     requires width { width ≤ 64 }
     requires order { start ≤ end }
     requires room { start < end → packed_size width end ≤ length packed.now }
-    ensures { IfOk result (λ _. (from : ℕ) → from ≤ start → IsUnpackedAs (λ n. wrap T.kind (pos n)) packed.now width from start (map T.whole rows.old.items) → IsUnpackedAs (λ n. wrap T.kind (pos n)) packed.now width from end (map T.whole rows.new.items)) }
+    ensures { let Reads = IsUnpackedAs (λ n. wrap T.kind (pos n)) packed.now width in IfOk result (λ _. (from : ℕ) → from ≤ start → Reads from start (map T.whole rows.old.items) → Reads from end (map T.whole rows.new.items)) }
 {
     for row in start..end {
         rows.push(T::from_low_bits(get(packed, width, row)))?;
@@ -60,7 +61,7 @@ fn read_part<T: Integer, const W: usize>(
     requires width { W ≤ 64 }
     requires few { eights ≤ 128 }
     requires room { (eight + eights) * W + 8 ≤ length packed.now }
-    ensures { IfOk result (λ _. (from : ℕ) → from ≤ 8 * eight → IsUnpackedAs (λ n. wrap T.kind (pos n)) packed.now W from (8 * eight) (map T.whole rows.old.items) → IsUnpackedAs (λ n. wrap T.kind (pos n)) packed.now W from (8 * (eight + eights)) (map T.whole rows.new.items)) }
+    ensures { let Reads = IsUnpackedAs (λ n. wrap T.kind (pos n)) packed.now W in IfOk result (λ _. (from : ℕ) → from ≤ 8 * eight → Reads from (8 * eight) (map T.whole rows.old.items) → Reads from (8 * (eight + eights)) (map T.whole rows.new.items)) }
 {
     let len = rows.len();
     rows.resize(len + 8 * eights, T::zero())?;
@@ -68,7 +69,7 @@ fn read_part<T: Integer, const W: usize>(
     Ok(())
 }
 
-// Reads the eights up to `last`, a block of 1,024 rows at a time, so that what `resize` wrote is still in the cache.
+// Reads the eights up to `last`, 128 at a time, so that what `resize` writes is still in the cache when it is read over.
 fn read_whole<T: Integer, const W: usize>(
     rows: &mut Vec<T>,
     packed: &[u8],
@@ -79,7 +80,7 @@ fn read_whole<T: Integer, const W: usize>(
     requires width { W ≤ 64 }
     requires order { first ≤ last }
     requires room { last * W + 8 ≤ length packed.now }
-    ensures { IfOk result (λ _. (from : ℕ) → from ≤ 8 * first → IsUnpackedAs (λ n. wrap T.kind (pos n)) packed.now W from (8 * first) (map T.whole rows.old.items) → IsUnpackedAs (λ n. wrap T.kind (pos n)) packed.now W from (8 * last) (map T.whole rows.new.items)) }
+    ensures { let Reads = IsUnpackedAs (λ n. wrap T.kind (pos n)) packed.now W in IfOk result (λ _. (from : ℕ) → from ≤ 8 * first → Reads from (8 * first) (map T.whole rows.old.items) → Reads from (8 * last) (map T.whole rows.new.items)) }
 {
     for part in 0..(last - first).div_ceil(128) {
         let eight = first + 128 * part;

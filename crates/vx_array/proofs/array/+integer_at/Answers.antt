@@ -1,4 +1,4 @@
-use Rattle.std.proofs.Common.{◌≡◌, ◌<◌, ◌≤◌, ◌∙◌, ◌+◌, ◌-◌, ◌/◌, ℕ, length, pos, arith, refl, sym, ap, subst, rules, true, false, None, Some}
+use Rattle.std.proofs.Common.{◌≡◌, ◌<◌, ◌≤◌, ◌∙◌, ◌+◌, ◌-◌, ◌/◌, length, pos, arith, refl, sym, ap, subst, rules, true, false, None, Some}
 use Rattle.std.specs.Int.{w128}
 use Rattle.std.specs.Prelude.{FitsSigned}
 use Rattle.std.proofs.lemmas.Int.{to_z-of_z}
@@ -6,7 +6,7 @@ use Rattle.vx_base.specs.Packed.{packed_row}
 use Rattle.vx_base.specs.PlainValue.{int}
 use Rattle.vx_base.proofs.PackedLemmas.{packed_size_le}
 use Rattle.vx_model.specs.Rows.{rows, row_at, is_valid_at, index_of, packed_at, packed_or_patch, place_of}
-use Rattle.vx_model.specs.Tree.{PlainPatches, plain_packed, packed_of}
+use Rattle.vx_model.specs.Tree.{plain_packed, packed_of}
 use Rattle.vx_model.specs.WellFormed.{WellFormed, ascend}
 use Rattle.vx_model.proofs.FrameLemmas.{difference-word}
 use Rattle.vx_model.proofs.PackedLemmas.{length-frame_of_reference}

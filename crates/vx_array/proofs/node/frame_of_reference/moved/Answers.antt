@@ -1,8 +1,7 @@
-use Rattle.std.proofs.Common.{◌≡◌, ◌∙◌, ℤ, map, ap, subst, rules}
+use Rattle.std.proofs.Common.{◌≡◌, ◌∙◌, map, ap, subst, rules}
 use Rattle.std.specs.Int.{w128}
 use Rattle.std.specs.Prelude.{FitsSigned, ◌+ℤ◌}
 use Rattle.std.proofs.lemmas.Int.{to_z-of_z}
-use Rattle.vx_base.specs.declared.ptype.PType.{PType}
 use Rattle.vx_base.specs.Answers.{OrMemory}
 use Rattle.vx_base.specs.PlainType.{integer_of}
 use Rattle.vx_base.specs.PlainValue.{whole_or_zero}
