@@ -97,24 +97,23 @@ const WIDTH: Option<VortexError> = Some(VortexError::OutOfBounds);
 
 #[test]
 fn widths_are_at_most_the_bits_of_the_type(rt: HostRuntime) -> Result<(), Fail> {
-    for (ptype, width, bytes, error) in [
-        (U8, 2, 256, None),
-        (U8, 0, 0, None),
-        (U8, 8, 1024, None),
-        (U8, 9, 1152, WIDTH),
-        (I8, 7, 896, None),
-        (I8, 8, 1024, WIDTH),
-        (U64, 64, 8192, None),
-        (U64, 65, 8320, WIDTH),
-        (I64, 63, 8064, None),
-        (I64, 64, 8192, WIDTH),
-        (U8, 2, 255, LENGTHS),
-        (U8, 2, 257, LENGTHS),
-        (U8, 2, 0, LENGTHS),
-        (U8, 9, 1151, LENGTHS),
+    for (ptype, width, error) in [
+        (U8, 0, None),
+        (U8, 8, None),
+        (U8, 9, WIDTH),
+        (I8, 7, None),
+        (I8, 8, WIDTH),
+        (U64, 64, None),
+        (U64, 65, WIDTH),
+        (I64, 63, None),
+        (I64, 64, WIDTH),
     ] {
-        let got = refusal(&rt, zeros(ptype, width, bytes))?;
-        assert_eq!(rt; got, error, "width {width} in {bytes} bytes");
+        let got = refusal(&rt, zeros(ptype, width, 128 * width as usize))?;
+        assert_eq!(rt; got, error, "width {width}");
+    }
+    for (width, bytes) in [(0, 1), (2, 0), (2, 255), (2, 257), (9, 1151)] {
+        let got = refusal(&rt, zeros(U8, width, bytes))?;
+        assert_eq!(rt; got, LENGTHS, "width {width} in {bytes} bytes");
     }
     Ok(())
 }

@@ -18,8 +18,11 @@ fn three_rows_at_two_bits(rt: HostRuntime) -> Result<(), Fail> {
         .ok_or("refused")?;
     assert!(rt; array.encoding_id() == ArrayId::BitPacked && array.num_children() == 0);
     assert!(rt; array.nbytes() == 256 && has_wholes(&array, &[1, 2, 3]));
+    let copy = array.copy(rt.alloc())?;
+    assert!(rt; copy.encoding_id() == ArrayId::BitPacked && copy.num_children() == 0);
+    assert!(rt; copy.nbytes() == 256 && has_wholes(&copy, &[1, 2, 3]));
     let plain = array.canonical(rt.alloc())?;
-    assert!(rt; plain.nbytes() == 3);
+    assert!(rt; plain.nbytes() == 3 && plain.len() == 3);
     match plain.node() {
         Node::Primitive(Ints::U8(values), None, Nullability::NonNullable) => {
             assert_eq!(rt; values.as_slice(), [1, 2, 3].as_slice());
