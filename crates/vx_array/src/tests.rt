@@ -1,71 +1,11 @@
 //! Each constructor and each call that takes memory once, over small trees worked by hand.
 
-mod bit_packed;
-mod frame_of_reference;
-mod packed_rows;
-mod patches;
-
 use crate::{ArrayRef, Ints, Node};
 use std::test::Fail;
-use vx_base::{ArrayId, IntList, Integer, Mask, Nullability, PType, Scalar, VortexError};
+use vx_base::{ArrayId, IntList, Mask, Nullability, PType, Scalar, VortexError};
 
 fn bits(rt: &impl AllocGlobal, values: &[bool]) -> Result<Mask, Fail> {
     Ok(Mask::from_bits(Vec::from_slice(rt.alloc(), values)?))
-}
-
-fn list<T: Integer>(rt: &impl AllocGlobal, wholes: &[i128]) -> Result<IntList<T>, Fail> {
-    let mut items = Vec::new(rt.alloc());
-    for whole in wholes {
-        items.push(T::from_whole(*whole).ok_or("outside")?)?;
-    }
-    Ok(IntList::from_vec(items))
-}
-
-// A flat tree without nulls.
-fn flat(
-    rt: &impl AllocGlobal,
-    ptype: PType,
-    nullability: Nullability,
-    wholes: &[i128],
-) -> Result<ArrayRef, Fail> {
-    let values = match ptype {
-        PType::U8 => Ints::U8(list(rt, wholes)?),
-        PType::U16 => Ints::U16(list(rt, wholes)?),
-        PType::U32 => Ints::U32(list(rt, wholes)?),
-        PType::U64 => Ints::U64(list(rt, wholes)?),
-        PType::I8 => Ints::I8(list(rt, wholes)?),
-        PType::I16 => Ints::I16(list(rt, wholes)?),
-        PType::I32 => Ints::I32(list(rt, wholes)?),
-        PType::I64 => Ints::I64(list(rt, wholes)?),
-    };
-    let made = ArrayRef::primitive(values, None, nullability);
-    Ok(made.ok().ok_or("refused")?)
-}
-
-// Whether these are the rows, None at a null.
-fn has_rows(array: &ArrayRef, rows: &[Option<i128>]) -> bool {
-    if !array.dtype().is_integer() || array.len() != rows.len() as u64 {
-        return false;
-    }
-    for row in 0..rows.len() {
-        if array.integer_at(row as u64) != rows[row] {
-            return false;
-        }
-    }
-    true
-}
-
-// The same of rows without nulls.
-fn has_wholes(array: &ArrayRef, wholes: &[i128]) -> bool {
-    if !array.dtype().is_integer() || array.len() != wholes.len() as u64 {
-        return false;
-    }
-    for row in 0..wholes.len() {
-        if array.integer_at(row as u64) != Some(wholes[row]) {
-            return false;
-        }
-    }
-    true
 }
 
 fn shorts(rt: &impl AllocGlobal, values: &[i16]) -> Result<Ints, Fail> {
@@ -81,15 +21,6 @@ fn three(rt: &impl AllocGlobal) -> Result<ArrayRef, Fail> {
         Nullability::Nullable,
     );
     Ok(made.ok().ok_or("refused")?)
-}
-
-#[test]
-fn a_list_is_copied(rt: HostRuntime) -> Result<(), Fail> {
-    match shorts(&rt, &[300, -7])?.copy(rt.alloc())? {
-        Ints::I16(copy) => assert_eq!(rt; copy.as_slice(), [300, -7].as_slice()),
-        _ => return Err(Fail::from("another type")),
-    }
-    Ok(())
 }
 
 #[test]
