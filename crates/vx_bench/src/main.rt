@@ -1,112 +1,64 @@
-//! `vx_bench compress < document`: how long each phase of a compression takes, by std's clock.
+//! Times the phases of a compression, or the kernels of bit packing, by std's clock.
 #![tactic(auto)]
 
-use anyhow::{Result, bail};
-use std::alloc::Global;
+mod kernels;
+mod phases;
+
+use anyhow::Result;
+use kernels::{Setting, tell_kernels};
+use phases::tell_phases;
 use std::env;
 use std::env::Env;
-use std::io::Read;
-use std::time::{Clock, Duration, Instant};
-use vx_array::ArrayRef;
-use vx_base::ExecutionCtx;
-use vx_btrblocks::BtrBlocksCompressor;
-use vx_program::{Document, Input, StdSource, listing_text, read_all, read_document};
+use vx_base::PType;
 
-/// How long each phase took.
-#[derive(Clone, Copy)]
-struct Phases {
-    read: Duration,
-    parse: Duration,
-    compress: Duration,
-    list: Duration,
+/// What the words after the program's name ask for.
+enum Form {
+    Compress,
+    Kernels(Setting),
+    Usage,
 }
 
-fn bytes_of<R: Read>(alloc: Global, reader: R) -> Result<Vec<u8>>
-where
-    R: Drop,
-{
-    let mut source = StdSource::new(reader);
-    match read_all(alloc, &mut source)? {
-        Input::Whole(bytes) => Ok(bytes),
-        Input::TooLong => bail!("the document has more than 2^26 bytes"),
-        Input::Fault => bail!("a read failed"),
-    }
+fn ptype_of(word: &str) -> Option<PType> {
+    [PType::U8, PType::U32, PType::U64]
+        .into_iter()
+        .find(|ptype| ptype.name() == word)
 }
 
-fn document_of(alloc: Global, bytes: Vec<u8>) -> Result<Document> {
-    match read_document(alloc, bytes) {
-        Ok(document) => Ok(document),
-        Err(_) => bail!("no document, or want of memory"),
-    }
-}
-
-fn compressed(alloc: Global, document: Document) -> Result<ArrayRef> {
-    let Document { array, words } = document;
-    if words.len() == 0 {
-        bail!("no sample word");
-    }
-    let mut ctx = ExecutionCtx::new(alloc, words);
-    let compressor = BtrBlocksCompressor::shipped(alloc)?;
-    Ok(compressor.compress(&array, &mut ctx)?)
-}
-
-/// The length of the listing.
-fn listed(alloc: Global, tree: &ArrayRef) -> Result<usize> {
-    if tree.nbytes() == u128::MAX {
-        bail!("the tree's bytes pass 128 bits");
-    }
-    Ok(listing_text(alloc, tree)?.len())
-}
-
-/// Runs the phases one after the other.
-fn measured<R: Read>(rt: &(impl AllocGlobal + Clock), reader: R) -> Result<Phases>
-where
-    R: Drop,
-{
-    let start = Instant::now(rt)?;
-    let bytes = bytes_of(rt.alloc(), reader)?;
-    let read = start.elapsed(rt)?;
-    let start = Instant::now(rt)?;
-    let document = document_of(rt.alloc(), bytes)?;
-    let parse = start.elapsed(rt)?;
-    let start = Instant::now(rt)?;
-    let tree = compressed(rt.alloc(), document)?;
-    let compress = start.elapsed(rt)?;
-    let start = Instant::now(rt)?;
-    let _len = listed(rt.alloc(), &tree)?;
-    let list = start.elapsed(rt)?;
-    Ok(Phases {
-        read,
-        parse,
-        compress,
-        list,
+fn setting_of(words: &[String]) -> Option<Setting> {
+    let [ptype, width, rows, repeats] = words else {
+        return None;
+    };
+    Some(Setting {
+        ptype: ptype_of(ptype.as_str())?,
+        width: width.parse().ok()?,
+        rows: rows.parse().ok()?,
+        repeats: repeats.parse().ok()?,
     })
 }
 
-/// One line: the phase and its milliseconds.
-fn show(rt: &impl Print, phase: &str, time: Duration) -> Result<()> {
-    let micros = time.as_micros();
-    println!(rt; "{phase} {}.{:03}", micros / 1000, micros % 1000)?;
-    Ok(())
-}
-
-/// Whether the words after the program's name are the one case.
-fn is_compress(rt: &(impl Env + AllocGlobal)) -> Result<bool> {
-    let mut words = env::args(rt)?.skip(1);
-    let Some(first) = words.next() else {
-        return Ok(false);
-    };
-    Ok(first.as_str() == "compress" && words.next().is_none())
+fn form_of(words: &[String]) -> Form {
+    match words {
+        [form] if form.as_str() == "compress" => Form::Compress,
+        [form, rest @ ..] if form.as_str() == "kernels" => match setting_of(rest) {
+            Some(setting) => Form::Kernels(setting),
+            None => Form::Usage,
+        },
+        _ => Form::Usage,
+    }
 }
 
 fn main(rt: HostRuntime) -> Result<()> {
-    if !is_compress(&rt)? {
-        println!(rt; "usage: vx_bench compress < document")?;
-        return Ok(());
+    let mut words = Vec::new(rt.alloc());
+    for word in env::args(&rt)?.skip(1) {
+        words.push(word)?;
     }
-    let phases = measured(&rt, rt.reader())?;
-    show(&rt, "read", phases.read)?;
-    show(&rt, "parse", phases.parse)?;
-    show(&rt, "compress", phases.compress)?;
-    show(&rt, "list", phases.list)
+    match form_of(words.as_slice()) {
+        Form::Compress => tell_phases(&rt, rt.reader()),
+        Form::Kernels(setting) => tell_kernels(&rt, &setting),
+        Form::Usage => {
+            println!(rt; "usage: vx_bench compress < document")?;
+            println!(rt; "       vx_bench kernels u8|u32|u64 WIDTH ROWS REPEATS")?;
+            Ok(())
+        }
+    }
 }

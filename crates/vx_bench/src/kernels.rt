@@ -1,0 +1,183 @@
+//! The kernels of bit packing, each on the same rows. `bench/kernels.rs` makes the same rows and digests.
+
+ghost use Rattle.std.specs.Prelude.{◌≡◌, ◌<◌, ◌≤◌, length, vec_len, IfOk};
+ghost use Rattle.vx_base.specs.Integers.{bits_of};
+ghost use Rattle.vx_base.specs.Packed.{packed_size};
+
+use anyhow::{Result, bail};
+use std::alloc::{AllocError, Global};
+use std::time::CpuClock;
+use vx_array::{ArrayRef, Ints, Node};
+use vx_base::{Bytes, Integer, Mask, Nullability, PType, VortexResult};
+use vx_blocks::{bit_width_histogram, pack, unpack};
+
+// The generator of values: each state is the one before it times MULTIPLIER plus INCREMENT.
+const SEED: u64 = 1;
+
+const MULTIPLIER: u64 = 6364136223846793005;
+
+const INCREMENT: u64 = 1442695040888963407;
+
+// What a digest is multiplied by before the next item is added.
+const DIGEST_FACTOR: u64 = 31;
+
+/// The rows that the kernels run on, and how often each runs.
+#[derive(Clone, Copy)]
+pub struct Setting {
+    pub ptype: PType,
+    pub width: u32,
+    pub rows: usize,
+    pub repeats: u32,
+}
+
+// Rows of `width` bits, the high ones of each state.
+fn values<T: Integer>(alloc: Global, rows: usize, width: u32) -> Result<Vec<T>, AllocError>
+    requires some { 0 < width }
+    requires most { width ≤ 64 }
+    ensures { IfOk result (λ values. vec_len values ≡ rows) }
+{
+    let mut values = vec![in alloc; T::zero(); rows]?;
+    let mut state = SEED;
+    for value in values.iter_mut() {
+        state = state.wrapping_mul(MULTIPLIER).wrapping_add(INCREMENT);
+        *value = T::from_low_bits(state >> (64 - width));
+    }
+    Ok(values)
+}
+
+fn digest<T: Integer>(items: &[T]) -> u64 {
+    let mut sum: u64 = 0;
+    for item in items {
+        sum = sum.wrapping_mul(DIGEST_FACTOR).wrapping_add(item.to_bits());
+    }
+    sum
+}
+
+fn digest_of_tree(tree: &ArrayRef) -> Result<u64> {
+    match tree.node() {
+        Node::Primitive(Ints::U8(items), None, _) => Ok(digest(items.as_slice())),
+        Node::Primitive(Ints::U32(items), None, _) => Ok(digest(items.as_slice())),
+        Node::Primitive(Ints::U64(items), None, _) => Ok(digest(items.as_slice())),
+        _ => bail!("no plain column without nulls"),
+    }
+}
+
+// Runs a kernel once, and then by the clock: the least processor time in microseconds, and the answer.
+fn best_of<A: Drop, F: Fn() -> VortexResult<A>>(
+    rt: &impl CpuClock,
+    repeats: u32,
+    kernel: F,
+) -> Result<(u128, A)>
+    requires { F.IsAlwaysCallable kernel }
+{
+    let mut best = u128::MAX;
+    let mut answer = kernel()?;
+    for _ in 0..repeats {
+        drop(answer);
+        let start = rt.thread_cpu_time()?.as_micros();
+        answer = kernel()?;
+        best = best.min(rt.thread_cpu_time()?.as_micros().saturating_sub(start));
+    }
+    Ok((best, answer))
+}
+
+// One line: kernel, type, width, rows, microseconds, digest.
+fn show(rt: &impl Print, kernel: &str, on: &Setting, best: u128, digest: u64) -> Result<()> {
+    println!(rt;
+        "{kernel} {} {} {} {best} {digest}",
+        on.ptype.name(),
+        on.width,
+        on.rows
+    )?;
+    Ok(())
+}
+
+fn tell_histogram<T: Integer>(
+    rt: &(impl AllocGlobal + CpuClock + Print),
+    on: &Setting,
+    values: &[T],
+    valid: &Mask,
+) -> Result<()>
+    requires { length valid.now ≡ length values.now }
+{
+    let alloc = rt.alloc();
+    let (best, counts) = best_of(rt, on.repeats, || bit_width_histogram(alloc, values, valid))?;
+    show(rt, "histogram", on, best, digest(counts.as_slice()))
+}
+
+fn tell_pack<T: Integer>(
+    rt: &(impl AllocGlobal + CpuClock + Print),
+    on: &Setting,
+    values: &[T],
+    valid: &Mask,
+) -> Result<()>
+    requires same { length valid.now ≡ length values.now }
+    requires within { on.now.width ≤ bits_of T.kind }
+{
+    let alloc = rt.alloc();
+    let width = on.width;
+    let (best, packed) = best_of(rt, on.repeats, || pack(alloc, values, valid, width))?;
+    show(rt, "pack", on, best, digest(packed.as_slice()))
+}
+
+fn tell_unpack(
+    rt: &(impl AllocGlobal + CpuClock + Print),
+    on: &Setting,
+    packed: &[u8],
+) -> Result<()>
+    requires width { on.now.width ≤ 64 }
+    requires blocks { packed_size on.now.width on.now.rows ≤ length packed.now }
+{
+    let alloc = rt.alloc();
+    let width = on.width;
+    let rows = on.rows as u64;
+    let (best, words) = best_of(rt, on.repeats, || unpack(alloc, packed, width, 0, rows))?;
+    show(rt, "unpack", on, best, digest(words.as_slice()))
+}
+
+fn tell_canonical(
+    rt: &(impl AllocGlobal + CpuClock + Print),
+    on: &Setting,
+    packed: Vec<u8>,
+) -> Result<()> {
+    let alloc = rt.alloc();
+    let made = ArrayRef::bit_packed(
+        alloc,
+        on.ptype,
+        on.width,
+        Bytes::from_vec(packed),
+        on.rows as u64,
+        None,
+        None,
+        Nullability::NonNullable,
+    );
+    let Ok(tree) = made else {
+        bail!("no tree of these bytes");
+    };
+    let (best, plain) = best_of(rt, on.repeats, || tree.canonical(alloc))?;
+    show(rt, "canonical", on, best, digest_of_tree(&plain)?)
+}
+
+// Times each kernel on rows of the type.
+fn tell_of<T: Integer>(rt: &(impl AllocGlobal + CpuClock + Print), on: &Setting) -> Result<()> {
+    if on.width == 0 || on.width > T::ptype().bit_width() {
+        bail!("a width is from 1 to the bits of the type");
+    }
+    let values = values::<T>(rt.alloc(), on.rows, on.width)?;
+    let valid = Mask::from_bits(vec![in rt.alloc(); true; on.rows]?);
+    tell_histogram(rt, on, values.as_slice(), &valid)?;
+    tell_pack(rt, on, values.as_slice(), &valid)?;
+    let packed = pack(rt.alloc(), values.as_slice(), &valid, on.width)?;
+    tell_unpack(rt, on, packed.as_slice())?;
+    tell_canonical(rt, on, packed)
+}
+
+/// Times each kernel, and writes a line for each.
+pub fn tell_kernels(rt: &(impl AllocGlobal + CpuClock + Print), on: &Setting) -> Result<()> {
+    match on.ptype {
+        PType::U8 => tell_of::<u8>(rt, on),
+        PType::U32 => tell_of::<u32>(rt, on),
+        PType::U64 => tell_of::<u64>(rt, on),
+        _ => bail!("the types are u8, u32 and u64"),
+    }
+}

@@ -1,0 +1,100 @@
+//! The phases of a compression.
+
+use anyhow::{Result, bail};
+use std::alloc::Global;
+use std::io::Read;
+use std::time::{Clock, Duration, Instant};
+use vx_array::ArrayRef;
+use vx_base::ExecutionCtx;
+use vx_btrblocks::BtrBlocksCompressor;
+use vx_program::{Document, Input, StdSource, listing_text, read_all, read_document};
+
+/// How long each phase took.
+#[derive(Clone, Copy)]
+struct Phases {
+    read: Duration,
+    parse: Duration,
+    compress: Duration,
+    list: Duration,
+}
+
+fn bytes_of<R: Read>(alloc: Global, reader: R) -> Result<Vec<u8>>
+where
+    R: Drop,
+{
+    let mut source = StdSource::new(reader);
+    match read_all(alloc, &mut source)? {
+        Input::Whole(bytes) => Ok(bytes),
+        Input::TooLong => bail!("the document has more than 2^26 bytes"),
+        Input::Fault => bail!("a read failed"),
+    }
+}
+
+fn document_of(alloc: Global, bytes: Vec<u8>) -> Result<Document> {
+    match read_document(alloc, bytes) {
+        Ok(document) => Ok(document),
+        Err(_) => bail!("no document, or want of memory"),
+    }
+}
+
+fn compressed(alloc: Global, document: Document) -> Result<ArrayRef> {
+    let Document { array, words } = document;
+    if words.len() == 0 {
+        bail!("no sample word");
+    }
+    let mut ctx = ExecutionCtx::new(alloc, words);
+    let compressor = BtrBlocksCompressor::shipped(alloc)?;
+    Ok(compressor.compress(&array, &mut ctx)?)
+}
+
+/// The length of the listing.
+fn listed(alloc: Global, tree: &ArrayRef) -> Result<usize> {
+    if tree.nbytes() == u128::MAX {
+        bail!("the tree's bytes pass 128 bits");
+    }
+    Ok(listing_text(alloc, tree)?.len())
+}
+
+/// Runs the phases one after the other.
+fn measured<R: Read>(rt: &(impl AllocGlobal + Clock), reader: R) -> Result<Phases>
+where
+    R: Drop,
+{
+    let start = Instant::now(rt)?;
+    let bytes = bytes_of(rt.alloc(), reader)?;
+    let read = start.elapsed(rt)?;
+    let start = Instant::now(rt)?;
+    let document = document_of(rt.alloc(), bytes)?;
+    let parse = start.elapsed(rt)?;
+    let start = Instant::now(rt)?;
+    let tree = compressed(rt.alloc(), document)?;
+    let compress = start.elapsed(rt)?;
+    let start = Instant::now(rt)?;
+    let _len = listed(rt.alloc(), &tree)?;
+    let list = start.elapsed(rt)?;
+    Ok(Phases {
+        read,
+        parse,
+        compress,
+        list,
+    })
+}
+
+/// One line: the phase and its milliseconds.
+fn show(rt: &impl Print, phase: &str, time: Duration) -> Result<()> {
+    let micros = time.as_micros();
+    println!(rt; "{phase} {}.{:03}", micros / 1000, micros % 1000)?;
+    Ok(())
+}
+
+/// Compresses the reader's document, and writes a line for each phase.
+pub fn tell_phases<R: Read>(rt: &(impl AllocGlobal + Clock + Print), reader: R) -> Result<()>
+where
+    R: Drop,
+{
+    let phases = measured(rt, reader)?;
+    show(rt, "read", phases.read)?;
+    show(rt, "parse", phases.parse)?;
+    show(rt, "compress", phases.compress)?;
+    show(rt, "list", phases.list)
+}
