@@ -1,0 +1,182 @@
+"""Times the kernels of bit packing: the proved ones, beside the plain and the unrolled ones of kernels.rs.
+
+README.md tells what is measured and what the limits are.
+"""
+import os
+import platform
+import shutil
+import subprocess
+import sys
+from typing import NamedTuple
+
+SOURCE = os.path.join(os.path.dirname(os.path.abspath(__file__)), 'kernels.rs')
+MILLION = 1_000_000
+BITS = {'u8': 8, 'u32': 32, 'u64': 64}
+WIDTHS = (1, 4, 7, 12, 20, 31, 63)      # each in the types that have more bits
+KERNELS = ('histogram', 'pack', 'unpack', 'canonical')
+
+JUDGED = MILLION        # the size at which other loops' times are limits
+PLAIN = 1.02            # how many times the plain loop's time a kernel may take
+UNROLLED = 1.4          # and the unrolled loop's
+UNROLLED_WIDTH = 32     # the widest rows of that limit
+TENFOLD = 11            # how many times the time ten times the rows may take
+UNCACHED = 10 * MILLION     # the size from which growth is a limit: smaller ones lie in the processor's caches
+
+# The instructions that rt builds for.
+PROCESSOR = ('-C', 'target-cpu=x86-64-v2') if platform.machine() == 'x86_64' else ()
+
+# Memory that is given back stays with the program, so that the pages of a later answer are already there.
+KEEP_MEMORY = {'MALLOC_MMAP_MAX_': '0', 'MALLOC_TRIM_THRESHOLD_': str(2 ** 62)}
+
+
+class Size(NamedTuple):
+    """How many rows, how often programs run on them, how often each runs a kernel by the clock, and which programs."""
+    rows: int
+    rounds: int
+    repeats: int
+    bodies: tuple
+
+
+SIZES = (Size(MILLION, 20, 4, ('proved', 'plain', 'unrolled')),
+         Size(10 * MILLION, 3, 2, ('proved', 'plain', 'unrolled')),
+         Size(40 * MILLION, 3, 2, ('proved',)))
+ROUNDS = max(size.rounds for size in SIZES)
+
+
+class Kernel(NamedTuple):
+    name: str
+    type: str
+    width: int
+
+    def __str__(self):
+        return '%s %s at %d' % self
+
+
+CASES = [(type_, width) for type_ in BITS for width in WIDTHS if width < BITS[type_]]
+
+
+# ---------------------------------------------------------------------------------------------
+# measuring
+
+def peer_of(directory):
+    """The built kernels.rs, or None where there is no rustc."""
+    compiler = shutil.which('rustc')
+    if compiler is None:
+        return None
+    program = os.path.join(directory, 'kernels')
+    subprocess.run([compiler, '--edition', '2024', '-O', *PROCESSOR, '-o', program, SOURCE], check=True)
+    return program
+
+
+class Best:
+    """The best time of each body of a kernel, in microseconds, and the digests of what they answered."""
+
+    def __init__(self):
+        self.micros, self.digests = {}, set()
+
+    def keep(self, body, micros, digest):
+        self.micros[body] = min(micros, self.micros.get(body, micros))
+        self.digests.add(digest)
+
+    def ratio(self, other):
+        """The proved body's time over another's."""
+        return self.micros['proved'] / self.micros[other] if other in self.micros else None
+
+
+def run(table, body, command, case, size):
+    """Runs a program on rows of a type and width, and keeps what it tells."""
+    words = [case[0], str(case[1]), str(size.rows), str(size.repeats)]
+    done = subprocess.run(command + words, stdout=subprocess.PIPE, env={**os.environ, **KEEP_MEMORY}, text=True)
+    if done.returncode != 0:
+        sys.exit('bench/run: %s ended with status %d' % (' '.join(command + words), done.returncode))
+    for line in done.stdout.splitlines():
+        name, type_, width, rows, micros, digest = line.split()
+        best = table.setdefault((Kernel(name, type_, int(width)), int(rows)), Best())
+        best.keep(body, int(micros), digest)
+
+
+def go_round(table, commands, jobs):
+    """All rounds over these types, widths and sizes. The programs run in turn; the rounds of a size lie far apart."""
+    for number in range(ROUNDS):
+        for case, size in jobs:
+            if number * size.rounds % ROUNDS < size.rounds:
+                for body in size.bodies:
+                    if body in commands:
+                        run(table, body, commands[body], case, size)
+
+
+def missed(table):
+    """The types, widths and sizes of the limits that do not hold; of growth both sizes."""
+    for case in CASES:
+        faulty = [place for place in range(len(SIZES)) if any(faults_at(table, kernel, place) for kernel in kernels_of([case]))]
+        for place in sorted({*faulty, *(place - 1 for place in faulty if place > 0)}):
+            yield case, SIZES[place]
+
+
+def measure(proved, peer):
+    """The best of each kernel and number of rows. What misses a limit is measured once more, before it is judged."""
+    commands = {'proved': proved}
+    if peer:
+        commands.update(plain=[peer, 'plain'], unrolled=[peer, 'unrolled'])
+    table = {}
+    go_round(table, commands, [(case, size) for case in CASES for size in SIZES])
+    go_round(table, commands, list(missed(table)))
+    return table
+
+
+# ---------------------------------------------------------------------------------------------
+# telling
+
+def kernels_of(cases):
+    return [Kernel(name, *case) for name in KERNELS for case in cases]
+
+
+def growth(table, kernel, place):
+    """How many times the time ten times the rows take, by this size and the next smaller one."""
+    rows, before = SIZES[place].rows, SIZES[place - 1].rows
+    more = table[kernel, rows].micros['proved'] / table[kernel, before].micros['proved']
+    return 10 * more * before / rows
+
+
+def figure(x):
+    return '-' if x is None else '%.2f' % x
+
+
+def lines_of(table):
+    """Two lines of heads, and a line for each kernel."""
+    heads = [['', '', ''], ['kernel', 'type', 'width']]
+    for place, size in enumerate(SIZES):
+        columns = ['us', *size.bodies[1:]] + ['x10'] * (place > 0)
+        heads[0] += ['%d rows' % size.rows] + [''] * (len(columns) - 1)
+        heads[1] += columns
+    lines = []
+    for kernel in kernels_of(CASES):
+        line = [kernel.name, kernel.type, '%d' % kernel.width]
+        for place, size in enumerate(SIZES):
+            best = table[kernel, size.rows]
+            line += ['%d' % best.micros['proved'], *(figure(best.ratio(body)) for body in size.bodies[1:])]
+            line += [figure(growth(table, kernel, place))] * (place > 0)
+        lines.append(line)
+    return heads, lines
+
+
+def faults_of(table):
+    """The limits that do not hold."""
+    return [fault for kernel in kernels_of(CASES) for place in range(len(SIZES)) for fault in faults_at(table, kernel, place)]
+
+
+def faults_at(table, kernel, place):
+    """Those of a kernel at one number of rows."""
+    rows = SIZES[place].rows
+    best = table[kernel, rows]
+    plain, unrolled = best.ratio('plain'), best.ratio('unrolled')
+    found = []
+    if len(best.digests) > 1:
+        found.append('other bytes than those of the Rust loops')
+    if rows == JUDGED and plain is not None and plain > PLAIN:
+        found.append('%.2f times the time of the plain loop' % plain)
+    if rows == JUDGED and unrolled is not None and kernel.width <= UNROLLED_WIDTH and unrolled > UNROLLED:
+        found.append('%.2f times the time of the unrolled loop' % unrolled)
+    if rows > UNCACHED and growth(table, kernel, place) > TENFOLD:
+        found.append('%.2f times the time for ten times the rows' % growth(table, kernel, place))
+    return ['%s, %d rows: %s' % (kernel, rows, fault) for fault in found]
