@@ -95,15 +95,22 @@ def run(table, body, command, case, size):
         best.keep(body, int(micros), digest)
 
 
-def go_round(table, commands, cases):
-    """All rounds over these types and widths. The programs run in turn; the rounds of a size lie far apart."""
+def go_round(table, commands, jobs):
+    """All rounds over these types, widths and sizes. The programs run in turn; the rounds of a size lie far apart."""
     for number in range(ROUNDS):
-        for case in cases:
-            for size in SIZES:
-                if number * size.rounds % ROUNDS < size.rounds:
-                    for body in size.bodies:
-                        if body in commands:
-                            run(table, body, commands[body], case, size)
+        for case, size in jobs:
+            if number * size.rounds % ROUNDS < size.rounds:
+                for body in size.bodies:
+                    if body in commands:
+                        run(table, body, commands[body], case, size)
+
+
+def missed(table):
+    """The types, widths and sizes of the limits that do not hold; of growth both sizes."""
+    for case in CASES:
+        faulty = [place for place in range(len(SIZES)) if any(faults_at(table, kernel, place) for kernel in kernels_of([case]))]
+        for place in sorted({*faulty, *(place - 1 for place in faulty if place > 0)}):
+            yield case, SIZES[place]
 
 
 def measure(proved, peer):
@@ -112,8 +119,8 @@ def measure(proved, peer):
     if peer:
         commands.update(plain=[peer, 'plain'], unrolled=[peer, 'unrolled'])
     table = {}
-    go_round(table, commands, CASES)
-    go_round(table, commands, [case for case in CASES if any(faults_of(table, [case]))])
+    go_round(table, commands, [(case, size) for case in CASES for size in SIZES])
+    go_round(table, commands, list(missed(table)))
     return table
 
 
@@ -153,12 +160,13 @@ def lines_of(table):
     return heads, lines
 
 
-def faults_of(table, cases=CASES):
+def faults_of(table):
     """The limits that do not hold."""
-    return [fault for kernel in kernels_of(cases) for place in range(len(SIZES)) for fault in faults_at(table, kernel, place)]
+    return [fault for kernel in kernels_of(CASES) for place in range(len(SIZES)) for fault in faults_at(table, kernel, place)]
 
 
 def faults_at(table, kernel, place):
+    """Those of a kernel at one number of rows."""
     rows = SIZES[place].rows
     best = table[kernel, rows]
     plain, unrolled = best.ratio('plain'), best.ratio('unrolled')
