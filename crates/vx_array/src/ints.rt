@@ -3,6 +3,7 @@
 ghost use Rattle.std.specs.Prelude.{◌≡◌, ◌<◌, length, slice_index_or, pos, IsTrue, replicate, true, map, option_map, ◌+ℤ◌, slice_set};
 ghost use Rattle.std.specs.List.{list_all};
 ghost use Rattle.vx_base.specs.Answers.{Answers, OrMemory};
+ghost use Rattle.vx_base.specs.Gathered.{gathered, are_parts};
 ghost use Rattle.vx_base.specs.Integers.{lies_in, unsigned_of};
 ghost use Rattle.vx_base.specs.Wrapping.{wrap};
 ghost use Rattle.vx_model.specs.Decoded.{zeroed, zeroed_by, zero_beneath};
@@ -60,6 +61,8 @@ macro_rules! map_ints {
     };
 }
 
+mod kernels;
+
 impl Ints {
     ghost use Rattle.vx_array.specs.IntsOf.{ptype_of, wholes_of};
 
@@ -101,6 +104,14 @@ impl Ints {
         map_ints!(self, items => items.copy(alloc)?)
     }
 
+    /// The integers of the ranges, one range after the other.
+    pub fn gather(&self, alloc: Global, ranges: &[(u64, u64)]) -> VortexResult<Ints>
+        requires { IsTrue (are_parts (length (wholes_of self.now)) ranges.now) }
+        ensures { OrMemory result (λ ints. (ptype_of ints ≡ ptype_of self.now) × (wholes_of ints ≡ gathered ranges.now (wholes_of self.now))) }
+    {
+        map_ints!(self, items => slices::gathered(alloc, items, ranges)?)
+    }
+
     /// Tells a proof that each integer lies in its type.
     pub fn known(&self)
         ensures { IsTrue (list_all (lies_in (ptype_of self.now)) (wholes_of self.now)) }
@@ -125,7 +136,7 @@ impl Ints {
     }
 
     /// The list with 0 where a row isn't valid.
-    pub(crate) fn zeroed_by(self, valid: &Option<Mask>) -> VortexResult<Ints>
+    pub fn zeroed_by(self, valid: &Option<Mask>) -> VortexResult<Ints>
         requires { validity_length valid.now (length (wholes_of self)) ≡ true }
         ensures { OrMemory result (λ ints. (ptype_of ints ≡ ptype_of self) × (wholes_of ints ≡ zeroed_by valid.now (wholes_of self))) }
     {

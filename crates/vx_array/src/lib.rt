@@ -2,6 +2,7 @@
 #![tactic(auto)]
 
 mod array;
+mod arrays;
 mod canonical;
 mod copies;
 mod ints;
@@ -12,6 +13,7 @@ mod sizes;
 mod slices;
 
 pub use array::{ArrayRef, Node, Patches};
+pub use arrays::Arrays;
 pub use ints::Ints;
 pub use node::Made;
 

@@ -4,6 +4,7 @@ ghost use Rattle.std.specs.Prelude.{◌≡◌, ◌<◌, length, slice_index_or, 
 ghost use Rattle.std.specs.List.{list_all};
 ghost use Rattle.std.specs.Ordering.{int_eq};
 ghost use Rattle.vx_base.specs.Answers.{OrMemory};
+ghost use Rattle.vx_base.specs.Gathered.{gathered, are_parts};
 ghost use Rattle.vx_base.specs.Integers.{lies_in, unsigned_of};
 ghost use Rattle.vx_base.specs.Wrapping.{wrap};
 ghost use Rattle.vx_model.specs.Decoded.{zeroed, zeroed_by, zero_beneath};
@@ -11,6 +12,8 @@ ghost use Rattle.vx_model.specs.Refusals.{validity_length};
 ghost use Rattle.vx_base.specs.PlainValue.{cell, int};
 ghost use Rattle.vx_model.specs.Leaf.{first_valid, null_or, each_null_or};
 ghost use Rattle.vx_model.specs.Rows.{row_at, valid_rows};
+
+pub(crate) mod made;
 
 use crate::node::is_valid;
 use std::alloc::Global;
@@ -239,4 +242,16 @@ pub(crate) fn with_whole<T: Integer>(items: IntList<T>, row: u64, whole: i128) -
     let mut items = items.into_vec();
     items[row as usize] = item;
     IntList::from_vec(items)
+}
+
+// The integers of the ranges.
+pub(crate) fn gathered<T: Integer>(
+    alloc: Global,
+    items: &IntList<T>,
+    ranges: &[(u64, u64)],
+) -> VortexResult<IntList<T>>
+    requires { IsTrue (are_parts (length (map T.whole items.now)) ranges.now) }
+    ensures { OrMemory result (λ list. map T.whole list ≡ gathered ranges.now (map T.whole items.now)) }
+{
+    items.gather(alloc, ranges)
 }

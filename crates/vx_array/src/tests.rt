@@ -1,11 +1,81 @@
 //! Each constructor and each call that takes memory once, over small trees worked by hand.
 
-use crate::{ArrayRef, Ints, Node};
+mod bit_packed;
+mod frame_of_reference;
+mod packed_rows;
+mod patches;
+
+use crate::{ArrayRef, Arrays, Ints, Node};
 use std::test::Fail;
-use vx_base::{ArrayId, IntList, Mask, Nullability, PType, Scalar, VortexError};
+use vx_base::{ArrayId, Bytes, IntList, Integer, Mask, Nullability, PType, Scalar, VortexError};
+use vx_blocks::pack;
 
 fn bits(rt: &impl AllocGlobal, values: &[bool]) -> Result<Mask, Fail> {
     Ok(Mask::from_bits(Vec::from_slice(rt.alloc(), values)?))
+}
+
+fn list<T: Integer>(rt: &impl AllocGlobal, wholes: &[i128]) -> Result<IntList<T>, Fail> {
+    let mut items = Vec::new(rt.alloc());
+    for whole in wholes {
+        items.push(T::from_whole(*whole).ok_or("outside")?)?;
+    }
+    Ok(IntList::from_vec(items))
+}
+
+// A flat tree without nulls.
+fn flat(
+    rt: &impl AllocGlobal,
+    ptype: PType,
+    nullability: Nullability,
+    wholes: &[i128],
+) -> Result<ArrayRef, Fail> {
+    let values = match ptype {
+        PType::U8 => Ints::U8(list(rt, wholes)?),
+        PType::U16 => Ints::U16(list(rt, wholes)?),
+        PType::U32 => Ints::U32(list(rt, wholes)?),
+        PType::U64 => Ints::U64(list(rt, wholes)?),
+        PType::I8 => Ints::I8(list(rt, wholes)?),
+        PType::I16 => Ints::I16(list(rt, wholes)?),
+        PType::I32 => Ints::I32(list(rt, wholes)?),
+        PType::I64 => Ints::I64(list(rt, wholes)?),
+    };
+    let made = ArrayRef::primitive(values, None, nullability);
+    Ok(made.ok().ok_or("refused")?)
+}
+
+// The bytes of the rows, each at a width in bits.
+fn packed<T: Integer>(rt: &impl AllocGlobal, values: &[T], width: u32) -> Result<Bytes, Fail> {
+    if width > T::ptype().bit_width() {
+        return Err(Fail::from("too wide"));
+    }
+    let valid = Mask::from_bits(vec![in rt.alloc(); true; values.len()]?);
+    Ok(Bytes::from_vec(pack(rt.alloc(), values, &valid, width)?))
+}
+
+// Whether these are the rows, None at a null.
+fn has_rows(array: &ArrayRef, rows: &[Option<i128>]) -> bool {
+    if !array.dtype().is_integer() || array.len() != rows.len() as u64 {
+        return false;
+    }
+    for row in 0..rows.len() {
+        if array.integer_at(row as u64) != rows[row] {
+            return false;
+        }
+    }
+    true
+}
+
+// The same of rows without nulls.
+fn has_wholes(array: &ArrayRef, wholes: &[i128]) -> bool {
+    if !array.dtype().is_integer() || array.len() != wholes.len() as u64 {
+        return false;
+    }
+    for row in 0..wholes.len() {
+        if array.integer_at(row as u64) != Some(wholes[row]) {
+            return false;
+        }
+    }
+    true
 }
 
 fn shorts(rt: &impl AllocGlobal, values: &[i16]) -> Result<Ints, Fail> {
@@ -21,6 +91,15 @@ fn three(rt: &impl AllocGlobal) -> Result<ArrayRef, Fail> {
         Nullability::Nullable,
     );
     Ok(made.ok().ok_or("refused")?)
+}
+
+#[test]
+fn a_list_is_copied(rt: HostRuntime) -> Result<(), Fail> {
+    match shorts(&rt, &[300, -7])?.copy(rt.alloc())? {
+        Ints::I16(copy) => assert_eq!(rt; copy.as_slice(), [300, -7].as_slice()),
+        _ => return Err(Fail::from("another type")),
+    }
+    Ok(())
 }
 
 #[test]
@@ -104,5 +183,24 @@ fn a_masked_child_has_no_nulls(rt: HostRuntime) -> Result<(), Fail> {
         .ok_or("made")?;
     assert_eq!(rt; refused.error, VortexError::MismatchedTypes);
     assert_eq!(rt; refused.inputs.0.len(), 3);
+    Ok(())
+}
+
+#[test]
+fn lists_of_trees_keep_their_order(rt: HostRuntime) -> Result<(), Fail> {
+    let five = Scalar::primitive(5, PType::U8, Nullability::NonNullable)?;
+    let mut trees = Arrays::new_in(rt.alloc());
+    trees.push(three(&rt)?).ok().ok_or("memory")?;
+    trees
+        .push(ArrayRef::constant(five, 8))
+        .ok()
+        .ok_or("memory")?;
+    assert!(rt; trees.len() == 2 && trees.get(2).is_none());
+    assert!(rt; trees.get(1).is_some_and(|tree| tree.len() == 8));
+    let again = Arrays::from_vec(trees.into_vec());
+    match again.as_slice() {
+        [first, second] => assert!(rt; first.len() == 3 && second.len() == 8),
+        _ => return Err(Fail::from("not two trees")),
+    }
     Ok(())
 }

@@ -1,3 +1,5 @@
+pub mod BytesLemmas
+pub mod GatherLemmas
 pub mod IdSetLemmas
 pub mod MakesLemmas
 pub mod PackedLemmas

@@ -48,7 +48,7 @@ low_bits-from_bits p n h =
 pub wrap-add : (p : PType) (a b : ℤ) → wrap p (a +ℤ b) ≡ from_bits p ((low_bits p a + low_bits p b) % 2 ^ bits_of p)
 wrap-add p a b = ap (from_bits p) (low_bits-add p a b)
 
-low_bits-back : (p : PType) (a b : ℤ) → low_bits p (a +ℤ pos (low_bits p b)) ≡ low_bits p (a +ℤ b)
+pub low_bits-back : (p : PType) (a b : ℤ) → low_bits p (a +ℤ pos (low_bits p b)) ≡ low_bits p (a +ℤ b)
 low_bits-back p a b = low_bits-add p a (pos (low_bits p b)) ∙ ap (λ n. (low_bits p a + n) % 2 ^ bits_of p) (low_bits-natural p (low_bits p b) (low_bits-lt p b)) ∙ sym (low_bits-add p a b)
 
 -- the wrapped difference from a reference, moved by it

@@ -4,6 +4,7 @@ pub mod Digits
 pub mod ErrorName
 pub mod FractionLaws
 pub mod Fractions
+pub mod Gathered
 pub mod IdName
 pub mod IdNumber
 pub mod IdSets

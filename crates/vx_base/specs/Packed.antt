@@ -1,9 +1,15 @@
 -- Rows of some bits each, side by side in one number, the first row lowest. Bytes are such a number, of rows of 8 bits.
-use Rattle.std.specs.Prelude.{ℕ, ◌+◌, ◌*◌, ◌/◌, ◌%◌, ◌^◌, nat_lt, Bool, if◌then◌else◌, List, [], ◌∷◌}
+use Rattle.std.specs.Prelude.{ℕ, zero, suc, ◌+◌, ◌*◌, ◌/◌, ◌%◌, ◌^◌, nat_lt, not, ◌&&◌, Bool, false, if◌then◌else◌, List, [], ◌∷◌, length, filter, slice_index_or}
+use Rattle.std.specs.List.{range_with_len}
 
 abbrev pub joined : ℕ → List ℕ → ℕ
 joined width [] = 0
 joined width (row ∷ rows) = row + 2 ^ width * joined width rows
+
+-- so many bytes of a number, the lowest first
+unfoldable pub bytes_in : ℕ → ℕ → List ℕ
+bytes_in zero number = []
+bytes_in (suc count) number = number % 256 ∷ bytes_in count (number / 256)
 
 -- a row of such a number
 abbrev pub row_in : ℕ → ℕ → ℕ → ℕ
@@ -21,6 +27,14 @@ abbrev pub fields : ℕ → List ℕ → List Bool → List ℕ
 fields width [] valid = []
 fields width (b ∷ bits) [] = []
 fields width (b ∷ bits) (v ∷ valid) = field width b v ∷ fields width bits valid
+
+-- a row that is valid and wider than the width
+abbrev pub is_wide : ℕ → ℕ → Bool → Bool
+is_wide width bits valid = valid && not (nat_lt bits (2 ^ width))
+
+-- the numbers of those rows, in their order
+abbrev pub wide_rows : ℕ → List ℕ → List Bool → List ℕ
+wide_rows width bits valid = filter (λ i. is_wide width (slice_index_or bits i 0) (slice_index_or valid i false)) (range_with_len 0 (length bits))
 
 -- how many blocks of 1,024 rows hold so many rows
 abbrev pub block_count : ℕ → ℕ

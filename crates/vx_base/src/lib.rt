@@ -6,6 +6,7 @@ mod context;
 mod dtype;
 mod error;
 mod fraction;
+mod gathering;
 mod id_set;
 mod integer;
 mod items;

@@ -6,3 +6,4 @@ pub mod ReadBack
 pub mod Counts
 pub mod RowsRead
 pub mod Kept
+pub mod WideRows

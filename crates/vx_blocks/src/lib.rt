@@ -7,6 +7,7 @@ mod narrowing;
 mod packing;
 mod reading;
 mod unpacking;
+mod wide;
 mod widths;
 
 pub use laws::unpack_gives_back;
@@ -14,6 +15,7 @@ pub use narrowing::narrow_type;
 pub use packing::pack;
 pub use reading::get;
 pub use unpacking::{unpack, unpack_integers};
+pub use wide::wide_rows;
 pub use widths::{best_width, bit_width_histogram};
 
 #[cfg(test)]

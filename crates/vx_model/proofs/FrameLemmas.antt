@@ -1,7 +1,7 @@
 -- Each difference from a reference lies in the unsigned type of its width.
-use Rattle.std.proofs.Common.{◌≡◌, ◌<◌, ℕ, zero, suc, ℤ, pos, negsuc, List, [], ◌∷◌, length, Bool, true, subst, ap, sym, ◌∙◌, arith}
+use Rattle.std.proofs.Common.{◌≡◌, ◌<◌, ℕ, zero, suc, ℤ, pos, negsuc, List, [], ◌∷◌, length, Bool, true, refl, subst, ap, sym, ◌∙◌, arith}
 use Rattle.std.specs.List.{list_all}
-use Rattle.std.proofs.lemmas.Bool.{and_parts, lt-ltb, ltb-true}
+use Rattle.std.proofs.lemmas.Bool.{and_parts, and_from, lt-ltb, ltb-true}
 use Rattle.vx_base.specs.declared.ptype.PType.{PType}
 use Rattle.vx_base.specs.declared.ptype.PType.TheVariants.{U8, U16, U32, U64, I8, I16, I32, I64}
 use Rattle.vx_base.specs.Integers.{lies_in, unsigned_of}
@@ -47,3 +47,9 @@ unsigned_word I64 (negsuc n) h = absurd cc
 
 pub difference-word : (encoded : Tree) (reference : PlainScalar) (i : ℕ) (z : ℤ) → WellFormed (frame_of_reference encoded reference) → i < length (rows encoded) → row_at (rows encoded) i ≡ int z → lies_in U64 z ≡ true
 difference-word encoded reference i z h l e = unsigned_word (integer_of reference.dtype) z (difference-held encoded reference i z h l e)
+
+pub unsigned_wholes-word : (p : PType) (zs : List ℤ) → unsigned_of p ≡ p → list_all (lies_in p) zs ≡ true → list_all (lies_in U64) zs ≡ true
+unsigned_wholes-word p [] e h = refl
+unsigned_wholes-word p (z ∷ zs) e h = let b = and_parts _ _ h in and_from _ _ (unsigned_word p z (subst (λ q. lies_in q z ≡ true) (sym e) b.0)) (unsigned_wholes-word p zs e b.1)
+
+pub ruleset unsigned_wholes = (unsigned_wholes-word)

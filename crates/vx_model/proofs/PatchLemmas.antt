@@ -2,7 +2,7 @@
 use Rattle.std.proofs.Common.{◌≡◌, ◌<◌, ◌≤◌, ◌+◌, ◌&&◌, ℕ, zero, suc, pos, negsuc, List, [], ◌∷◌, length, drop, drop-cons, refl, arith, add-one, below_more, ⊎_elim, Bool, true, false, Some, None}
 use Rattle.std.specs.Prelude.{nat_lt, nat_le}
 use Rattle.std.specs.List.{position_or_len}
-use Rattle.std.proofs.lemmas.Bool.{cond-true, cond-false, ltb-true, lt-ltb, le-ltb, leb-true, eq-eqb, ne_eqb, cases_lt}
+use Rattle.std.proofs.lemmas.Bool.{cond-true, cond-false, ltb-true, ltb-false, lt-ltb, le-ltb, le-leb, leb-true, and_from, eq-eqb, ne_eqb, cases_lt}
 use Rattle.std.proofs.lemmas.List.Sums.{position_or_len_is}
 use Rattle.vx_base.specs.PlainValue.{PlainValue, null, int}
 use Rattle.vx_model.specs.Rows.{row_at, is_index, index_of, place_of}
@@ -41,17 +41,21 @@ three true true c e = (refl, refl, e)
 three true false c e = absurd cc
 three false b c e = absurd cc
 
-parts : (low high n : ℕ) (is : List PlainValue) → ascend low high (int (pos n) ∷ is) ≡ true → (low ≤ n) × (n < high) × (ascend (n + 1) high is ≡ true)
-parts low high n is e = let t = three (nat_le low n) (nat_lt n high) (ascend (n + 1) high is) e in (leb-true _ _ t.0, ltb-true _ _ t.1, t.2)
+-- and what each step of it says
+pub ascend_parts : (low high n : ℕ) (is : List PlainValue) → ascend low high (int (pos n) ∷ is) ≡ true → (low ≤ n) × (n < high) × (ascend (n + 1) high is ≡ true)
+ascend_parts low high n is e = let t = three (nat_le low n) (nat_lt n high) (ascend (n + 1) high is) e in (leb-true _ _ t.0, ltb-true _ _ t.1, t.2)
+
+pub ascend_from : (low high n : ℕ) (is : List PlainValue) → low ≤ n → n < high → ascend (n + 1) high is ≡ true → ascend low high (int (pos n) ∷ is) ≡ true
+ascend_from low high n is a b c = and_from _ _ (and_from _ _ (le-leb low n a) (lt-ltb n high b)) c
 
 -- each is a whole number from low on, below high
 pub ascend-within : (low high : ℕ) (is : List PlainValue) (i n : ℕ) → ascend low high is ≡ true → i < length is → index_of (row_at is i) ≡ Some n → (low ≤ n) × (n < high)
 ascend-within low high [] i n e h f = absurd (omega arith)
 ascend-within low high (null ∷ is) i n e h f = absurd cc
 ascend-within low high (int (negsuc m) ∷ is) i n e h f = absurd cc
-ascend-within low high (int (pos m) ∷ is) zero n e h f = let p = parts low high m is e in let same : m ≡ n = cc in (omega arith, omega arith)
+ascend-within low high (int (pos m) ∷ is) zero n e h f = let p = ascend_parts low high m is e in let same : m ≡ n = cc in (omega arith, omega arith)
 ascend-within low high (int (pos m) ∷ is) (suc i) n e h f =
-    let p = parts low high m is e in
+    let p = ascend_parts low high m is e in
     let q = ascend-within (m + 1) high is i n p.2 (omega arith) f in
     (omega arith, q.1)
 
@@ -60,7 +64,7 @@ ascend-index low high [] i e h f = absurd (omega arith)
 ascend-index low high (null ∷ is) i e h f = cc
 ascend-index low high (int (negsuc m) ∷ is) i e h f = cc
 ascend-index low high (int (pos m) ∷ is) zero e h f = cc
-ascend-index low high (int (pos m) ∷ is) (suc i) e h f = ascend-index (m + 1) high is i (parts low high m is e).2 (omega arith) f
+ascend-index low high (int (pos m) ∷ is) (suc i) e h f = ascend-index (m + 1) high is i (ascend_parts low high m is e).2 (omega arith) f
 
 -- no place below i has the index n
 abbrev pub NoneBelow : List PlainValue → ℕ → ℕ → Type 0
@@ -91,8 +95,8 @@ earlier low high (null ∷ is) n i k e h f l j m = absurd cc
 earlier low high (int (negsuc x) ∷ is) n i k e h f l j m = absurd cc
 earlier low high (int (pos x) ∷ is) n zero k e h f l j m = absurd (omega arith)
 earlier low high (int (pos x) ∷ is) n (suc i) k e h f l zero m =
-    let q = ascend-within (x + 1) high is i k (parts low high x is e).2 (omega arith) f in ne_eqb x n (λ r. omega arith)
-earlier low high (int (pos x) ∷ is) n (suc i) k e h f l (suc j) m = earlier (x + 1) high is n i k (parts low high x is e).2 (omega arith) f l j (omega arith)
+    let q = ascend-within (x + 1) high is i k (ascend_parts low high x is e).2 (omega arith) f in ne_eqb x n (λ r. omega arith)
+earlier low high (int (pos x) ∷ is) n (suc i) k e h f l (suc j) m = earlier (x + 1) high is n i k (ascend_parts low high x is e).2 (omega arith) f l j (omega arith)
 
 -- where the index at i is below n
 pub none_below-next : (low high : ℕ) (is : List PlainValue) (n i k : ℕ) → ascend low high is ≡ true → i < length is → index_of (row_at is i) ≡ Some k → k < n → NoneBelow is n (i + 1)
@@ -104,8 +108,8 @@ above_all low high [] n e l zero m = refl
 above_all low high [] n e l (suc j) m = refl
 above_all low high (null ∷ is) n e l j m = absurd cc
 above_all low high (int (negsuc x) ∷ is) n e l j m = absurd cc
-above_all low high (int (pos x) ∷ is) n e l zero m = let p = parts low high x is e in ne_eqb x n (λ r. omega arith)
-above_all low high (int (pos x) ∷ is) n e l (suc j) m = let p = parts low high x is e in above_all (x + 1) high is n p.2 (omega arith) j (omega arith)
+above_all low high (int (pos x) ∷ is) n e l zero m = let p = ascend_parts low high x is e in ne_eqb x n (λ r. omega arith)
+above_all low high (int (pos x) ∷ is) n e l (suc j) m = let p = ascend_parts low high x is e in above_all (x + 1) high is n p.2 (omega arith) j (omega arith)
 
 -- where it is above n
 pub none_from-next : (low high : ℕ) (is : List PlainValue) (n i k : ℕ) → ascend low high is ≡ true → i < length is → index_of (row_at is i) ≡ Some k → n < k → NoneFrom is n i
@@ -113,9 +117,9 @@ none_from-next low high [] n i k e h f l j m = absurd (omega arith)
 none_from-next low high (null ∷ is) n i k e h f l j m = absurd cc
 none_from-next low high (int (negsuc x) ∷ is) n i k e h f l j m = absurd cc
 none_from-next low high (int (pos x) ∷ is) n zero k e h f l zero m = let same : x ≡ k = cc in ne_eqb x n (λ r. omega arith)
-none_from-next low high (int (pos x) ∷ is) n zero k e h f l (suc j) m = let same : x ≡ k = cc in above_all (x + 1) high is n (parts low high x is e).2 (omega arith) j (omega arith)
+none_from-next low high (int (pos x) ∷ is) n zero k e h f l (suc j) m = let same : x ≡ k = cc in above_all (x + 1) high is n (ascend_parts low high x is e).2 (omega arith) j (omega arith)
 none_from-next low high (int (pos x) ∷ is) n (suc i) k e h f l zero m = absurd (omega arith)
-none_from-next low high (int (pos x) ∷ is) n (suc i) k e h f l (suc j) m = none_from-next (x + 1) high is n i k (parts low high x is e).2 (omega arith) f l j (omega arith)
+none_from-next low high (int (pos x) ∷ is) n (suc i) k e h f l (suc j) m = none_from-next (x + 1) high is n i k (ascend_parts low high x is e).2 (omega arith) f l j (omega arith)
 
 -- ---- the place of a patch
 

@@ -65,7 +65,7 @@ whole_lies_in : (p : PType) (n : Nullability) (v : PlainValue) → fits (primiti
 whole_lies_in p n null e = zero_lies_in p
 whole_lies_in p n (int z) e = e
 
-wholes_lie_in : (p : PType) (n : Nullability) (vs : List PlainValue) → list_all (fits (primitive p n)) vs ≡ true → list_all (lies_in p) (map whole_or_zero vs) ≡ true
+pub wholes_lie_in : (p : PType) (n : Nullability) (vs : List PlainValue) → list_all (fits (primitive p n)) vs ≡ true → list_all (lies_in p) (map whole_or_zero vs) ≡ true
 wholes_lie_in p n [] e = refl
 wholes_lie_in p n (v ∷ vs) e = let both = and_parts _ _ e in and_from _ _ (whole_lies_in p n v both.0) (wholes_lie_in p n vs both.1)
 

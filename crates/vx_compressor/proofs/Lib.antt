@@ -1,0 +1,4 @@
+pub mod ChoiceLemmas
+pub mod SampleLemmas
+pub mod SamplingLemmas
+pub mod StandardFacts

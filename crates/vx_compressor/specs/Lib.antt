@@ -1,0 +1,4 @@
+pub mod Cascade
+pub mod Choice
+pub mod Sampling
+pub mod SamplingLaws

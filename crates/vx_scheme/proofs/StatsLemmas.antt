@@ -1,0 +1,148 @@
+-- Statistics of rows: counts, the first valid row, and the order of the extremes.
+use Rattle.std.proofs.Common.{◌≡◌, ℕ, suc, ◌+◌, ◌<◌, ◌≤◌, ℤ, pos, negsuc, Bool, true, false, cond, List, [], ◌∷◌, length, map, get_or, refl, sym, ap, subst, ◌∙◌, arith, Some, None}
+use Rattle.std.specs.Prelude.{fold, position, nat_lt, ◌≤ℤ◌, ◌&&◌, ◌^◌, ◌/◌, ◌==◌}
+use Rattle.std.specs.List.{position_or_len}
+use Rattle.std.specs.Int.{int_min, int_max}
+use Rattle.std.proofs.lemmas.Bool.Decides.{nat_tests}
+use Rattle.std.proofs.lemmas.Int.{ints, fold-int_min_bounds, fold-int_max_bounds}
+use Rattle.std.proofs.lemmas.List.{length-map}
+use Rattle.vx_base.specs.declared.ptype.PType.{PType}
+use Rattle.vx_base.specs.Integers.{lies_in, least, greatest, is_signed, natural_bits, least_where}
+use Rattle.vx_base.specs.PlainValue.{PlainValue, null, int, is_null}
+use Rattle.vx_model.specs.Rows.{masked_rows}
+use Rattle.vx_scheme.specs.Stats.{valid_wholes, average_run_length, value_count, null_count, least_in, greatest_in, runs_after, run_count}
+use Rattle.vx_scheme.specs.Tally.{IsTallyAfter, IsTally}
+use Rattle.vx_scheme.specs.declared.stats.tally.Tally.{Tally}
+use Rattle.vx_base.specs.Masks.{true_count}
+use Rattle.vx_model.proofs.RowLemmas.{length-masked_rows}
+use Rattle.std.proofs.lemmas.Bool.{cond_both, cond-false, ne_eqb, ltb-true, ltb-false}
+use Rattle.std.proofs.lemmas.List.Sums.{sum_by-cons}
+use Rattle.vx_scheme.proofs.TallyLemmas.{same-eq, left}
+
+-- ---- counts
+
+null_count-next : (v : PlainValue) (vs : List PlainValue) → null_count (v ∷ vs) ≡ cond (is_null v) 1 0 + null_count vs
+null_count-next v vs = sum_by-cons (λ w. cond (is_null w) 1 0) v vs
+
+true_count-next : (bit : Bool) (bits : List Bool) → true_count (bit ∷ bits) ≡ cond bit 1 0 + true_count bits
+true_count-next bit bits = sum_by-cons (λ b. cond b 1 0) bit bits
+
+counts-sum : (vs : List PlainValue) → null_count vs + value_count vs ≡ length vs
+counts-sum [] = refl
+counts-sum (null ∷ vs) = omega (arith, null_count-next null vs, counts-sum vs)
+counts-sum (int z ∷ vs) = omega (arith, null_count-next (int z) vs, counts-sum vs)
+
+pub valid_wholes-map-int : (zs : List ℤ) → valid_wholes (map int zs) ≡ zs
+valid_wholes-map-int [] = refl
+valid_wholes-map-int (z ∷ zs) = ap (λ r. z ∷ r) (valid_wholes-map-int zs)
+
+pub count-none : (zs : List ℤ) → null_count (map int zs) ≡ 0
+count-none [] = refl
+count-none (z ∷ zs) = omega (arith, null_count-next (int z) (map int zs), count-none zs)
+
+pub count-values : (bits : List Bool) (zs : List ℤ) → length bits ≡ length zs → value_count (masked_rows bits (map int zs)) ≡ true_count bits
+count-values [] zs e = refl
+count-values (bit ∷ bits) [] e = absurd (omega arith)
+count-values (true ∷ bits) (z ∷ zs) e = omega (arith, true_count-next true bits, count-values bits zs (omega arith))
+count-values (false ∷ bits) (z ∷ zs) e = omega (arith, true_count-next false bits, count-values bits zs (omega arith))
+
+pub count-nulls : (bits : List Bool) (zs : List ℤ) → length bits ≡ length zs → null_count (masked_rows bits (map int zs)) + true_count bits ≡ length bits
+count-nulls bits zs e =
+    let same : length bits ≡ length (map int zs) = e ∙ sym (length-map zs int) in
+    omega (arith, counts-sum (masked_rows bits (map int zs)), count-values bits zs e, length-masked_rows bits (map int zs) same, same)
+
+pub average-is : (vs : List PlainValue) (n : ℕ) → suc n ≡ run_count (valid_wholes vs) → average_run_length vs ≡ value_count vs / suc n
+average-is vs n e = from (valid_wholes vs) e
+  where
+    from : (zs : List ℤ) → suc n ≡ run_count zs → cond (length zs == 0) 0 (length zs / run_count zs) ≡ length zs / suc n
+    from [] h = absurd (omega arith)
+    from (z ∷ zs) h = cond-false (suc (length zs) == 0) 0 _ (ne_eqb (suc (length zs)) 0 (λ (e : suc (length zs) ≡ 0). omega arith)) ∙ ap (λ m. suc (length zs) / m) (sym h)
+
+-- ---- the first valid row
+
+abbrev first_bit : List Bool → ℕ
+first_bit [] = 0
+first_bit (true ∷ bits) = 0
+first_bit (false ∷ bits) = suc (first_bit bits)
+
+first_bit-is : (bits : List Bool) → position_or_len (λ bit. bit) bits ≡ first_bit bits
+first_bit-is [] = refl
+first_bit-is (true ∷ bits) = refl
+first_bit-is (false ∷ bits) = ap (λ n. 1 + n) (first_bit-is bits) ∙ omega arith
+
+-- the numbers begin with this one
+pub record BeginsWith (z : ℤ) (zs : List ℤ) : Type 0 where
+  pub rest : List ℤ
+  pub is : zs ≡ z ∷ rest
+
+found-at : (row at len : ℕ) → cond (nat_lt at len) (Some at) None ≡ Some row → (row ≡ at) × (at < len)
+found-at row at len f = cond_both (nat_lt at len) (Some at) None (λ o. o ≡ Some row → (row ≡ at) × (at < len)) (λ lt same. (cc, ltb-true at len lt)) (λ ge same. absurd cc) f
+
+not-found : (at len : ℕ) → cond (nat_lt at len) (Some at) None ≡ None → len ≤ at
+not-found at len f = cond_both (nat_lt at len) (Some at) None (λ o. o ≡ None → len ≤ at) (λ lt same. absurd cc) (λ ge same. ltb-false at len ge) f
+
+module _ {T : Type 0} (whole : T → ℤ) where
+  begins-at : (bits : List Bool) (items : List T) (d : T) → length bits ≡ length items → first_bit bits < length bits → BeginsWith (whole (get_or items (first_bit bits) d)) (left whole items bits 0)
+  begins-at [] items d e h = absurd (omega arith)
+  begins-at (bit ∷ bits) [] d e h = absurd (omega arith)
+  begins-at (true ∷ bits) (x ∷ items) d e h = record { rest = left whole items bits 0; is = refl }
+  begins-at (false ∷ bits) (x ∷ items) d e h = let r = begins-at bits items d (omega arith) (omega arith) in record { rest = r.rest; is = r.is }
+
+  ends-before : (bits : List Bool) (items : List T) → length bits ≡ length items → length bits ≤ first_bit bits → left whole items bits 0 ≡ []
+  ends-before [] items e h = refl
+  ends-before (bit ∷ bits) [] e h = refl
+  ends-before (true ∷ bits) (x ∷ items) e h = absurd (omega arith)
+  ends-before (false ∷ bits) (x ∷ items) e h = ends-before bits items (omega arith) (omega arith)
+
+  pub begins : (bits : List Bool) (items : List T) (row : ℕ) (x : T) → length bits ≡ length items → position (λ bit. bit) bits ≡ Some row → x ≡ get_or items row x → BeginsWith (whole x) (left whole items bits 0)
+  begins bits items row x e found is =
+      let at : (row ≡ position_or_len (λ bit. bit) bits) × (position_or_len (λ bit. bit) bits < length bits) = found-at row _ _ found in
+      let place : row ≡ first_bit bits = at.0 ∙ first_bit-is bits in
+      let r = begins-at bits items x e (omega (arith, at.1, first_bit-is bits)) in
+      subst (λ y. BeginsWith (whole y) (left whole items bits 0)) (sym (is ∙ ap (λ n. get_or items n x) place)) r
+
+  pub nothing : (bits : List Bool) (items : List T) → length bits ≡ length items → position (λ bit. bit) bits ≡ None → left whole items bits 0 ≡ []
+  nothing bits items e missing = ends-before bits items e (omega (arith, first_bit-is bits, not-found _ _ missing))
+
+-- ---- from a first number to all
+
+greatest-above : (p : PType) (z : ℤ) → lies_in p z ≡ true → int_min (greatest p) z ≡ z
+greatest-above p (pos n) e = grind (arith, nat_tests, ints)
+greatest-above p (negsuc n) e = refl
+
+least-where-below : (signed : Bool) (b : ℕ) (n : ℕ) → (signed && nat_lt n (2 ^ b)) ≡ true → int_max (least_where signed b) (negsuc n) ≡ negsuc n
+least-where-below true b n e = grind (arith, nat_tests, ints)
+least-where-below false b n e = absurd cc
+
+least-below : (p : PType) (z : ℤ) → lies_in p z ≡ true → int_max (least p) z ≡ z
+least-below p (pos n) e = from (is_signed p) (natural_bits p)
+  where
+    from : (signed : Bool) (b : ℕ) → int_max (least_where signed b) (pos n) ≡ pos n
+    from true b = refl
+    from false b = grind (arith, nat_tests, ints)
+least-below p (negsuc n) e = least-where-below (is_signed p) (natural_bits p) n e
+
+once-min : (z : ℤ) → int_min z z ≡ z
+once-min z = grind (arith, ints)
+
+once-max : (z : ℤ) → int_max z z ≡ z
+once-max z = grind (arith, ints)
+
+pub all-tallied : {T : Type 0} (whole : T → ℤ) (p : PType) (first : ℤ) (zs : List ℤ) (t : Tally T) → lies_in p first ≡ true → BeginsWith first zs → IsTallyAfter whole first zs t → IsTally whole p zs t
+all-tallied whole p first zs t held begin after =
+    let runs : runs_after first zs ≡ runs_after first begin.rest = ap (runs_after first) begin.is ∙ ap (λ b. cond b 0 1 + runs_after first begin.rest) (same-eq first) ∙ omega arith in
+    let low : fold int_min first zs ≡ fold int_min (greatest p) zs = rw (begin.is, once-min first, greatest-above p first held) refl in
+    let high : fold int_max first zs ≡ fold int_max (least p) zs = rw (begin.is, once-max first, least-below p first held) refl in
+    record {
+      runs = ap suc (after.changes ∙ runs) ∙ sym (ap run_count begin.is);
+      least = after.least ∙ low;
+      greatest = after.greatest ∙ high;
+    }
+
+-- ---- the least is at most the greatest
+
+pub ordered : (p : PType) (vs : List PlainValue) → 0 < value_count vs → least_in p vs ≤ℤ greatest_in p vs
+ordered p vs some =
+    let low = (fold-int_min_bounds (greatest p) (valid_wholes vs) _ refl).1 0 (pos 0) some in
+    let high = (fold-int_max_bounds (least p) (valid_wholes vs) _ refl).1 0 (pos 0) some in
+    omega (arith, ints, low, high)

@@ -1,0 +1,35 @@
+-- What a scheme may be asked about.
+use Rattle.std.specs.Prelude.{◌≡◌, ◌<◌, ◌≤◌, ◌+◌, ◌^◌, ℕ, true, false, List, length, map}
+use Rattle.std.specs.List.{list_all}
+use Rattle.vx_base.specs.PlainValue.{is_null}
+use Rattle.vx_model.specs.Column.{Column, IsColumn, column_of}
+use Rattle.vx_model.specs.Plain.{IsPlain}
+use Rattle.vx_model.specs.Rows.{rows}
+use Rattle.vx_model.specs.Site.{Site}
+use Rattle.vx_model.specs.Tree.{Tree}
+use Rattle.vx_scheme.specs.Meaning.{Meaning, Made, parts_of}
+
+-- the most rows that a column of a site has: those of the greatest column, an offset more, and 1,024 for each level
+abbrev pub most_rows : ℕ
+most_rows = 2 ^ 31 + 4097
+
+-- a plain tree that any scheme may be given
+pub record IsSiteTree (tree : Tree) : Type 0 where
+  pub plain : IsPlain tree
+  pub some : 0 < length (rows tree)
+  pub few : length (rows tree) ≤ most_rows
+
+-- a column that a scheme judges and splits: one that it takes, with rows
+pub record IsAsked (m : Meaning) (c : Column) : Type 0 where
+  pub column : IsColumn c
+  pub taken : m.takes c.dtype ≡ true
+  pub some : 0 < length c.values
+  pub few : length c.values ≤ most_rows
+
+-- one tree for each part, of that part's type and rows
+abbrev pub FitParts : Made → List Tree → Type 0
+FitParts made trees = map column_of trees ≡ parts_of made
+
+-- some row has a value
+abbrev pub HasValue : Column → Type 0
+HasValue c = list_all is_null c.values ≡ false

@@ -1,0 +1,31 @@
+-- A plain array with what is kept of its statistics, as contracts see it.
+use Rattle.std.specs.Prelude.{◌≡◌, Bool, true, false, Option, None, Result, refl}
+use Rattle.std.specs.Coded.{Coded, code_by, coded×, coded_bool}
+use Rattle.vx_base.specs.Answers.{Decided, SurelyDecided}
+use Rattle.vx_base.specs.declared.error.VortexError.{VortexError}
+use Rattle.vx_model.specs.Tree.{Tree}
+use Rattle.vx_model.specs.TreeCode.{tree_code}
+use Rattle.vx_scheme.specs.declared.options.GenerateStatsOptions.{GenerateStatsOptions}
+
+pub record Bundle : Type 0 where
+  pub array : Tree
+  pub options : GenerateStatsOptions
+  pub integers_kept : Bool
+
+-- a bundle is stored as its fields
+abbrev pub bundle_code : Coded Bundle
+bundle_code =
+    code_by ((Tree × Bool) × Bool) (coded× (coded× tree_code coded_bool) coded_bool)
+    (λ b. ((b.array, b.options.count_distinct_values), b.integers_kept))
+    (λ p. record { array = p.0.0; options = record { count_distinct_values = p.0.1 }; integers_kept = p.1 })
+    (λ _. refl)
+
+-- the array and the options are as they were; a statistic may be kept
+pub record SameArray (old new : Bundle) : Type 0 where
+  pub array : new.array ≡ old.array
+  pub options : new.options ≡ old.options
+
+-- What is kept is answered surely; where nothing is, a refusal or want of memory may come.
+abbrev pub KeptOrDecided : {A : Type 0} → Bool → Option VortexError → (A → Type 0) → Result A VortexError → Type 0
+KeptOrDecided true refusal P result = SurelyDecided None P result
+KeptOrDecided false refusal P result = Decided refusal P result

@@ -1,0 +1,14 @@
+-- What a bundle is once a statistic that it lends is given back.
+use Rattle.std.specs.Prelude.{◌≡◌, Bool, true, ⊤}
+use mathlib.Core.Option.{none}
+use Rattle.std.specs.Borrow.{follows_so, MutBor, Fml}
+use Rattle.vx_scheme.specs.Bundle.{Bundle, SameArray}
+use Rattle.vx_scheme.specs.contracts.array_and_stats.ArrayAndStats.{the_row}
+
+-- its array and options are as they were, and its statistic of integers is kept where one was answered
+pub record KeepsIntegers (answered : Bool) (old new : Bundle) : Type 0 where
+  pub same : SameArray old new
+  pub kept : answered ≡ true → new.integers_kept ≡ true
+
+abbrev pub LendsIntegers : MutBor Bundle → Bool → Fml
+LendsIntegers bundle answered = follows_so the_row the_row bundle.ghost_name none (λ _ _. ⊤) (λ v. KeepsIntegers answered bundle.now v)

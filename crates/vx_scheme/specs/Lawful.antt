@@ -1,0 +1,25 @@
+-- What every scheme proves of its meaning.
+use Rattle.std.specs.Prelude.{◌≡◌, ◌≤◌, ◌+◌, true, List, length, map, All, IsTrue}
+use Rattle.vx_base.specs.PlainType.{is_leaf}
+use Rattle.vx_model.specs.Column.{Column, IsColumn, column_of}
+use Rattle.vx_model.specs.Site.{Site}
+use Rattle.vx_model.specs.Tree.{Tree}
+use Rattle.vx_model.specs.WellFormed.{WellFormed}
+use Rattle.vx_scheme.specs.Meaning.{Meaning, finished, parts}
+use Rattle.vx_scheme.specs.Asked.{IsAsked}
+
+-- a part of a column: a leaf column with few more rows
+pub record IsPart (c part : Column) : Type 0 where
+  pub column : IsColumn part
+  pub leaf : is_leaf part.dtype ≡ true
+  pub rows : length part.values ≤ length c.values + 1024
+
+pub record Lawful (m : Meaning) : Type 0 where
+  -- a finished tree stands for the column
+  pub finished_well : (c : Column) (site : Site) (tree : Tree) → IsAsked m c → m.splits c site ≡ finished tree → WellFormed tree × (column_of tree ≡ c)
+  -- so does a joined one, of trees that stand for the parts
+  pub joined_well : (c : Column) (site : Site) (columns : List Column) (trees : List Tree) → IsAsked m c → m.splits c site ≡ parts columns
+      → All WellFormed trees → map column_of trees ≡ columns → WellFormed (m.joined c site trees) × (column_of (m.joined c site trees) ≡ c)
+  -- there are no more parts than children, each small
+  pub few_parts : (c : Column) (site : Site) (columns : List Column) → IsAsked m c → m.splits c site ≡ parts columns → length columns ≤ m.children
+  pub small_parts : (c : Column) (site : Site) (columns : List Column) → IsAsked m c → m.splits c site ≡ parts columns → All (IsPart c) columns

@@ -1,0 +1,45 @@
+-- What a scheme means, as plain data: no clause above names a scheme's type.
+use Rattle.std.specs.Prelude.{ℕ, Bool, List, [], ◌∷◌, map}
+use Rattle.vx_base.specs.PlainType.{PlainType}
+use Rattle.vx_base.specs.declared.array_id.ArrayId.{ArrayId}
+use Rattle.vx_model.specs.Column.{Column}
+use Rattle.vx_model.specs.Plain.{plain}
+use Rattle.vx_model.specs.Site.{Site}
+use Rattle.vx_model.specs.Tree.{Tree}
+use Rattle.vx_scheme.specs.Rules.{Rule}
+use Rattle.vx_scheme.specs.declared.estimate.CompressionEstimate.{CompressionEstimate}
+use Rattle.vx_scheme.specs.declared.estimate.EstimateVerdict.{EstimateVerdict}
+use Rattle.vx_scheme.specs.declared.options.GenerateStatsOptions.{GenerateStatsOptions}
+use Rattle.vx_scheme.specs.declared.split.Split.{Split}
+use Rattle.vx_scheme.specs.declared.split.Split.TheVariants as splits
+
+-- what a scheme makes of a column: nothing, its tree, or parts that are compressed one by one
+pub data Made : Type 0 where
+  kept : Made
+  finished : Tree → Made
+  parts : List Column → Made
+
+pub record Meaning : Type 0 where
+  pub name : List ℕ
+  pub takes : PlainType → Bool
+  pub children : ℕ
+  pub options : GenerateStatsOptions
+  pub produces : ArrayId → Bool
+  pub descendants : List Rule
+  pub ancestors : List Rule
+  pub estimate : Column → Site → CompressionEstimate
+  pub resolve : Column → Site → EstimateVerdict
+  pub splits : Column → Site → Made
+  pub joined : Column → Site → List Tree → Tree
+
+-- parts are plain trees
+abbrev pub split_of : Made → Split
+split_of kept = splits.Kept
+split_of (finished tree) = splits.Finished tree
+split_of (parts columns) = splits.Parts (map plain columns)
+
+-- the parts that are compressed, none where there are none
+abbrev pub parts_of : Made → List Column
+parts_of kept = []
+parts_of (finished tree) = []
+parts_of (parts columns) = columns

@@ -1,0 +1,57 @@
+//! Which encodings a tree may have.
+
+ghost use Rattle.std.specs.Prelude.{◌≡◌, true};
+ghost use Rattle.vx_base.specs.declared.array_id.ArrayId.{ArrayId};
+ghost use Rattle.vx_scheme.specs.Allowed.{is_allowed, is_in};
+
+use vx_base::{ArrayId, IdSet};
+
+/// What bounds the encodings: those that are registered, those of the chosen editions, and those that are left out. A
+/// set that isn't there bounds nothing.
+#[derive(Clone, Copy, Debug, PartialEq, Eq)]
+pub struct AllowedIds {
+    pub registered: Option<IdSet>,
+    pub editions: Option<IdSet>,
+    pub excluded: IdSet,
+}
+
+impl AllowedIds {
+    /// No bound.
+    pub fn all() -> AllowedIds
+        ensures { (id : ArrayId) → is_allowed result id ≡ true }
+    {
+        AllowedIds {
+            registered: None,
+            editions: None,
+            excluded: IdSet::empty(),
+        }
+    }
+
+    /// Whether the id is in each set that is there, and not left out.
+    pub fn is_allowed(&self, id: ArrayId) -> bool
+        ensures { result ≡ is_allowed self.now id }
+    {
+        !self.excluded.contains(id) && is_in(&self.registered, id) && is_in(&self.editions, id)
+    }
+}
+
+impl Default for AllowedIds {
+    ghost use Rattle.std.specs.Prelude.{◌≡◌, true};
+    ghost use Rattle.vx_base.specs.declared.array_id.ArrayId.{ArrayId};
+    ghost use Rattle.vx_scheme.specs.Allowed.{is_allowed};
+
+    ghost is_default = { λ allowed. (id : ArrayId) → is_allowed allowed id ≡ true };
+
+    fn default() -> AllowedIds {
+        AllowedIds::all()
+    }
+}
+
+fn is_in(set: &Option<IdSet>, id: ArrayId) -> bool
+    ensures { result ≡ is_in set.now id }
+{
+    match set {
+        Some(set) => set.contains(id),
+        None => true,
+    }
+}

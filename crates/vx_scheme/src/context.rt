@@ -1,0 +1,118 @@
+//! Where in a compression a column stands.
+
+ghost use Rattle.std.specs.Prelude.{◌≤◌, ◌+◌};
+
+use crate::MAX_CASCADE;
+use crate::options::GenerateStatsOptions;
+use crate::scheme_id::SchemeId;
+
+/// A site of the cascade: how many schemes may still follow, whether the column is a sample, and the schemes above with
+/// the child numbers on the way down, the outermost first. With it go the statistics that the schemes at the site ask
+/// for together. It is small and copied as it is passed on; none of its calls takes memory.
+#[derive(Clone, Copy, Debug)]
+pub struct CompressorContext {
+    budget: usize,
+    sampled: bool,
+    // The schemes above are the first `depth` entries.
+    history: [(SchemeId, usize); MAX_CASCADE],
+    depth: usize,
+    options: GenerateStatsOptions,
+    ghost room: { depth + budget ≤ 3 },
+}
+
+impl CompressorContext {
+    ghost use Rattle.std.specs.Prelude.{◌≡◌, ◌==◌, ◌<◌, ◌≤◌, ◌+◌, false, length};
+    ghost use Rattle.vx_model.specs.Site.{fresh, down};
+    ghost use Rattle.vx_scheme.specs.Contexts.{site_of, options_of, entries_of, leaf_site, sample_site};
+    ghost use Rattle.vx_scheme.specs.Names.{name_of};
+
+    /// Where a column begins: the whole budget, no sample, nothing above, no options.
+    pub fn new() -> CompressorContext
+        ensures site { site_of result ≡ fresh }
+        ensures options { (options_of result).count_distinct_values ≡ false }
+    {
+        CompressorContext {
+            budget: MAX_CASCADE,
+            sampled: false,
+            history: [(SchemeId::of(""), 0); MAX_CASCADE],
+            depth: 0,
+            options: GenerateStatsOptions::default(),
+        }
+    }
+
+    /// Whether the column is a sample of another one.
+    pub fn is_sample(&self) -> bool
+        ensures { result ≡ (site_of self.now).sampled }
+    {
+        self.sampled
+    }
+
+    /// The statistics that the schemes at the site ask for.
+    pub fn merged_stats_options(&self) -> GenerateStatsOptions
+        ensures { result ≡ options_of self.now }
+    {
+        self.options
+    }
+
+    /// The schemes above, the outermost first, each with the number of its child on the way down.
+    pub fn cascade_history(&self) -> &[(SchemeId, usize)]
+        ensures history { entries_of result.now ≡ (site_of self.now).history }
+        ensures within { length result.now + (site_of self.now).budget ≤ 3 }
+    {
+        &self.history[..self.depth]
+    }
+
+    /// Whether no scheme may follow: the budget is 0.
+    pub fn finished_cascading(&self) -> bool
+        ensures { result ≡ ((site_of self.now).budget == 0) }
+    {
+        self.budget == 0
+    }
+
+    /// How many schemes may still follow one another, at most `MAX_CASCADE`.
+    pub fn budget(&self) -> usize
+        ensures budget { result ≡ (site_of self.now).budget }
+        ensures within { result ≤ 3 }
+    {
+        self.budget
+    }
+
+    /// The same with budget 0.
+    pub fn as_leaf(mut self) -> CompressorContext
+        ensures site { site_of result ≡ leaf_site (site_of self) }
+        ensures options { options_of result ≡ options_of self }
+    {
+        self.budget = 0;
+        self
+    }
+
+    /// The same, of a sample.
+    pub fn with_sampling(mut self) -> CompressorContext
+        ensures site { site_of result ≡ sample_site (site_of self) }
+        ensures options { options_of result ≡ options_of self }
+    {
+        self.sampled = true;
+        self
+    }
+
+    /// The same with these options in place of its own.
+    pub fn with_merged_stats_options(mut self, opts: GenerateStatsOptions) -> CompressorContext
+        ensures site { site_of result ≡ site_of self }
+        ensures options { options_of result ≡ opts }
+    {
+        self.options = opts;
+        self
+    }
+
+    /// The site of a scheme's child: the budget is one less, and the scheme stands above, last.
+    pub fn descend(mut self, id: SchemeId, child_index: usize) -> CompressorContext
+        requires { 0 < (site_of self).budget }
+        ensures site { site_of result ≡ down (site_of self) (name_of id) child_index }
+        ensures options { options_of result ≡ options_of self }
+    {
+        self.history[self.depth] = (id, child_index);
+        self.depth += 1;
+        self.budget -= 1;
+        self
+    }
+}

@@ -1,0 +1,72 @@
+//! The statistics of a list of integers.
+
+ghost use Rattle.std.specs.Prelude.{◌≡◌, ◌<◌, ◌/◌, ◌^◌, ◌≤ℤ◌, suc, ℤ, List, length, map, true};
+ghost use Rattle.vx_base.specs.PlainValue.{PlainValue, int};
+ghost use Rattle.vx_model.specs.Refusals.{validity_length};
+ghost use Rattle.vx_model.specs.Rows.{valid_rows};
+ghost use Rattle.vx_scheme.specs.Counts.{counts_of};
+ghost use Rattle.vx_scheme.specs.Stats.{valid_wholes, null_count, value_count, average_run_length, extremes_in};
+ghost use Rattle.vx_scheme.specs.Tally.{IsTallyOf};
+
+use crate::stats::tally::{Tally, tally_rows};
+use crate::stats::typed::TypedStats;
+use vx_base::{Integer, Mask};
+
+/// What statistics count.
+#[derive(Clone, Copy, Debug)]
+pub(crate) struct Counts {
+    pub(crate) null_count: u32,
+    pub(crate) value_count: u32,
+    pub(crate) average_run_length: u32,
+}
+
+// How many of so many rows are null, and how many aren't.
+fn count_rows(len: u32, valid: &Option<Mask>) -> (u32, u32)
+    requires { validity_length valid.now len ≡ true }
+    ensures { (zs : List ℤ) → length zs ≡ len → (result.0 ≡ null_count (valid_rows valid.now (map int zs))) × (result.1 ≡ value_count (valid_rows valid.now (map int zs))) }
+{
+    match valid {
+        Some(mask) => {
+            let value_count = mask.true_count() as u32;
+            (len - value_count, value_count)
+        }
+        None => (0, len),
+    }
+}
+
+fn average(values: u32, changes: u32) -> u32
+    ensures { result ≡ values / suc changes }
+{
+    (u64::from(values) / (u64::from(changes) + 1)) as u32
+}
+
+// The average run length and the extremes of so many values.
+fn shown<T: Integer>(count: u32, tally: Option<Tally<T>>) -> (u32, TypedStats<T>)
+    ensures { (values : List PlainValue) → IsTallyOf T.whole T.kind (valid_wholes values) tally → count ≡ value_count values → (result.0 ≡ average_run_length values) × (result.1 ≡ extremes_in T.kind values) }
+{
+    match tally {
+        Some(tally) => (
+            average(count, tally.changes),
+            TypedStats::new(tally.min, tally.max),
+        ),
+        None => (0, TypedStats::empty()),
+    }
+}
+
+/// The counts and the extremes of the valid rows.
+pub(crate) fn summary<T: Integer>(items: &[T], valid: &Option<Mask>) -> (Counts, TypedStats<T>)
+    requires mask { validity_length valid.now (length items.now) ≡ true }
+    requires few { length items.now < 2 ^ 32 }
+    ensures counts { result.0 ≡ counts_of (valid_rows valid.now (map int (map T.whole items.now))) }
+    ensures extremes { result.1 ≡ extremes_in T.kind (valid_rows valid.now (map int (map T.whole items.now))) }
+    ensures ordered { 0 < result.0.value_count → result.1.least ≤ℤ result.1.greatest }
+{
+    let (null_count, value_count) = count_rows(items.len() as u32, valid);
+    let (average_run_length, extremes) = shown(value_count, tally_rows(items, valid));
+    let counts = Counts {
+        null_count,
+        value_count,
+        average_run_length,
+    };
+    (counts, extremes)
+}

@@ -1,0 +1,9 @@
+pub mod DifferenceLemmas
+pub mod LawfulFrame
+pub mod LawfulPacking
+pub mod PackingLemmas
+pub mod PickedLemmas
+pub mod ShortLemmas
+pub mod ShortPatchLemmas
+pub mod StandardFacts
+pub mod WidthLemmas
