@@ -159,14 +159,14 @@ module _ (p : PType) (n : Nullability) (vs : List PlainValue) (width : ℕ) wher
       let o = patches_of p wholes (wide p n wholes bits width long_bits) in
       let long : length (rows t) ≡ length vs = length-packed_of k o w ∙ long_wholes in
       ext_get_or null (rows t) vs long (λ i h.
-        let l : i < length wholes = omega (arith, h, long, long_wholes) in
-        let m : i < length vs = omega (arith, h, long) in
-        let x : get_or wholes i (pos 0) ≡ whole_or_zero (row_at vs i) = get_or-map whole_or_zero vs i null (pos 0) m in
-        let b : get_or bits i false ≡ not (is_null (row_at vs i)) = get_or-map (λ v. not (is_null v)) vs i null false m in
-        let f : get_or (map (bits_in p) wholes) i 0 ≡ bits_in p (get_or wholes i (pos 0)) = get_or-map (bits_in p) wholes i (pos 0) 0 l in
-        let valid = is_valid-kept p n wholes bits width long_bits i l in
-        let row = packed_row-at p n wholes bits width long_bits i l in
-        row_at-packed_of k o i w l ∙ (λ j. cond (valid j) (row j) null) ∙ row_back p width (row_at vs i) (get_or wholes i (pos 0)) (get_or (map (bits_in p) wholes) i 0) (get_or bits i false) x f b (none_negative wholes i none l))
+      let l : i < length wholes = omega (arith, h, long, long_wholes) in
+      let m : i < length vs = omega (arith, h, long) in
+      let x : get_or wholes i (pos 0) ≡ whole_or_zero (row_at vs i) = get_or-map whole_or_zero vs i null (pos 0) m in
+      let b : get_or bits i false ≡ not (is_null (row_at vs i)) = get_or-map (λ v. not (is_null v)) vs i null false m in
+      let f : get_or (map (bits_in p) wholes) i 0 ≡ bits_in p (get_or wholes i (pos 0)) = get_or-map (bits_in p) wholes i (pos 0) 0 l in
+      let valid = is_valid-kept p n wholes bits width long_bits i l in
+      let row = packed_row-at p n wholes bits width long_bits i l in
+      row_at-packed_of k o i w l ∙ (λ j. cond (valid j) (row j) null) ∙ row_back p width (row_at vs i) (get_or wholes i (pos 0)) (get_or (map (bits_in p) wholes) i 0) (get_or bits i false) x f b (none_negative wholes i none l))
 
 -- ---- the law
 

@@ -98,7 +98,7 @@ packed_admitted p n xs valid width chosen same allowed narrow =
       eq-eqb (length valid) (length xs) same,
       patches_long p xs chosen,
       narrow,
-      allowed
+      allowed,
     ) refl
 
 -- ---- the numbers and the validity of a plain tree

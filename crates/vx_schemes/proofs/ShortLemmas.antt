@@ -164,7 +164,6 @@ some_null_of vs bits e = by_any (list_any is_null vs) e
     by_any true q = refl
     by_any false q = absurd cc
 
-
 same_first : (x : ℤ) (ys : List ℤ) → list_all (null_or (int x)) (map int ys) ≡ list_all (λ w. same_value w (int x)) (map int ys)
 same_first x [] = refl
 same_first x (y ∷ ys) = ap (λ b. same_value (int y) (int x) && b) (same_first x ys)

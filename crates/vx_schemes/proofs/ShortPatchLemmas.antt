@@ -77,8 +77,7 @@ short_well p h =
     let low = p.offset in
     let high = p.offset + p.array_len in
     let is = rows-narrowed p.indices low high h.2.ascending in
-    let vs = rows-constant_or_plain (column_of p.values) in
-    (
+    let vs = rows-constant_or_plain (column_of p.values) in (
       narrowed-well p.indices low high h.2.ascending h.0,
       constant_or_plain-well (column_of p.values) (rows_fit p.values h.1),
       record {
@@ -86,7 +85,7 @@ short_well p h =
         not_null = refl;
         lengths = ap length is ∙ h.2.lengths ∙ sym (ap length vs);
         ascending = ap (ascend low high) is ∙ h.2.ascending;
-      }
+      },
     )
 
 -- so the constructor admits them

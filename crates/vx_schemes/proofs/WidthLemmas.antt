@@ -71,21 +71,21 @@ some_best f (suc n) =
     let b = some_best f n in
     elim (cases_lt (f (suc n)) (f b.place)) [
       | inl less ↦ record {
-          place = suc n;
-          best = record {
-            within = omega arith;
-            least = λ v h. elim (cases_lt v (suc n)) [ inl before ↦ omega (arith, b.best.least v (omega arith)) | inr last ↦ (let same : v ≡ suc n = omega arith in rw same (omega arith)) ];
-            first = λ v h. omega (arith, b.best.least v (omega arith));
-          };
-        }
+        place = suc n;
+        best = record {
+          within = omega arith;
+          least = λ v h. elim (cases_lt v (suc n)) [ inl before ↦ omega (arith, b.best.least v (omega arith)) | inr last ↦ (let same : v ≡ suc n = omega arith in rw same (omega arith)) ];
+          first = λ v h. omega (arith, b.best.least v (omega arith));
+        };
+      }
       | inr more ↦ record {
-          place = b.place;
-          best = record {
-            within = omega (arith, b.best.within);
-            least = λ v h. elim (cases_lt v (suc n)) [ inl before ↦ b.best.least v (omega arith) | inr last ↦ (let same : v ≡ suc n = omega arith in rw same more) ];
-            first = b.best.first;
-          };
-        }
+        place = b.place;
+        best = record {
+          within = omega (arith, b.best.within);
+          least = λ v h. elim (cases_lt v (suc n)) [ inl before ↦ b.best.least v (omega arith) | inr last ↦ (let same : v ≡ suc n = omega arith in rw same more) ];
+          first = b.best.first;
+        };
+      }
     ]
 
 pub first_least-le : (f : ℕ → ℕ) (n : ℕ) → first_least f n ≤ n

@@ -23,10 +23,7 @@ use vx_blocks::best_width;
 
 /// A plain column of integers packed at the width of least cost, with the values that are wider as patches. None where
 /// a value is negative, or where that width is the type's.
-pub fn bit_packing_tree(
-    plain: &ArrayRef,
-    ctx: &mut ExecutionCtx,
-) -> VortexResult<Option<ArrayRef>>
+pub fn bit_packing_tree(plain: &ArrayRef, ctx: &mut ExecutionCtx) -> VortexResult<Option<ArrayRef>>
     requires plain { IsPlain plain.now }
     requires few { length (rows plain.now) ≤ 2 ^ 32 }
     ensures answer { Answers result (bit_packing_made (column_of plain.now)) }
@@ -104,7 +101,16 @@ fn packed_tree(
     let patches = patches_of(values, wide, ctx)?;
     let valid = Some(valid.copy(alloc)?);
     let ptype = values.ptype();
-    match ArrayRef::bit_packed(alloc, ptype, width, packed, values.len(), valid, patches, nullability) {
+    match ArrayRef::bit_packed(
+        alloc,
+        ptype,
+        width,
+        packed,
+        values.len(),
+        valid,
+        patches,
+        nullability,
+    ) {
         Ok(tree) => Ok(tree),
         Err(refused) => Err(refused.error),
     }
