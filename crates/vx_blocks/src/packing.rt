@@ -160,7 +160,17 @@ fn pack_rows<T: Integer>(
     let mut out = Vec::with_capacity(alloc, size)?;
     let mut acc = 0;
     let mut fill = 0;
-    for i in 0..values.len() {
+    let whole = values.len() / 16 * 16;
+    let mut buffer = [0u8; 128];
+    for first in 0..values.len() / 16 {
+        let mut len = 0;
+        for i in 16 * first..16 * first + 16 {
+            let bits = fit(values[i].to_bits(), valid[i], width);
+            (acc, fill, len) = put_in(&mut buffer, len, acc, fill, bits, width);
+        }
+        out.extend_from_slice(&buffer[..len])?;
+    }
+    for i in whole..values.len() {
         let bits = fit(values[i].to_bits(), valid[i], width);
         (acc, fill) = put(&mut out, acc, fill, bits, width)?;
     }
