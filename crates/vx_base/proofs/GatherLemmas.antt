@@ -1,9 +1,8 @@
 -- The rows of ranges under a function, and which ranges are parts.
-use Rattle.std.proofs.Common.{◌≡◌, ◌<◌, ◌≤◌, ℕ, Bool, true, false, List, [], ◌∷◌, ◌++◌, map, length, get_or, take, drop, refl, ap, ◌∙◌, arith}
-use Rattle.std.specs.Prelude.{◌-◌, ◌&&◌}
+use Rattle.std.proofs.Common.{◌≡◌, ℕ, List, [], ◌∷◌, ◌++◌, map, refl, ◌∙◌}
 use Rattle.std.proofs.lemmas.List.{map-append, take-map, drop-map}
-use Rattle.vx_base.specs.Masks.{rows_between, is_part}
-use Rattle.vx_base.specs.Gathered.{gathered, are_parts}
+use Rattle.vx_base.specs.Masks.{rows_between}
+use Rattle.vx_base.specs.Gathered.{gathered}
 
 map-rows_between : {A B : Type 0} (f : A → B) (rows : List A) (start end : ℕ) → map f (rows_between rows start end) ≡ rows_between (map f rows) start end
 map-rows_between f rows start end = simp (take-map, drop-map)

@@ -1,9 +1,9 @@
 -- A wrapped number lies in the type, and a number that lies there stays.
-use Rattle.std.proofs.Common.{◌≡◌, ◌<◌, ◌≤◌, ◌+◌, ◌-◌, ◌%◌, ◌^◌, ◌∙◌, ℕ, suc, ℤ, pos, negsuc, Bool, true, false, refl, ap, arith, sym, subst}
-use Rattle.std.specs.Prelude.{◌*◌, ◌/◌, FitsSigned, nat_lt, unsigned_abs}
-use Rattle.std.specs.Int.{int_rem_euclid, int_wrap, cast_unsigned, w8, w16, w32, w64, w128}
+use Rattle.std.proofs.Common.{◌≡◌, ◌<◌, ◌≤◌, ◌+◌, ◌-◌, ◌%◌, ◌^◌, ◌∙◌, ℕ, suc, ℤ, pos, negsuc, Bool, true, false, refl, ap, arith}
+use Rattle.std.specs.Prelude.{nat_lt, unsigned_abs}
+use Rattle.std.specs.Int.{int_rem_euclid}
 use Rattle.std.proofs.lemmas.Bool.{cond_both, cond-true, cond-false, ltb-true, ltb-false, lt-ltb, le-ltb, and_parts, and_from}
-use Rattle.std.proofs.lemmas.Nat.{mod_below, pow_pos, div_below, mod-mul-add, div-add-mod'}
+use Rattle.std.proofs.lemmas.Nat.{mod_below, pow_pos}
 use Rattle.std.proofs.Math.Nat.{mod-eq_of_lt}
 use Rattle.vx_base.specs.declared.ptype.PType.{PType}
 use Rattle.vx_base.specs.declared.ptype.PType.TheVariants.{U8, U16, U32, U64, I8, I16, I32, I64}
@@ -75,7 +75,7 @@ wrap-same p (negsuc n) h =
     let f = from_negative (is_signed p) (2 ^ natural_bits p) (2 ^ bits_of p) n (split_of p) b.0 (ltb-true _ _ b.1) in
     cond-false _ _ _ f.1 ∙ ap negsuc f.0
 
--- ---- in an unsigned type it is the low bits, and in a signed one what wrapping arithmetic gives
+-- ---- in an unsigned type it is the low bits
 
 pub wrap-unsigned : (p : PType) (z : ℤ) → wrap (unsigned_of p) z ≡ pos (low_bits p z)
 wrap-unsigned U8 z = cond-true _ _ _ (lt-ltb _ _ (low_bits-lt U8 z))
@@ -86,52 +86,3 @@ wrap-unsigned I8 z = cond-true _ _ _ (lt-ltb _ _ (low_bits-lt U8 z))
 wrap-unsigned I16 z = cond-true _ _ _ (lt-ltb _ _ (low_bits-lt U16 z))
 wrap-unsigned I32 z = cond-true _ _ _ (lt-ltb _ _ (low_bits-lt U32 z))
 wrap-unsigned I64 z = cond-true _ _ _ (lt-ltb _ _ (low_bits-lt U64 z))
-
-pub wrap-I8 : (z : ℤ) → wrap I8 z ≡ int_wrap w8 z
-unfolding int_wrap
-wrap-I8 z = refl
-
-pub wrap-I16 : (z : ℤ) → wrap I16 z ≡ int_wrap w16 z
-unfolding int_wrap
-wrap-I16 z = refl
-
-pub wrap-I32 : (z : ℤ) → wrap I32 z ≡ int_wrap w32 z
-unfolding int_wrap
-wrap-I32 z = refl
-
-pub wrap-I64 : (z : ℤ) → wrap I64 z ≡ int_wrap w64 z
-unfolding int_wrap
-wrap-I64 z = refl
-
--- ---- by the bits that a cast of 128 bits keeps
-
-rest_of : (c b n : ℕ) → 0 < b → n < c * b → (c * b - suc n) % b ≡ b - 1 - n % b
-rest_of c b n h l =
-    let whole : n / b * b + n % b ≡ n = div-add-mod' n b in
-    let small : n % b < b = mod_below n b h in
-    let few : n / b < c = div_below n b c h l in
-    let parts : c * b - suc n ≡ (c - suc (n / b)) * b + (b - 1 - n % b) = split c b (n / b) (n % b) n whole small few in
-    rw parts (mod-mul-add (c - suc (n / b)) b (b - 1 - n % b) (omega arith))
-  where
-    split_by : (e b q r n : ℕ) → q * b + r ≡ n → r < b → (e + suc q) * b - suc n ≡ e * b + (b - 1 - r)
-    split_by e b q r n w s = omega arith
-
-    split : (c b q r n : ℕ) → q * b + r ≡ n → r < b → q < c → c * b - suc n ≡ (c - suc q) * b + (b - 1 - r)
-    split c b q r n w s f = let e : c ≡ (c - suc q) + suc q = omega arith in subst (λ d. d * b - suc n ≡ (c - suc q) * b + (b - 1 - r)) (sym e) (split_by (c - suc q) b q r n w s)
-
-above_of : (p : PType) → 2 ^ 128 ≡ 2 ^ (128 - bits_of p) * 2 ^ bits_of p
-above_of U8 = refl
-above_of U16 = refl
-above_of U32 = refl
-above_of U64 = refl
-above_of I8 = refl
-above_of I16 = refl
-above_of I32 = refl
-above_of I64 = refl
-
-pub low_bits-cast : (p : PType) (z : ℤ) → FitsSigned w128 z → low_bits p z ≡ cast_unsigned w128 z % 2 ^ bits_of p
-low_bits-cast p (pos n) f = refl
-low_bits-cast p (negsuc n) f =
-    let e = above_of p in
-    let small : n < 2 ^ 128 = omega (arith, f.sfits) in
-    sym (rw e (rest_of (2 ^ (128 - bits_of p)) (2 ^ bits_of p) n (pow_pos (bits_of p)) (rw e at small)))

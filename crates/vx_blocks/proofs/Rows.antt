@@ -23,13 +23,6 @@ fields-get width (b ∷ bits) [] i e h = absurd (omega arith)
 fields-get width (b ∷ bits) (v ∷ valid) zero e h = refl
 fields-get width (b ∷ bits) (v ∷ valid) (suc i) e h = fields-get width bits valid i (omega arith) (omega arith)
 
--- one row more
-pub fields_more : (width : ℕ) (bits : List ℕ) (valid : List Bool) (i : ℕ) → length valid ≡ length bits → i < length bits
-    → take (i + 1) (fields width bits valid) ≡ take i (fields width bits valid) ++ field width (get_or bits i 0) (get_or valid i false) ∷ []
-fields_more width bits valid i e h =
-    let l = length-fields width bits valid e in
-    take_more (fields width bits valid) i 0 (omega arith) ∙ ap (λ x. take i (fields width bits valid) ++ x ∷ []) (fields-get width bits valid i e h)
-
 pub field-fits : (width bits : ℕ) (valid : Bool) → valid ≡ true → bits < 2 ^ width → field width bits valid ≡ bits
 field-fits width bits valid is_valid fits = grind (arith, nat_tests)
 

@@ -73,9 +73,6 @@ module _ (p : PType) (xs : List ℤ) (n : Nullability) (z : ℤ) where
 shipped-leaf : (c : Column) → shipped_tree c ≡ leaf no_scheme c fresh
 shipped-leaf = cascade-leaf shipped_leaf
 
-pub shipped-empty : (t : Tree) → IsPlain t → length (rows t) ≡ 0 → t ≡ shipped_tree (column_of t)
-shipped-empty t p e = p ∙ sym (shipped-leaf (column_of t) ∙ leaf-empty (column_of t) e)
-
 pub shipped-nulls : (t : Tree) → length (rows t) ≢ 0 → first_valid (rows t) ≡ None → constant (scalar (tree_type t) null) (length (rows t)) ≡ shipped_tree (column_of t)
 shipped-nulls t full e = sym (shipped-leaf (column_of t) ∙ leaf-nulls (column_of t) full e)
 

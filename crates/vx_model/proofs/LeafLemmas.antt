@@ -96,9 +96,6 @@ column_of-cascade leaves law c = λ i. column ((law c).1 i) ((law c).0 i)
 pub again_the_same : (chooses : Chooses) → KeepsColumns chooses → AgainTheSame (leaf chooses)
 again_the_same chooses lawful c = ap (cascade (leaf chooses)) (column_of-cascade (leaf chooses) (keeps chooses lawful) c)
 
-pub by_the_column_alone : (leaves : Leaves) → ByTheColumnAlone leaves
-by_the_column_alone leaves s t e = ap (cascade leaves) e
-
 -- ---- what code learns of the choice, where there is no scheme
 
 pub leaf-empty : (c : Column) → length c.values ≡ 0 → leaf no_scheme c fresh ≡ plain c

@@ -105,7 +105,3 @@ module _ (p : PlainValue → Bool) where
       last : (b : Bool) → (b && false) ≡ false
       last true = refl
       last false = refl
-
--- whether a row that holds an integer is null or another
-pub null_or-int : (z w : ℤ) (b : Bool) → (b ≡ true → z ≡ w) → (z ≡ w → b ≡ true) → b ≡ null_or (int w) (int z)
-null_or-int z w b f g = same_from stored_value (int z) (int w) b (λ e. ap int (f e)) (λ e. g (let same : z ≡ w = cc in same))

@@ -71,8 +71,4 @@ pub validity-packed_of : (k : PlainPacked) (o : Option PlainPatches) → WellFor
 validity-packed_of k None h = validity-bit_packed k h
 validity-packed_of k (Some p) h = validity-bit_packed_with k p.array_len p.offset p.indices p.values h
 
-pub plain-packed_of : (k : PlainPacked) (o : Option PlainPatches) → IsPlain (packed_of k o) → ⊥
-plain-packed_of k None = plain-bit_packed k
-plain-packed_of k (Some p) = plain-bit_packed_with k p.array_len p.offset p.indices p.values
-
 pub ruleset packed_of_decodes = (wholes-packed_of, validity-packed_of)

@@ -46,12 +46,3 @@ size-plain_of-le (primitive p n) vs =
 -- no sum of such sizes comes near the end of 128 bits
 pub small_plain : (c : Column) → length c.values < 2 ^ 64 → size (plain c) < 2 ^ 80
 small_plain c few = let most = size-plain_of-le c.dtype c.values in omega arith
-
-pub size_child : (child : Tree) (valid : List Bool) → size child ≤ size (masked child valid)
-size_child child valid = omega arith
-
-pub size_patches : (k : PlainPacked) (len offset : ℕ) (indices values : Tree) → size indices + size values ≤ size (bit_packed_with k len offset indices values)
-size_patches k len offset indices values = omega arith
-
-pub size_encoded : (encoded : Tree) (reference : PlainScalar) → size (frame_of_reference encoded reference) ≡ size encoded
-size_encoded encoded reference = refl

@@ -48,12 +48,6 @@ module _ (words : List (List ℕ)) (reply : Reply) (old new : Option (List ℕ))
 
 -- ---- status 7, by the bytes that came
 
-pub is_too_long : (old new : Option (List ℕ)) (bytes : List ℕ) (status : ℕ) → Consumes old new bytes → length bytes ≡ limit + 1 → status ≡ 7
-    → IfSome old (λ all. status ≡ 7 ↔ IsTooLong all new)
-is_too_long None new bytes status came long e = tt
-is_too_long (Some x) None bytes status came long e = absurd came
-is_too_long (Some x) (Some y) bytes status came long e = (λ _. omega (arith, ap length came, length-append bytes y), λ _. e)
-
 pub is_not_too_long : (old new : Option (List ℕ)) (bytes : List ℕ) (status : ℕ) → Consumes old new bytes → length bytes ≤ limit → (status ≡ 7 → ⊥)
     → IfSome old (λ all. status ≡ 7 ↔ IsTooLong all new)
 is_not_too_long None new bytes status came short other = tt
