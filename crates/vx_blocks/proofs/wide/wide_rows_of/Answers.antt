@@ -1,4 +1,4 @@
-use Rattle.std.proofs.Common.{◌≡◌, ◌∷◌, [], ◌++◌, ◌∙◌, sym, ap}
+use Rattle.std.proofs.Common.{◌∷◌, [], ◌++◌, ◌∙◌, sym, ap}
 use Rattle.vx_base.specs.Integers.{bits_in}
 use Rattle.vx_blocks.proofs.WideRows.{wide-push, wide-skip}
 use Rattle.vx_blocks.proofs.wide.wide_rows_of.Goals as goal
