@@ -19,7 +19,7 @@ use Rattle.vx_model.specs.Plain.{plain}
 use Rattle.vx_model.specs.Site.{Site, fresh}
 use Rattle.vx_model.specs.Leaf.{Chooses, no_scheme, first_valid, each_null_or, one_value, one_value_tree, smaller_or_plain, chosen_or_plain, by_value, leaf}
 use Rattle.vx_model.specs.Cascade.{Leaves, cascade, cascade_of}
-use Rattle.vx_model.specs.Laws.{KeepsColumns, KeepsRowsAndType, NeverLarger, AgainTheSame, ByTheColumnAlone, AreWithin, CountsWithinExtents}
+use Rattle.vx_model.specs.Laws.{KeepsColumns, KeepsRowsAndType, NeverLarger, AgainTheSame, AreWithin, CountsWithinExtents}
 use Rattle.vx_model.proofs.PlainLemmas.{rows-plain_of, type-plain_of}
 use Rattle.vx_model.proofs.OneValueLemmas.{first_valid-none, first_valid-some, replicate-nulls, one_value-some, rows-one_value_tree, type-one_value_tree}
 use Rattle.vx_model.proofs.SizeLemmas.{size-plain_of-ge}

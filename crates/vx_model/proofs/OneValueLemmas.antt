@@ -4,13 +4,13 @@ use Rattle.std.specs.Prelude.{replicate, if◌then◌else◌, option_and_then}
 use Rattle.std.specs.List.{list_all, list_any}
 use Rattle.std.proofs.lemmas.Bool.{cond_both, and_parts}
 use Rattle.std.proofs.lemmas.List.{take_all}
-use Rattle.vx_base.specs.Storable.{same_path, same_from}
+use Rattle.vx_base.specs.Storable.{same_path}
 use Rattle.vx_base.specs.PlainValue.{PlainValue, null, int, is_null, stored_value}
 use Rattle.vx_model.specs.Rows.{rows, masked_rows, row_at}
 use Rattle.vx_model.specs.TreeType.{tree_type}
 use Rattle.vx_model.specs.Column.{Column}
 use Rattle.vx_model.specs.Plain.{valid_bits}
-use Rattle.vx_model.specs.Leaf.{first_valid, null_or, each_null_or, one_value, one_value_tree}
+use Rattle.vx_model.specs.Leaf.{first_valid, each_null_or, one_value, one_value_tree}
 
 pub first_valid-none : (vs : List PlainValue) → first_valid vs ≡ None → list_all is_null vs ≡ true
 first_valid-none [] e = refl

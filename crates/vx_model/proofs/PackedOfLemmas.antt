@@ -10,12 +10,11 @@ use Rattle.vx_model.specs.Tree.{PlainPacked, PlainPatches, packed_of}
 use Rattle.vx_model.specs.Decoded.{zeroed_by}
 use Rattle.vx_model.specs.Extents.{extents}
 use Rattle.vx_model.specs.Nodes.{encoding}
-use Rattle.vx_model.specs.Plain.{IsPlain, validity}
+use Rattle.vx_model.specs.Plain.{validity}
 use Rattle.vx_model.specs.Rows.{rows, row_at, is_valid_at, below, packed_or_patch}
 use Rattle.vx_model.specs.Size.{size, patches_size, validity_size}
 use Rattle.vx_model.specs.TreeType.{tree_type}
 use Rattle.vx_model.specs.WellFormed.{WellFormed, WellFormedPatches, IsPacked}
-use Rattle.vx_model.proofs.NullLemmas.{plain-bit_packed, plain-bit_packed_with}
 use Rattle.vx_model.proofs.PackedLemmas.{length-bit_packed, row_at-bit_packed, length-bit_packed_with, row_at-bit_packed_with}
 use Rattle.vx_model.proofs.PackedDecodeLemmas.{wholes-bit_packed, any_null-bit_packed, validity-bit_packed, wholes-bit_packed_with, any_null-bit_packed_with, validity-bit_packed_with}
 

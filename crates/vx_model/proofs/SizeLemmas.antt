@@ -1,5 +1,5 @@
 -- How large plain trees and children are.
-use Rattle.std.proofs.Common.{◌≡◌, refl, ℕ, ◌<◌, ◌≤◌, ◌+◌, ◌*◌, ◌^◌, Bool, List, length, Some, None, arith}
+use Rattle.std.proofs.Common.{◌<◌, ◌≤◌, ◌+◌, ◌*◌, ◌^◌, List, length, Some, None, arith}
 use Rattle.std.specs.List.{list_any}
 use Rattle.std.proofs.lemmas.Bool.{cond_both}
 use Rattle.std.proofs.lemmas.List.{length-map}
@@ -7,10 +7,8 @@ use Rattle.std.proofs.Math.Nat.{mul-le-mul}
 use Rattle.vx_base.specs.declared.ptype.PType.{PType}
 use Rattle.vx_base.specs.declared.ptype.PType.TheVariants.{U8, U16, U32, U64, I8, I16, I32, I64}
 use Rattle.vx_base.specs.Integers.{bytes_of}
-use Rattle.vx_base.specs.PlainScalar.{PlainScalar}
 use Rattle.vx_base.specs.PlainType.{PlainType, primitive}
 use Rattle.vx_base.specs.PlainValue.{PlainValue, is_null, whole_or_zero}
-use Rattle.vx_model.specs.Tree.{Tree, PlainPacked, masked, bit_packed_with, frame_of_reference}
 use Rattle.vx_model.specs.Size.{size, validity_size, bit_bytes}
 use Rattle.vx_model.specs.Column.{Column}
 use Rattle.vx_model.specs.Plain.{plain, plain_of, valid_bits, validity}

@@ -1,4 +1,4 @@
-use Rattle.std.proofs.Common.{◌-◌, ◌<◌, ◌≤◌, ◌+◌, ◌*◌, ◌^◌, length}
+use Rattle.std.proofs.Common.{◌-◌, ◌≤◌, ◌+◌, ◌*◌, ◌^◌, length}
 use Rattle.vx_model.specs.Rows.{rows}
 use Rattle.vx_model.proofs.PatchLemmas.{NoneBelow, NoneFrom}
 use Rattle.vx_array.proofs.array.Patches.search.Given as goal
