@@ -2,6 +2,7 @@
 
 mod bit_packed;
 mod frame_of_reference;
+mod ints;
 mod packed_rows;
 mod patches;
 

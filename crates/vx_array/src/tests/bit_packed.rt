@@ -2,11 +2,10 @@
 
 use super::{bits, flat, has_wholes};
 use crate::{ArrayRef, Patches};
-use std::process::Abort;
 use std::test::Fail;
 use vx_base::Nullability::{self, NonNullable, Nullable};
 use vx_base::PType::{self, I8, I64, U8, U16, U64};
-use vx_base::{Bytes, DType, VortexError};
+use vx_base::{Bytes, DType, Mask, Refused, VortexError};
 
 /// What a node of three rows is made of. The bytes are so many zeros; the patches are told by their values' type and by
 /// how many rows their array has.
@@ -44,17 +43,52 @@ fn five_at_one(
     Ok(made.ok().ok_or("no patches")?)
 }
 
-// Why the node isn't made. What comes back is what was handed in.
-fn refusal(rt: &(impl AllocGlobal + Abort), parts: Parts) -> Result<Option<VortexError>, Fail> {
+// The patches of some parts.
+fn patches_of(rt: &impl AllocGlobal, parts: &Parts) -> Result<Option<Patches>, Fail> {
+    match parts.patches {
+        Some((ptype, nullability, rows)) => { Ok(Some(five_at_one(rt, rows, ptype, nullability)?)) }
+        None => Ok(None),
+    }
+}
+
+fn valid_of(rt: &impl AllocGlobal, parts: &Parts) -> Result<Option<Mask>, Fail> {
+    match parts.valid {
+        Some(values) => Ok(Some(bits(rt, values)?)),
+        None => Ok(None),
+    }
+}
+
+// Whether patches are those of the parts.
+fn are_patches(patches: &Patches, dtype: &DType, rows: u64) -> bool {
+    patches.array_len() == rows
+        && *patches.values().dtype() == *dtype
+        && has_wholes(patches.indices(), &[1])
+        && has_wholes(patches.values(), &[5])
+}
+
+fn same_mask(mask: &Option<Mask>, values: Option<&[bool]>) -> bool {
+    match (mask, values) {
+        (Some(mask), Some(values)) => mask.as_slice() == values,
+        (None, None) => true,
+        _ => false,
+    }
+}
+
+fn same_patches(patches: &Option<Patches>, parts: &Parts) -> bool {
+    match (patches, parts.patches) {
+        (Some(patches), Some((ptype, nullability, rows))) => {
+            are_patches(patches, &DType::primitive(ptype, nullability), rows)
+        }
+        (None, None) => true,
+        _ => false,
+    }
+}
+
+// Why the node isn't made. What comes back has to be what was handed in.
+fn refusal(rt: &impl AllocGlobal, parts: &Parts) -> Result<Option<VortexError>, Fail> {
     let bytes = Bytes::from_vec(vec![in rt.alloc(); 0u8; parts.bytes]?);
-    let valid = match parts.valid {
-        Some(values) => Some(bits(rt, values)?),
-        None => None,
-    };
-    let patches = match parts.patches {
-        Some((ptype, nullability, rows)) => Some(five_at_one(rt, rows, ptype, nullability)?),
-        None => None,
-    };
+    let valid = valid_of(rt, parts)?;
+    let patches = patches_of(rt, parts)?;
     let made = ArrayRef::bit_packed(
         rt.alloc(),
         parts.ptype,
@@ -65,28 +99,20 @@ fn refusal(rt: &(impl AllocGlobal + Abort), parts: Parts) -> Result<Option<Vorte
         patches,
         parts.nullability,
     );
-    let (error, (bytes, valid, patches)) = match made {
-        Ok(array) => {
-            assert!(rt; *array.dtype() == DType::primitive(parts.ptype, parts.nullability));
-            assert!(rt; array.len() == 3);
-            return Ok(None);
+    match made {
+        Ok(_) => Ok(None),
+        Err(Refused { error, inputs }) => {
+            let (bytes, valid, patches) = inputs;
+            if bytes.len() == parts.bytes as u64
+                && same_mask(&valid, parts.valid)
+                && same_patches(&patches, parts)
+            {
+                Ok(Some(error))
+            } else {
+                Err(Fail::from("other inputs"))
+            }
         }
-        Err(refused) => (refused.error, refused.inputs),
-    };
-    assert!(rt; bytes.len() == parts.bytes as u64);
-    match (valid, parts.valid) {
-        (Some(valid), Some(values)) => assert_eq!(rt; valid.as_slice(), values),
-        (valid, values) => assert!(rt; valid.is_none() && values.is_none()),
     }
-    match (patches, parts.patches) {
-        (Some(patches), Some((ptype, nullability, rows))) => {
-            assert!(rt; patches.array_len() == rows && has_wholes(patches.indices(), &[1]));
-            assert!(rt; *patches.values().dtype() == DType::primitive(ptype, nullability));
-            assert!(rt; has_wholes(patches.values(), &[5]));
-        }
-        (patches, values) => assert!(rt; patches.is_none() && values.is_none()),
-    }
-    Ok(Some(error))
 }
 
 const TYPES: Option<VortexError> = Some(VortexError::MismatchedTypes);
@@ -108,11 +134,11 @@ fn widths_are_at_most_the_bits_of_the_type(rt: HostRuntime) -> Result<(), Fail> 
         (I64, 63, None),
         (I64, 64, WIDTH),
     ] {
-        let got = refusal(&rt, zeros(ptype, width, 128 * width as usize))?;
+        let got = refusal(&rt, &zeros(ptype, width, 128 * width as usize))?;
         assert_eq!(rt; got, error, "width {width}");
     }
     for (width, bytes) in [(0, 1), (2, 0), (2, 255), (2, 257), (9, 1151)] {
-        let got = refusal(&rt, zeros(U8, width, bytes))?;
+        let got = refusal(&rt, &zeros(U8, width, bytes))?;
         assert_eq!(rt; got, LENGTHS, "width {width} in {bytes} bytes");
     }
     Ok(())
@@ -135,7 +161,7 @@ fn masks_have_a_bit_a_row_and_no_false_in_vain(rt: HostRuntime) -> Result<(), Fa
             nullability,
             ..zeros(U8, width, bytes)
         };
-        assert_eq!(rt; refusal(&rt, parts)?, error, "{bits:?} at width {width}");
+        assert_eq!(rt; refusal(&rt, &parts)?, error, "{bits:?} at width {width}");
     }
     Ok(())
 }
@@ -158,7 +184,7 @@ fn patches_are_of_the_type_and_the_rows(rt: HostRuntime) -> Result<(), Fail> {
             patches,
             ..zeros(U8, width, bytes)
         };
-        assert_eq!(rt; refusal(&rt, parts)?, error, "patches of {rows} rows");
+        assert_eq!(rt; refusal(&rt, &parts)?, error, "patches of {rows} rows");
     }
     Ok(())
 }

@@ -2,11 +2,23 @@
 
 use super::{bits, flat, has_rows, has_wholes, packed};
 use crate::ArrayRef;
-use std::process::Abort;
 use std::test::Fail;
 use vx_base::Nullability::{NonNullable, Nullable};
 use vx_base::PType::{self, I8, I16, I32, I64, U8, U16, U32, U64};
-use vx_base::{ArrayId, DType, Scalar, VortexError};
+use vx_base::{ArrayId, DType, Refused, Scalar, VortexError};
+
+// Differences from a reference, and the type of both.
+fn sums_from(
+    rt: &impl AllocGlobal,
+    ptype: PType,
+    reference: i128,
+    differences: &[i128],
+) -> Result<ArrayRef, Fail> {
+    let encoded = flat(rt, ptype.to_unsigned(), NonNullable, differences)?;
+    let scalar = Scalar::primitive(reference, ptype, NonNullable)?;
+    let made = ArrayRef::frame_of_reference(rt.alloc(), encoded, scalar);
+    Ok(made.ok().ok_or("refused")?)
+}
 
 #[test]
 fn sums_wrap_in_the_type_of_the_reference(rt: HostRuntime) -> Result<(), Fail> {
@@ -23,71 +35,71 @@ fn sums_wrap_in_the_type_of_the_reference(rt: HostRuntime) -> Result<(), Fail> {
         (I32, 1000, &[0, 5, 4294967295], &[1000, 1005, 999]),
         (I64, least, &[0, 1, top], &[least, least + 1, most]),
     ] {
-        let encoded = flat(&rt, ptype.to_unsigned(), NonNullable, differences)?;
-        let scalar = Scalar::primitive(reference, ptype, NonNullable)?;
-        let array = ArrayRef::frame_of_reference(rt.alloc(), encoded, scalar)
-            .ok()
-            .ok_or("refused")?;
-        let nbytes = 3 * u128::from(ptype.byte_width());
-        assert!(rt;
-            array.nbytes() == nbytes && has_wholes(&array, sums),
-            "{reference}"
-        );
+        let array = sums_from(&rt, ptype, reference, differences)?;
+        assert_eq!(rt; array.nbytes(), 3 * u128::from(ptype.byte_width()));
+        assert!(rt; has_wholes(&array, sums), "{reference}");
         let plain = array.canonical(rt.alloc())?;
-        assert!(rt; *plain.dtype() == DType::primitive(ptype, NonNullable) && plain.is_plain());
-        assert!(rt; has_wholes(&plain, sums), "{reference}");
+        assert!(rt; plain.is_plain() && has_wholes(&plain, sums), "{reference}");
     }
     Ok(())
 }
 
+// 1, null, 3 at two bits, from 1000.
+fn packed_differences(rt: &impl AllocGlobal) -> Result<ArrayRef, Fail> {
+    let packed = packed(rt, &[1u32, 2, 3], 2)?;
+    let valid = Some(bits(rt, &[true, false, true])?);
+    let encoded = ArrayRef::bit_packed(rt.alloc(), U32, 2, packed, 3, valid, None, Nullable);
+    let reference = Scalar::primitive(1000, I32, NonNullable)?;
+    let encoded = encoded.ok().ok_or("not packed")?;
+    let made = ArrayRef::frame_of_reference(rt.alloc(), encoded, reference);
+    Ok(made.ok().ok_or("refused")?)
+}
+
+fn is_packed_differences(array: &ArrayRef) -> bool {
+    array.encoding_id() == ArrayId::FoR
+        && array.nbytes() == 257
+        && array.num_children() == 1
+        && array
+            .child(0)
+            .is_some_and(|child| child.encoding_id() == ArrayId::BitPacked)
+        && has_rows(array, &[Some(1001), None, Some(1003)])
+}
+
 #[test]
 fn nulls_of_packed_differences_stay(rt: HostRuntime) -> Result<(), Fail> {
-    let packed = packed(&rt, &[1u32, 2, 3], 2)?;
-    let valid = Some(bits(&rt, &[true, false, true])?);
-    let encoded = ArrayRef::bit_packed(rt.alloc(), U32, 2, packed, 3, valid, None, Nullable)
-        .ok()
-        .ok_or("not packed")?;
-    let reference = Scalar::primitive(1000, I32, NonNullable)?;
-    let array = ArrayRef::frame_of_reference(rt.alloc(), encoded, reference)
-        .ok()
-        .ok_or("refused")?;
-    let rows = [Some(1001), None, Some(1003)];
-    assert!(rt; *array.dtype() == DType::primitive(I32, Nullable) && array.nbytes() == 257);
-    assert!(rt; has_rows(&array, &rows));
-    let plain = array.canonical(rt.alloc())?;
-    assert!(rt; plain.is_plain() && plain.nbytes() == 13 && has_rows(&plain, &rows));
+    let array = packed_differences(&rt)?;
+    assert!(rt; *array.dtype() == DType::primitive(I32, Nullable));
+    assert!(rt; is_packed_differences(&array));
     let copy = array.copy(rt.alloc())?;
-    assert!(rt; copy.encoding_id() == ArrayId::FoR && copy.num_children() == 1);
-    assert!(rt;
-        copy.child(0)
-            .is_some_and(|child| child.encoding_id() == ArrayId::BitPacked)
-    );
-    assert!(rt; copy.nbytes() == 257 && has_rows(&copy, &rows));
+    assert!(rt; is_packed_differences(&copy));
+    let plain = array.canonical(rt.alloc())?;
+    assert!(rt; plain.is_plain() && plain.nbytes() == 13);
+    assert!(rt; has_rows(&plain, &[Some(1001), None, Some(1003)]));
     Ok(())
 }
 
-// Why 7 and 9 of a type aren't differences from a reference. What comes back are the inputs.
+// Why 7 and 9 of a type aren't differences from a reference. What comes back has to be the inputs.
 fn refusal(
-    rt: &(impl AllocGlobal + Abort),
+    rt: &impl AllocGlobal,
     unsigned: PType,
     reference: Scalar,
 ) -> Result<Option<VortexError>, Fail> {
     let encoded = flat(rt, unsigned, NonNullable, &[7, 9])?;
     let copy = reference.copy(rt.alloc())?;
-    let (error, encoded, reference) = match ArrayRef::frame_of_reference(
-        rt.alloc(),
-        encoded,
-        reference,
-    ) {
-        Ok(array) => {
-            assert!(rt; *array.dtype() == DType::primitive(copy.dtype().ptype(), NonNullable));
-            return Ok(None);
+    match ArrayRef::frame_of_reference(rt.alloc(), encoded, reference) {
+        Ok(_) => Ok(None),
+        Err(Refused { error, inputs }) => {
+            let (encoded, reference) = inputs;
+            if *encoded.dtype() == DType::primitive(unsigned, NonNullable)
+                && has_wholes(&encoded, &[7, 9])
+                && reference == copy
+            {
+                Ok(Some(error))
+            } else {
+                Err(Fail::from("other inputs"))
+            }
         }
-        Err(refused) => (refused.error, refused.inputs.0, refused.inputs.1),
-    };
-    assert!(rt; *encoded.dtype() == DType::primitive(unsigned, NonNullable));
-    assert!(rt; has_wholes(&encoded, &[7, 9]) && reference == copy);
-    Ok(Some(error))
+    }
 }
 
 #[test]

@@ -5,40 +5,52 @@ ghost use Rattle.std.specs.Prelude.{◌≡◌, ◌<◌};
 use super::{flat, has_wholes};
 use crate::{ArrayRef, Patches};
 use std::marker::Brand;
-use std::process::Abort;
 use std::sync::ledger::{Blank, Ledger};
 use std::test::Fail;
 use vx_base::Nullability::{self, NonNullable, Nullable};
 use vx_base::PType::{self, I8, I16, I64, U8, U64};
-use vx_base::{DType, Scalar, Steps, VortexError};
+use vx_base::{ArrayId, DType, Refused, Scalar, Steps, VortexError};
 
-// Why patches aren't made of these indices and so many values, each 9. What comes back is what was handed in.
+// Whether patches are those of these indices and so many values.
+fn are_patches(patches: &Patches, range: (u64, u64), wholes: &[i128], values: u64) -> bool {
+    patches.array_len() == range.0
+        && patches.offset() == range.1
+        && patches.num_patches() == values
+        && has_wholes(patches.indices(), wholes)
+        && patches.values().len() == values
+}
+
+// Why patches aren't made of these indices and so many values, each 9. What comes back has to be what was handed in.
 fn refusal(
-    rt: &(impl AllocGlobal + Abort),
+    rt: &impl AllocGlobal,
     range: (u64, u64),
     dtype: (PType, Nullability),
     wholes: &[i128],
     values: u64,
 ) -> Result<Option<VortexError>, Fail> {
-    let (array_len, offset) = range;
     let indices = flat(rt, dtype.0, dtype.1, wholes)?;
-    let nine = Scalar::primitive(9, I16, NonNullable)?;
-    let nines = ArrayRef::constant(nine, values);
-    let (error, indices, nines) = match Patches::new(array_len, offset, indices, nines) {
+    let nines = ArrayRef::constant(Scalar::primitive(9, I16, NonNullable)?, values);
+    match Patches::new(range.0, range.1, indices, nines) {
         Ok(patches) => {
-            assert!(rt; patches.array_len() == array_len && patches.offset() == offset);
-            assert!(rt; patches.num_patches() == values);
-            assert!(rt; has_wholes(patches.indices(), wholes));
-            assert!(rt; patches.values().len() == values);
-            return Ok(None);
+            if are_patches(&patches, range, wholes, values) {
+                Ok(None)
+            } else {
+                Err(Fail::from("other patches"))
+            }
         }
-        Err(refused) => (refused.error, refused.inputs.0, refused.inputs.1),
-    };
-    assert!(rt; *indices.dtype() == DType::primitive(dtype.0, dtype.1));
-    assert!(rt; has_wholes(&indices, wholes));
-    assert!(rt; *nines.dtype() == DType::primitive(I16, NonNullable));
-    assert!(rt; nines.len() == values && (values == 0 || nines.integer_at(0) == Some(9)));
-    Ok(Some(error))
+        Err(Refused { error, inputs }) => {
+            let (indices, nines) = inputs;
+            if *indices.dtype() == DType::primitive(dtype.0, dtype.1)
+                && has_wholes(&indices, wholes)
+                && nines.encoding_id() == ArrayId::Constant
+                && nines.len() == values
+            {
+                Ok(Some(error))
+            } else {
+                Err(Fail::from("other inputs"))
+            }
+        }
+    }
 }
 
 const OUTSIDE: Option<VortexError> = Some(VortexError::IndicesNotAscending);

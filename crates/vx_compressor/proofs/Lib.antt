@@ -1,4 +1,0 @@
-pub mod ChoiceLemmas
-pub mod SampleLemmas
-pub mod SamplingLemmas
-pub mod StandardFacts

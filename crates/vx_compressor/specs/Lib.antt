@@ -1,4 +1,0 @@
-pub mod Cascade
-pub mod Choice
-pub mod Sampling
-pub mod SamplingLaws

@@ -1,9 +1,0 @@
-pub mod DifferenceLemmas
-pub mod LawfulFrame
-pub mod LawfulPacking
-pub mod PackingLemmas
-pub mod PickedLemmas
-pub mod ShortLemmas
-pub mod ShortPatchLemmas
-pub mod StandardFacts
-pub mod WidthLemmas
