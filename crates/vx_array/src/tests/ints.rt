@@ -19,12 +19,7 @@ fn are_wholes(values: &Ints, ptype: PType, wholes: &[i128]) -> bool {
 }
 
 // The integers of one range.
-fn between(
-    rt: &impl AllocGlobal,
-    values: &[i16],
-    first: u64,
-    after: u64,
-) -> Result<Ints, Fail> {
+fn between(rt: &impl AllocGlobal, values: &[i16], first: u64, after: u64) -> Result<Ints, Fail> {
     let values = shorts(rt, values)?;
     if after < first || values.len() < after {
         return Err(Fail::from("no range"));
