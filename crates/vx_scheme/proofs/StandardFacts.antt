@@ -1,12 +1,9 @@
 -- Worked values, so that a wrong rule in the definitions does not check.
-use Rattle.std.specs.Prelude.{◌≡◌, ℕ, true, false, List, [], ◌∷◌, map, codes, refl, pos, Some, None}
-use Rattle.vx_base.specs.PlainValue.{null, int}
-use Rattle.vx_base.specs.declared.fraction.Fraction.{Fraction}
-use Rattle.vx_model.specs.Column.{Column}
+use Rattle.std.specs.Prelude.{◌≡◌, ℕ, true, false, List, [], ◌∷◌, map, codes, refl}
 use Rattle.vx_model.specs.Plain.{plain}
 use Rattle.vx_scheme.specs.Excluded.{History, root_name, excluded}
 use Rattle.vx_scheme.specs.Meaning.{Meaning, kept}
-use Rattle.vx_scheme.specs.Options.{merge_of, includes}
+use Rattle.vx_scheme.specs.Options.{includes}
 use Rattle.vx_scheme.specs.Rules.{Rule}
 use Rattle.vx_scheme.specs.Selects.{selects}
 use Rattle.vx_scheme.specs.declared.estimate.CompressionEstimate.TheVariants.{Verdict}

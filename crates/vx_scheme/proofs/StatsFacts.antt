@@ -1,9 +1,9 @@
 -- The definitions at worked values, so that a wrong rule does not check.
-use Rattle.std.proofs.Common.{◌≡◌, ℕ, ℤ, pos, negsuc, List, [], ◌∷◌, map, Some, None, refl}
+use Rattle.std.proofs.Common.{◌≡◌, ℤ, pos, negsuc, [], ◌∷◌, map, Some, None, refl}
 use Rattle.std.specs.Int.Count.{count_leading_zeros}
 use Rattle.vx_base.specs.declared.ptype.PType.TheVariants.{U8, U64, I8, I32}
 use Rattle.vx_base.specs.Integers.{bits_in}
-use Rattle.vx_base.specs.PlainValue.{PlainValue, null, int}
+use Rattle.vx_base.specs.PlainValue.{null, int}
 use Rattle.vx_scheme.specs.Stats.{Extremes, stats_of, run_count}
 use Rattle.vx_scheme.specs.Erased.{log2_of}
 

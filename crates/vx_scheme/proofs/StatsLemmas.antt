@@ -1,6 +1,6 @@
 -- Statistics of rows: counts, the first valid row, and the order of the extremes.
 use Rattle.std.proofs.Common.{◌≡◌, ℕ, suc, ◌+◌, ◌<◌, ◌≤◌, ℤ, pos, negsuc, Bool, true, false, cond, List, [], ◌∷◌, length, map, get_or, refl, sym, ap, subst, ◌∙◌, arith, Some, None}
-use Rattle.std.specs.Prelude.{fold, position, nat_lt, ◌≤ℤ◌, ◌&&◌, ◌^◌, ◌/◌, ◌==◌}
+use Rattle.std.specs.Prelude.{fold, position, nat_lt, ◌≤ℤ◌, ◌&&◌, ◌^◌}
 use Rattle.std.specs.List.{position_or_len}
 use Rattle.std.specs.Int.{int_min, int_max}
 use Rattle.std.proofs.lemmas.Bool.Decides.{nat_tests}
@@ -10,12 +10,12 @@ use Rattle.vx_base.specs.declared.ptype.PType.{PType}
 use Rattle.vx_base.specs.Integers.{lies_in, least, greatest, is_signed, natural_bits, least_where}
 use Rattle.vx_base.specs.PlainValue.{PlainValue, null, int, is_null}
 use Rattle.vx_model.specs.Rows.{masked_rows}
-use Rattle.vx_scheme.specs.Stats.{valid_wholes, average_run_length, value_count, null_count, least_in, greatest_in, runs_after, run_count}
+use Rattle.vx_scheme.specs.Stats.{valid_wholes, value_count, null_count, least_in, greatest_in, runs_after, run_count}
 use Rattle.vx_scheme.specs.Tally.{IsTallyAfter, IsTally}
 use Rattle.vx_scheme.specs.declared.stats.tally.Tally.{Tally}
 use Rattle.vx_base.specs.Masks.{true_count}
 use Rattle.vx_model.proofs.RowLemmas.{length-masked_rows}
-use Rattle.std.proofs.lemmas.Bool.{cond_both, cond-false, ne_eqb, ltb-true, ltb-false}
+use Rattle.std.proofs.lemmas.Bool.{cond_both, ltb-true, ltb-false}
 use Rattle.std.proofs.lemmas.List.Sums.{sum_by-cons}
 use Rattle.vx_scheme.proofs.TallyLemmas.{same-eq, left}
 
@@ -50,13 +50,6 @@ pub count-nulls : (bits : List Bool) (zs : List ℤ) → length bits ≡ length 
 count-nulls bits zs e =
     let same : length bits ≡ length (map int zs) = e ∙ sym (length-map zs int) in
     omega (arith, counts-sum (masked_rows bits (map int zs)), count-values bits zs e, length-masked_rows bits (map int zs) same, same)
-
-pub average-is : (vs : List PlainValue) (n : ℕ) → suc n ≡ run_count (valid_wholes vs) → average_run_length vs ≡ value_count vs / suc n
-average-is vs n e = from (valid_wholes vs) e
-  where
-    from : (zs : List ℤ) → suc n ≡ run_count zs → cond (length zs == 0) 0 (length zs / run_count zs) ≡ length zs / suc n
-    from [] h = absurd (omega arith)
-    from (z ∷ zs) h = cond-false (suc (length zs) == 0) 0 _ (ne_eqb (suc (length zs)) 0 (λ (e : suc (length zs) ≡ 0). omega arith)) ∙ ap (λ m. suc (length zs) / m) (sym h)
 
 -- ---- the first valid row
 

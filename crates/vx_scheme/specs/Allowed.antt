@@ -1,5 +1,5 @@
 -- Which encodings are allowed.
-use Rattle.std.specs.Prelude.{Bool, true, not, ◌&&◌, Option, Some, None}
+use Rattle.std.specs.Prelude.{◌≡◌, Bool, true, false, not, ◌&&◌, Option, Some, None}
 use Rattle.vx_base.specs.declared.array_id.ArrayId.{ArrayId}
 use Rattle.vx_base.specs.declared.id_set.IdSet.{IdSet}
 use Rattle.vx_base.specs.IdSets.{holds}
@@ -13,3 +13,9 @@ is_in (Some set) id = holds set id
 -- not excluded, and in each set that is there
 abbrev pub is_allowed : AllowedIds → ArrayId → Bool
 is_allowed allowed id = not (holds allowed.excluded id) && is_in allowed.registered id && is_in allowed.editions id
+
+-- there is no set, and no id is excluded
+pub record BoundsNothing (allowed : AllowedIds) : Type 0 where
+  pub registered : allowed.registered ≡ None
+  pub editions : allowed.editions ≡ None
+  pub excluded : (id : ArrayId) → holds allowed.excluded id ≡ false

@@ -5,7 +5,6 @@ use Rattle.vx_base.specs.PlainValue.{is_null}
 use Rattle.vx_model.specs.Column.{Column, IsColumn, column_of}
 use Rattle.vx_model.specs.Plain.{IsPlain}
 use Rattle.vx_model.specs.Rows.{rows}
-use Rattle.vx_model.specs.Site.{Site}
 use Rattle.vx_model.specs.Tree.{Tree}
 use Rattle.vx_scheme.specs.Meaning.{Meaning, Made, parts_of}
 

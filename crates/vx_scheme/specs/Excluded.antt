@@ -1,5 +1,5 @@
 -- Which schemes may not stand at a site, by the schemes above it.
-use Rattle.std.specs.Prelude.{ℕ, ◌==◌, ◌&&◌, ◌||◌, Bool, true, false, List, [], ◌∷◌, codes}
+use Rattle.std.specs.Prelude.{ℕ, ◌==◌, ◌&&◌, ◌||◌, Bool, false, List, [], ◌∷◌, codes}
 use Rattle.std.specs.List.{list_any}
 use Rattle.vx_scheme.specs.Meaning.{Meaning}
 use Rattle.vx_scheme.specs.Names.{same_name}

@@ -1,5 +1,5 @@
 -- What every scheme proves of its meaning.
-use Rattle.std.specs.Prelude.{◌≡◌, ◌≤◌, ◌+◌, true, List, length, map, All, IsTrue}
+use Rattle.std.specs.Prelude.{◌≡◌, ◌≤◌, ◌+◌, true, List, length, map, All}
 use Rattle.vx_base.specs.PlainType.{is_leaf}
 use Rattle.vx_model.specs.Column.{Column, IsColumn, column_of}
 use Rattle.vx_model.specs.Site.{Site}

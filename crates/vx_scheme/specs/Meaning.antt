@@ -1,5 +1,5 @@
 -- What a scheme means, as plain data: no clause above names a scheme's type.
-use Rattle.std.specs.Prelude.{ℕ, Bool, List, [], ◌∷◌, map}
+use Rattle.std.specs.Prelude.{ℕ, Bool, List, [], map}
 use Rattle.vx_base.specs.PlainType.{PlainType}
 use Rattle.vx_base.specs.declared.array_id.ArrayId.{ArrayId}
 use Rattle.vx_model.specs.Column.{Column}

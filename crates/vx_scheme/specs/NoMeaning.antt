@@ -1,7 +1,6 @@
 -- What the scheme that takes nothing means.
 use Rattle.std.specs.Prelude.{◌≡◌, true, false, [], codes}
 use Rattle.vx_model.specs.Plain.{plain}
-use Rattle.vx_scheme.specs.Asked.{IsAsked}
 use Rattle.vx_scheme.specs.Lawful.{Lawful}
 use Rattle.vx_scheme.specs.Meaning.{Meaning, kept}
 use Rattle.vx_scheme.specs.declared.estimate.CompressionEstimate.TheVariants.{Verdict}

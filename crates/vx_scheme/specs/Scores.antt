@@ -1,5 +1,5 @@
 -- Ratios of verdicts and of scores.
-use Rattle.std.specs.Prelude.{ℕ, zero, suc, ◌<◌, Option, Some, None}
+use Rattle.std.specs.Prelude.{ℕ, zero, suc, Option, Some, None}
 use Rattle.std.proofs.Common.{zero-lt-suc}
 use Rattle.vx_base.specs.declared.fraction.Fraction.{Fraction}
 use Rattle.vx_scheme.specs.declared.estimate.EstimateScore.{EstimateScore}

@@ -2,7 +2,7 @@
 
 ghost use Rattle.std.specs.Prelude.{◌≡◌, true};
 ghost use Rattle.vx_base.specs.declared.array_id.ArrayId.{ArrayId};
-ghost use Rattle.vx_scheme.specs.Allowed.{is_allowed, is_in};
+ghost use Rattle.vx_scheme.specs.Allowed.{is_allowed, is_in, BoundsNothing};
 
 use vx_base::{ArrayId, IdSet};
 
@@ -18,7 +18,8 @@ pub struct AllowedIds {
 impl AllowedIds {
     /// No bound.
     pub fn all() -> AllowedIds
-        ensures { (id : ArrayId) → is_allowed result id ≡ true }
+        ensures bounds { BoundsNothing result }
+        ensures every { (id : ArrayId) → is_allowed result id ≡ true }
     {
         AllowedIds {
             registered: None,
@@ -36,11 +37,9 @@ impl AllowedIds {
 }
 
 impl Default for AllowedIds {
-    ghost use Rattle.std.specs.Prelude.{◌≡◌, true};
-    ghost use Rattle.vx_base.specs.declared.array_id.ArrayId.{ArrayId};
-    ghost use Rattle.vx_scheme.specs.Allowed.{is_allowed};
+    ghost use Rattle.vx_scheme.specs.Allowed.{BoundsNothing};
 
-    ghost is_default = { λ allowed. (id : ArrayId) → is_allowed allowed id ≡ true };
+    ghost is_default = { λ allowed. BoundsNothing allowed };
 
     fn default() -> AllowedIds {
         AllowedIds::all()

@@ -33,6 +33,4 @@ pub use stats::{ErasedStats, IntegerStats, TypedStats};
 pub const MAX_CASCADE: usize = 3;
 
 #[cfg(test)]
-mod stats_tests;
-#[cfg(test)]
 mod tests;

@@ -7,6 +7,8 @@ ghost use Rattle.vx_model.specs.Rows.{rows};
 ghost use Rattle.vx_model.specs.TreeType.{tree_type};
 ghost use Rattle.vx_scheme.specs.Asked.{IsSiteTree, HasValue};
 
+mod stats;
+
 use crate::{
     AllowedIds, ArrayAndStats, ChildSelection, CompressionEstimate, CompressorContext,
     EstimateScore, EstimateVerdict, GenerateStatsOptions, NoScheme, Scheme, SchemeId, Split,
