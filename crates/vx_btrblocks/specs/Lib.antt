@@ -1,3 +1,0 @@
-pub mod Behind
-pub mod Shared
-pub mod Shipped
