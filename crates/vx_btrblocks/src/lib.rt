@@ -1,12 +1,11 @@
-//! The compressor: a tree becomes the tree of encodings that its rules name.
+//! The compressor over the shipped schemes, to which a caller may add schemes of its own.
 #![tactic(auto)]
 
+mod any_scheme;
 mod compressor;
-mod constant;
-mod laws;
 
+pub use any_scheme::AnyScheme;
 pub use compressor::BtrBlocksCompressor;
-pub use laws::laws_of_compression;
 
 #[cfg(test)]
 mod tests;

@@ -1,4 +1,4 @@
-//! Worked columns, with ample memory.
+//! Worked columns, with ample memory and no scheme of the caller's.
 
 use crate::BtrBlocksCompressor;
 use std::test::Fail;
@@ -6,6 +6,7 @@ use vx_array::{ArrayRef, Ints, Node};
 use vx_base::{
     ArrayId, ExecutionCtx, IntList, Mask, Nullability, PType, Scalar, VortexError, Words,
 };
+use vx_scheme::NoScheme;
 
 fn ctx(rt: &impl AllocGlobal) -> Result<ExecutionCtx, Fail> {
     let mut words = Vec::new(rt.alloc());
@@ -15,6 +16,10 @@ fn ctx(rt: &impl AllocGlobal) -> Result<ExecutionCtx, Fail> {
         return Err(Fail::from("no word"));
     }
     Ok(ExecutionCtx::new(rt.alloc(), words))
+}
+
+fn shipped(rt: &impl AllocGlobal) -> Result<BtrBlocksCompressor<NoScheme>, Fail> {
+    Ok(BtrBlocksCompressor::shipped(rt.alloc())?)
 }
 
 // A column of bytes, null where the bit is false.
@@ -27,7 +32,7 @@ fn column(rt: &impl AllocGlobal, values: &[u8], bits: &[bool]) -> Result<ArrayRe
 
 #[test]
 fn columns_become_the_smaller_tree(rt: HostRuntime) -> Result<(), Fail> {
-    let compressor = BtrBlocksCompressor::shipped(rt.alloc())?;
+    let compressor = shipped(&rt)?;
     let mut ctx = ctx(&rt)?;
     for (values, bits, id, bytes) in [
         (&[][..], &[][..], ArrayId::Primitive, 0),
@@ -64,9 +69,42 @@ fn columns_become_the_smaller_tree(rt: HostRuntime) -> Result<(), Fail> {
     Ok(())
 }
 
+// So many rows, from the first on to the ninth behind it and again.
+fn tens(rt: &impl AllocGlobal, rows: usize, first: i32) -> Result<ArrayRef, Fail> {
+    let mut values = Vec::with_capacity(rt.alloc(), rows)?;
+    for row in 0..rows {
+        values.push(first.wrapping_add((row % 10) as i32))?;
+    }
+    let values = Ints::I32(IntList::from_vec(values));
+    let made = ArrayRef::primitive(values, None, Nullability::NonNullable);
+    Ok(made.ok().ok_or("refused")?)
+}
+
+#[test]
+fn a_column_far_from_zero_is_a_frame_of_reference(rt: HostRuntime) -> Result<(), Fail> {
+    let mut ctx = ctx(&rt)?;
+    let array = tens(&rt, 1000, 1000)?;
+    let tree = shipped(&rt)?.compress(&array, &mut ctx)?;
+    assert!(rt; tree.encoding_id() == ArrayId::FoR && tree.nbytes() == 512);
+    assert!(rt;
+        tree.child(0)
+            .is_some_and(|child| child.encoding_id() == ArrayId::BitPacked)
+    );
+    Ok(())
+}
+
+#[test]
+fn a_column_from_zero_is_bit_packed(rt: HostRuntime) -> Result<(), Fail> {
+    let mut ctx = ctx(&rt)?;
+    let array = tens(&rt, 1000, 0)?;
+    let tree = shipped(&rt)?.compress(&array, &mut ctx)?;
+    assert!(rt; tree.encoding_id() == ArrayId::BitPacked && tree.nbytes() == 512);
+    Ok(())
+}
+
 #[test]
 fn an_extent_above_the_limit_is_refused(rt: HostRuntime) -> Result<(), Fail> {
-    let compressor = BtrBlocksCompressor::shipped(rt.alloc())?;
+    let compressor = shipped(&rt)?;
     let mut ctx = ctx(&rt)?;
     let seven = Scalar::primitive(7, PType::U8, Nullability::NonNullable)?;
     let array = ArrayRef::constant(seven, 2_147_483_649);

@@ -1,5 +1,5 @@
 -- The reply to a plain tree, by what its compression answers.
-use Rattle.std.proofs.Common.{◌≡◌, ◌<◌, ◌≤◌, ◌^◌, ℕ, Bool, true, false, [], ◌∷◌, length, Ok, Err, None, refl, sym, ap, ◌∙◌, arith}
+use Rattle.std.proofs.Common.{◌≡◌, ◌<◌, ◌≤◌, ◌^◌, ℕ, Bool, true, false, List, [], ◌∷◌, length, Ok, Err, None, refl, sym, ap, ◌∙◌, arith}
 use Rattle.std.specs.Prelude.{nat_le}
 use Rattle.std.specs.List.{list_all}
 use Rattle.std.proofs.lemmas.Bool.{and_parts, leb-true}
@@ -16,10 +16,10 @@ use Rattle.vx_model.specs.Column.{Column, column_of}
 use Rattle.vx_model.specs.Extents.{counts, extents, extents_fit, row_limit}
 use Rattle.vx_model.specs.Plain.{plain, plain_of, IsPlain}
 use Rattle.vx_model.specs.Refusals.{compress_refusal}
-use Rattle.vx_model.specs.Leaf.{no_scheme}
 use Rattle.vx_model.proofs.LeafLemmas.{never_larger}
 use Rattle.vx_model.proofs.SizeLemmas.{small_plain}
-use Rattle.vx_btrblocks.specs.Shipped.{shipped_tree}
+use Rattle.vx_compressor.specs.Cascade.{chosen, plain_parts}
+use Rattle.vx_btrblocks.specs.Shipped.{shipped_setting, shipped_tree}
 use Rattle.vx_program.specs.Answer.{refusal, report, counts_fit, of_column}
 
 -- the extents of a plain tree are the counts of its column
@@ -39,51 +39,51 @@ few_rows c e = of_type c.dtype e
     of_type : (t : PlainType) → list_all (λ count. nat_le count row_limit) (counts t c.values) ≡ true → length c.values ≤ row_limit
     of_type (primitive p n) h = leb-true _ _ (and_parts _ _ h).0
 
-size-shipped_tree : (c : Column) → size (shipped_tree c) ≤ size (plain c)
-size-shipped_tree c = never_larger no_scheme c
+size-shipped_tree : (words : List ℕ) (c : Column) → size (shipped_tree words c) ≤ size (plain c)
+size-shipped_tree words c = never_larger (chosen plain_parts (shipped_setting words)) c
 
 small : (c : Column) → counts_fit c ≡ true → size (plain c) < 2 ^ 80
 small c e = small_plain c (let few = few_rows c e in omega arith)
 
 -- it answers a tree only where the counts fit
-compressed : (t tree : Tree) → IsPlain t → Decided (compress_refusal t) (λ u. u ≡ shipped_tree (column_of t)) (Ok tree)
-    → (counts_fit (column_of t) ≡ true) × (tree ≡ shipped_tree (column_of t))
-compressed t tree e h = by (extents_fit t) (sym (extents_fit-plain t e)) h
+compressed : (words : List ℕ) (t tree : Tree) → IsPlain t → Decided (compress_refusal t) (λ u. u ≡ shipped_tree words (column_of t)) (Ok tree)
+    → (counts_fit (column_of t) ≡ true) × (tree ≡ shipped_tree words (column_of t))
+compressed words t tree e h = by (extents_fit t) (sym (extents_fit-plain t e)) h
   where
-    by : (fit : Bool) → counts_fit (column_of t) ≡ fit → Decided (unless fit TooManyRows None) (λ u. u ≡ shipped_tree (column_of t)) (Ok tree)
-        → (counts_fit (column_of t) ≡ true) × (tree ≡ shipped_tree (column_of t))
+    by : (fit : Bool) → counts_fit (column_of t) ≡ fit → Decided (unless fit TooManyRows None) (λ u. u ≡ shipped_tree words (column_of t)) (Ok tree)
+        → (counts_fit (column_of t) ≡ true) × (tree ≡ shipped_tree words (column_of t))
     by true f d = (f, d)
     by false f d = absurd d
 
 -- and refuses, but for want of memory, only where they don't
-refused : (t : Tree) (error : VortexError) → IsPlain t → Decided (compress_refusal t) (λ u. u ≡ shipped_tree (column_of t)) (Err error) → (error ≡ NoMemory → ⊥)
+refused : (words : List ℕ) (t : Tree) (error : VortexError) → IsPlain t → Decided (compress_refusal t) (λ u. u ≡ shipped_tree words (column_of t)) (Err error) → (error ≡ NoMemory → ⊥)
     → (counts_fit (column_of t) ≡ false) × (error ≡ TooManyRows)
-refused t error e h other = by (extents_fit t) (sym (extents_fit-plain t e)) h
+refused words t error e h other = by (extents_fit t) (sym (extents_fit-plain t e)) h
   where
-    by : (fit : Bool) → counts_fit (column_of t) ≡ fit → Decided (unless fit TooManyRows None) (λ u. u ≡ shipped_tree (column_of t)) (Err error)
+    by : (fit : Bool) → counts_fit (column_of t) ≡ fit → Decided (unless fit TooManyRows None) (λ u. u ≡ shipped_tree words (column_of t)) (Err error)
         → (counts_fit (column_of t) ≡ false) × (error ≡ TooManyRows)
     by true f d = absurd (other d)
     by false f d = (f, d)
 
-module _ (t tree : Tree) (e : IsPlain t) (answer : Decided (compress_refusal t) (λ u. u ≡ shipped_tree (column_of t)) (Ok tree)) where
+module _ (words : List ℕ) (t tree : Tree) (e : IsPlain t) (answer : Decided (compress_refusal t) (λ u. u ≡ shipped_tree words (column_of t)) (Ok tree)) where
   pub size-compressed : size tree < 2 ^ 128
   size-compressed =
-      let p = compressed t tree e answer in
+      let p = compressed words t tree e answer in
       let least = small (column_of t) p.0 in
-      let less = size-shipped_tree (column_of t) in
+      let less = size-shipped_tree words (column_of t) in
       rw p.1 (omega arith)
 
-  pub reply_compressed : (n : ℕ) → n ≡ nbytes t → report n tree ≡ of_column (column_of t)
+  pub reply_compressed : (n : ℕ) → n ≡ nbytes t → report n tree ≡ of_column words (column_of t)
   unfolding of_column
   reply_compressed n k =
-      let p = compressed t tree e answer in
+      let p = compressed words t tree e answer in
       let least = small (column_of t) p.0 in
       let whole : n ≡ size (plain (column_of t)) = k ∙ ap nbytes e ∙ omega arith in
       rw (p.0, p.1, whole) refl
 
-pub reply_refused : (t : Tree) (error : VortexError) → IsPlain t → Decided (compress_refusal t) (λ u. u ≡ shipped_tree (column_of t)) (Err error) → (error ≡ NoMemory → ⊥)
-    → refusal 4 (name_of error) ≡ of_column (column_of t)
+pub reply_refused : (words : List ℕ) (t : Tree) (error : VortexError) → IsPlain t → Decided (compress_refusal t) (λ u. u ≡ shipped_tree words (column_of t)) (Err error) → (error ≡ NoMemory → ⊥)
+    → refusal 4 (name_of error) ≡ of_column words (column_of t)
 unfolding of_column
-reply_refused t error e h other =
-    let p = refused t error e h other in
+reply_refused words t error e h other =
+    let p = refused words t error e h other in
     rw (p.0, p.1) refl

@@ -42,14 +42,14 @@ counts_fit c = list_all (λ count. nat_le count row_limit) (counts c.dtype c.val
 abbrev pub report : ℕ → Tree → Reply
 report plain_size tree = (0, listing [] tree ++ sizes_line plain_size (size tree))
 
--- the reply to a document's column
-unfoldable pub of_column : Column → Reply
-of_column c = if counts_fit c then report (size (plain c)) (shipped_tree c) else refusal 4 (name_of TooManyRows)
+-- the reply to a document's column, whose samples the words place
+unfoldable pub of_column : List ℕ → Column → Reply
+of_column words c = if counts_fit c then report (size (plain c)) (shipped_tree words c) else refusal 4 (name_of TooManyRows)
 
 -- the reply to the document that bytes are, or to none
 unfoldable pub of_document : Option PlainDocument → Reply
 of_document None = refusal 3 (codes "BadDocument")
-of_document (Some d) = of_column d.column
+of_document (Some d) = of_column d.words d.column
 
 -- the reply of the built form to these bytes
 unfoldable pub of_bytes : List ℕ → Reply

@@ -1,6 +1,6 @@
 //! From words and a source to a status and a text.
 
-ghost use Rattle.std.specs.Prelude.{◌≡◌, ◌≢◌, ◌<◌, ◌+◌, ◌^◌, ◌++◌, ◌↔◌, [], List, ℕ, Option, IfOk, IfSome, OnErr, string_bytes, length};
+ghost use Rattle.std.specs.Prelude.{◌≡◌, ◌≢◌, ◌<◌, ◌+◌, ◌^◌, ◌++◌, ◌↔◌, [], List, ℕ, Option, IfOk, IfSome, OnErr, string_bytes, length, map};
 ghost use Rattle.vx_base.specs.declared.error.VortexError.TheVariants.{NoMemory};
 ghost use Rattle.vx_base.specs.ErrorName.{name_of};
 ghost use Rattle.vx_model.specs.Column.{column_of};
@@ -9,6 +9,9 @@ ghost use Rattle.vx_model.specs.Size.{size};
 ghost use Rattle.vx_program.specs.Document.{document};
 ghost use Rattle.vx_program.specs.Listing.{listing, sizes_line};
 ghost use Rattle.vx_program.specs.Reading.{limit, TakesAtMost};
+ghost use Rattle.vx_scheme.specs.NoMeaning.{no_meaning};
+ghost use Rattle.vx_btrblocks.specs.AnyMeaning.{any_meaning};
+ghost use Rattle.vx_btrblocks.specs.Shipped.{shipped_schemes};
 ghost use Rattle.vx_program.specs.Answer.{texts_of, is_built, refusal, report, of_column, of_document, IsReply};
 ghost use Rattle.vx_program.specs.Statuses.{IsUsage, IsTooLong};
 
@@ -20,6 +23,7 @@ use std::alloc::{AllocError, Global};
 use vx_array::ArrayRef;
 use vx_base::{ExecutionCtx, VortexError};
 use vx_btrblocks::BtrBlocksCompressor;
+use vx_scheme::NoScheme;
 
 /// The whole output is written.
 pub const DONE: u8 = 0;
@@ -105,21 +109,35 @@ fn refuse_document(alloc: Global, error: VortexError) -> Result<Reply, AllocErro
     }
 }
 
-// The reply to a column, by its plain tree.
+// The reply to a column, by its plain tree, over a compressor of the shipped schemes. The context's words place samples.
+fn reply_over(
+    alloc: Global,
+    compressor: &BtrBlocksCompressor<NoScheme>,
+    array: &ArrayRef,
+    ctx: &mut ExecutionCtx,
+) -> Result<Reply, AllocError>
+    requires shipped { map (any_meaning no_meaning) compressor.now.0 ≡ shipped_schemes }
+    requires plain { IsPlain array.now }
+    ensures { IfOk result (λ r. (r.status, string_bytes r.text) ≡ of_column ctx.old (column_of array.now)) }
+{
+    match compressor.compress(array, ctx) {
+        Ok(tree) => report(alloc, array.nbytes(), tree),
+        Err(error) => refuse_document(alloc, error),
+    }
+}
+
+// The same over a compressor of its own.
 fn reply_to_array(
     alloc: Global,
     array: &ArrayRef,
     ctx: &mut ExecutionCtx,
 ) -> Result<Reply, AllocError>
     requires { IsPlain array.now }
-    ensures { IfOk result (λ r. (r.status, string_bytes r.text) ≡ of_column (column_of array.now)) }
+    ensures { IfOk result (λ r. (r.status, string_bytes r.text) ≡ of_column ctx.old (column_of array.now)) }
 {
-    let Ok(compressor) = BtrBlocksCompressor::shipped(alloc) else {
-        return Err(AllocError);
-    };
-    match compressor.compress(array, ctx) {
-        Ok(tree) => report(alloc, array.nbytes(), tree),
-        Err(error) => refuse_document(alloc, error),
+    match BtrBlocksCompressor::shipped(alloc) {
+        Ok(compressor) => reply_over(alloc, &compressor, array, ctx),
+        Err(_) => Err(AllocError),
     }
 }
 
@@ -128,7 +146,7 @@ fn reply_to_document(alloc: Global, document: Document) -> Result<Reply, AllocEr
     requires plain { IsPlain document.array }
     requires words { 0 < length document.words }
     ensures { IfOk result (λ r. (r.status, string_bytes r.text)
-        ≡ of_column (column_of document.array)) }
+        ≡ of_column document.words (column_of document.array)) }
 {
     let Document { array, words } = document;
     let mut ctx = ExecutionCtx::new(alloc, words);

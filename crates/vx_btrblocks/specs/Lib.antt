@@ -1,0 +1,2 @@
+pub mod AnyMeaning
+pub mod Shipped

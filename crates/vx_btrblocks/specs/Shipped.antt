@@ -1,0 +1,19 @@
+-- The shipped schemes, and the tree that a compressor over them makes of a column.
+use Rattle.std.specs.Prelude.{ℕ, List, [], ◌∷◌}
+use Rattle.vx_model.specs.Cascade.{cascade}
+use Rattle.vx_model.specs.Column.{Column}
+use Rattle.vx_model.specs.Tree.{Tree}
+use Rattle.vx_scheme.specs.Meaning.{Meaning}
+use Rattle.vx_schemes.specs.BitPackingMeaning.{bit_packing_meaning}
+use Rattle.vx_schemes.specs.FrameOfReference.{for_meaning}
+use Rattle.vx_compressor.specs.Cascade.{Setting, leaf_tree}
+
+-- in the order in which they are judged
+abbrev pub shipped_schemes : List Meaning
+shipped_schemes = for_meaning (record { 0 = tt }) ∷ bit_packing_meaning (record { 0 = tt }) ∷ []
+
+abbrev pub shipped_setting : List ℕ → Setting
+shipped_setting words = record { schemes = shipped_schemes; words = words }
+
+abbrev pub shipped_tree : List ℕ → Column → Tree
+shipped_tree words = cascade (leaf_tree (shipped_setting words))

@@ -1,0 +1,117 @@
+//! The shipped schemes and one of the caller's own, as one type.
+
+use std::alloc::Global;
+use std::sync::ledger::Ledger;
+use vx_array::{ArrayRef, Arrays};
+use vx_base::{DType, ExecutionCtx, Fraction, IdSet, Steps, VortexResult};
+use vx_scheme::{
+    AllowedIds, AncestorRules, ArrayAndStats, CompressionEstimate, CompressorContext,
+    DescendantRules, EstimateVerdict, GenerateStatsOptions, Scheme, Split,
+};
+use vx_schemes::{BitPackingScheme, FoRScheme};
+
+/// A shipped scheme, or one of the caller's own. It does in each call what the scheme in it does.
+#[derive(Clone, Copy, Debug, PartialEq, Eq)]
+pub enum AnyScheme<X> {
+    FoR(FoRScheme),
+    BitPacking(BitPackingScheme),
+    Own(X),
+}
+
+// Evaluates an expression over the scheme of any variant.
+macro_rules! with_scheme {
+    ($any:expr, $scheme:ident => $call:expr) => {
+        match $any {
+            AnyScheme::FoR($scheme) => $call,
+            AnyScheme::BitPacking($scheme) => $call,
+            AnyScheme::Own($scheme) => $call,
+        }
+    };
+}
+
+impl<X: Scheme> Scheme for AnyScheme<X> {
+    ghost use Rattle.vx_btrblocks.specs.AnyMeaning.{any_meaning, any_refined, any_lawful, any_keeps_name};
+
+    ghost meaning = { any_meaning X.meaning };
+
+    ghost refined = { any_refined X.refined };
+
+    ghost lawful = { any_lawful X.meaning X.lawful };
+
+    ghost keeps_name = { any_keeps_name X.meaning X.refined X.keeps_name };
+
+    fn scheme_name(&self) -> &'static str {
+        with_scheme!(self, scheme => scheme.scheme_name())
+    }
+
+    fn matches(&self, dtype: &DType) -> bool {
+        with_scheme!(self, scheme => scheme.matches(dtype))
+    }
+
+    fn produced_encodings(&self) -> IdSet {
+        with_scheme!(self, scheme => scheme.produced_encodings())
+    }
+
+    fn refine(&self, allowed: &AllowedIds) -> Self {
+        match self {
+            AnyScheme::FoR(scheme) => AnyScheme::FoR(scheme.refine(allowed)),
+            AnyScheme::BitPacking(scheme) => AnyScheme::BitPacking(scheme.refine(allowed)),
+            AnyScheme::Own(scheme) => AnyScheme::Own(scheme.refine(allowed)),
+        }
+    }
+
+    fn stats_options(&self) -> GenerateStatsOptions {
+        with_scheme!(self, scheme => scheme.stats_options())
+    }
+
+    fn num_children(&self) -> usize {
+        with_scheme!(self, scheme => scheme.num_children())
+    }
+
+    fn descendant_exclusions(&self, alloc: Global) -> VortexResult<DescendantRules> {
+        with_scheme!(self, scheme => scheme.descendant_exclusions(alloc))
+    }
+
+    fn ancestor_exclusions(&self, alloc: Global) -> VortexResult<AncestorRules> {
+        with_scheme!(self, scheme => scheme.ancestor_exclusions(alloc))
+    }
+
+    fn expected_compression_ratio(
+        &self,
+        column: &mut ArrayAndStats,
+        site: &CompressorContext,
+        ctx: &mut ExecutionCtx,
+    ) -> VortexResult<CompressionEstimate> {
+        with_scheme!(self, scheme => scheme.expected_compression_ratio(column, site, ctx))
+    }
+
+    fn resolve_estimate(
+        &self,
+        column: &mut ArrayAndStats,
+        threshold: Option<Fraction>,
+        site: &CompressorContext,
+        ctx: &mut ExecutionCtx,
+    ) -> VortexResult<EstimateVerdict> {
+        with_scheme!(self, scheme => scheme.resolve_estimate(column, threshold, site, ctx))
+    }
+
+    fn split<L: Ledger>(
+        &self,
+        column: &mut ArrayAndStats,
+        site: &CompressorContext,
+        ctx: &mut ExecutionCtx,
+        steps: &mut Steps<L>,
+    ) -> VortexResult<Split> {
+        with_scheme!(self, scheme => scheme.split(column, site, ctx, steps))
+    }
+
+    fn join(
+        &self,
+        column: &mut ArrayAndStats,
+        site: &CompressorContext,
+        trees: Arrays,
+        ctx: &mut ExecutionCtx,
+    ) -> VortexResult<ArrayRef> {
+        with_scheme!(self, scheme => scheme.join(column, site, trees, ctx))
+    }
+}

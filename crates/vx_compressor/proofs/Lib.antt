@@ -1,0 +1,16 @@
+pub mod BanLemmas
+pub mod ByValueLemmas
+pub mod CascadeLemmas
+pub mod ChoiceLemmas
+pub mod EligibleLemmas
+pub mod HeldLemmas
+pub mod JudgingLemmas
+pub mod LeafCases
+pub mod LimitLemmas
+pub mod OneValueTrees
+pub mod SampleLemmas
+pub mod SampleSizes
+pub mod SamplingLemmas
+pub mod ScoreLemmas
+pub mod StandardFacts
+pub mod TrialLemmas

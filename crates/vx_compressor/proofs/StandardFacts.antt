@@ -1,0 +1,178 @@
+-- Worked values, counted by hand, so that a wrong rule in the definitions does not check.
+use Rattle.std.specs.Prelude.{◌≡◌, ◌<◌, ℕ, true, false, List, [], ◌∷◌, map, take, Option, Some, None, option_map, pos, refl}
+use Rattle.std.proofs.Common.{arith}
+use Rattle.vx_base.specs.declared.error.VortexError.TheVariants.{DuplicateScheme}
+use Rattle.vx_base.specs.declared.ptype.PType.TheVariants.{U8}
+use Rattle.vx_base.specs.declared.dtype.Nullability.TheVariants.{NonNullable}
+use Rattle.vx_base.specs.PlainType as types
+use Rattle.vx_base.specs.PlainValue.{int}
+use Rattle.vx_model.specs.Column.{Column, column}
+use Rattle.vx_model.specs.Plain.{plain}
+use Rattle.vx_model.specs.Rows.{below}
+use Rattle.vx_model.specs.Site.{fresh, down}
+use Rattle.vx_model.specs.Tree.{Tree}
+use Rattle.vx_scheme.specs.Excluded.{root_name}
+use Rattle.vx_scheme.specs.Meaning.{Meaning, Made, kept, finished, parts}
+use Rattle.vx_scheme.specs.declared.estimate.CompressionEstimate.{CompressionEstimate}
+use Rattle.vx_scheme.specs.declared.estimate.CompressionEstimate.TheVariants.{Verdict, Deferred}
+use Rattle.vx_scheme.specs.declared.estimate.DeferredEstimate.TheVariants.{Sample, Callback}
+use Rattle.vx_scheme.specs.declared.estimate.EstimateVerdict.{EstimateVerdict}
+use Rattle.vx_scheme.specs.declared.estimate.EstimateVerdict.TheVariants.{Skip, AlwaysUse, Ratio}
+use Rattle.vx_compressor.specs.declared.choice.Score.{Score}
+use Rattle.vx_compressor.specs.declared.choice.Score.TheVariants.{Always, Finite}
+use Rattle.vx_compressor.specs.Cascade.{Setting, choice, leaf_tree, plain_parts}
+use Rattle.vx_compressor.specs.Choice.{choice_of}
+use Rattle.vx_compressor.specs.Distinct.{schemes_refusal}
+use Rattle.vx_compressor.specs.Sampling.{partitions, slice_count, slices, sample}
+
+-- ---- samples
+
+-- ten rows in three parts
+pub partitions-ten : partitions 10 3 ≡ (0, 4) ∷ (4, 7) ∷ (7, 10) ∷ []
+partitions-ten = refl
+
+-- sixteen, up to a hundredth of 102,400 rows in slices of 64; with a hundredth of 108,800 it is 17, so 32
+pub slice_counts : map slice_count (0 ∷ 1_000 ∷ 100_000 ∷ 102_400 ∷ 108_799 ∷ 108_800 ∷ 204_800 ∷ 4_294_967_296 ∷ []) ≡ 16 ∷ 16 ∷ 16 ∷ 16 ∷ 16 ∷ 32 ∷ 32 ∷ 671_088 ∷ []
+slice_counts = refl
+
+-- sixteen partitions of 128 rows, in which a slice has 65 places: 5, and 70 less 65
+pub slices-2048 : take 3 (slices 2_048 (5 ∷ 70 ∷ [])) ≡ (5, 69) ∷ (133, 197) ∷ (261, 325) ∷ []
+slices-2048 = refl
+
+-- the greatest word that begins at the last place, and the one above it
+pub slices-ends : take 2 (slices 2_048 (64 ∷ 65 ∷ [])) ≡ (64, 128) ∷ (128, 192) ∷ []
+slices-ends = refl
+
+-- 1,024 rows are all taken; of 1,025 the first partition has one row more
+pub slices-short : (slices 1_024 (5 ∷ []) ≡ (0, 1_024) ∷ []) × (take 3 (slices 1_025 (5 ∷ [])) ≡ (1, 65) ∷ (65, 129) ∷ (129, 193) ∷ [])
+slices-short = (refl, refl)
+
+abbrev counting : ℕ → Column
+counting n = column (types.primitive U8 NonNullable) (below (λ i. int (pos i)) n)
+
+-- a sample is its own sample, and leaves out what lies in no slice
+pub samples : (sample true (5 ∷ []) (counting 1_025) ≡ counting 1_025) × (take 2 (sample false (5 ∷ []) (counting 1_025)).values ≡ int (pos 1) ∷ int (pos 2) ∷ [])
+samples = (refl, refl)
+
+-- ---- choices, of schemes that are numbers
+
+abbrev times : (m n : ℕ) → 0 < n → Option Score
+times m n h = Some (Finite (record { num = m; den = n; positive = h }))
+
+abbrev chosen : List (ℕ × Option Score) → Option ℕ
+chosen xs = choice_of xs
+
+-- the first always-use stands, before the greatest fraction too
+pub always_stands : chosen ((0, times 9 1 (omega arith)) ∷ (1, Some Always) ∷ (2, Some Always) ∷ (3, times 99 1 (omega arith)) ∷ []) ≡ Some 1
+always_stands = refl
+
+-- of two equal fractions the earlier
+pub earlier_stands : chosen ((0, None) ∷ (1, times 3 2 (omega arith)) ∷ (2, times 6 4 (omega arith)) ∷ (3, times 5 4 (omega arith)) ∷ []) ≡ Some 1
+earlier_stands = refl
+
+-- a greater one wins wherever it stands
+pub greater_wins : chosen ((0, times 3 2 (omega arith)) ∷ (1, times 5 2 (omega arith)) ∷ (2, times 2 1 (omega arith)) ∷ []) ≡ Some 1
+greater_wins = refl
+
+-- one, or less, is no reason to choose
+pub none_counts : chosen ((0, times 7 7 (omega arith)) ∷ (1, times 2 3 (omega arith)) ∷ (2, None) ∷ []) ≡ None
+none_counts = refl
+
+-- and never hides what is above one
+pub one_above : chosen ((0, times 7 7 (omega arith)) ∷ (1, times 8 7 (omega arith)) ∷ []) ≡ Some 1
+one_above = refl
+
+-- ---- a site, of schemes that tell and make the same of every column
+
+abbrev telling : List ℕ → CompressionEstimate → EstimateVerdict → Made → Meaning
+telling name estimate resolve made = record {
+  name = name;
+  takes = λ t. true;
+  children = 1;
+  options = record { count_distinct_values = false };
+  produces = λ id. false;
+  descendants = [];
+  ancestors = [];
+  estimate = λ c site. estimate;
+  resolve = λ c site. resolve;
+  splits = λ c site. made;
+  joined = λ c site trees. plain c;
+}
+
+abbrev times_as_much : (m n : ℕ) → 0 < n → EstimateVerdict
+times_as_much m n h = Ratio (record { num = m; den = n; positive = h })
+
+abbrev at_once : ℕ → EstimateVerdict → Meaning
+at_once name verdict = telling (name ∷ []) (Verdict verdict) Skip kept
+
+abbrev later : ℕ → EstimateVerdict → Meaning
+later name verdict = telling (name ∷ []) (Deferred Callback) verdict kept
+
+-- one that is tried on samples, of which it makes this tree
+abbrev by_sample : ℕ → Tree → Meaning
+by_sample name tree = telling (name ∷ []) (Deferred Sample) Skip (finished tree)
+
+abbrev among : List Meaning → Setting
+among schemes = record { schemes = schemes; words = 0 ∷ [] }
+
+-- three bytes
+abbrev three : Column
+three = column (types.primitive U8 NonNullable) (int (pos 7) ∷ int (pos 8) ∷ int (pos 7) ∷ [])
+
+-- trees of no byte, of one, of two and of three
+abbrev of_bytes : ℕ → Tree
+of_bytes n = plain (column (types.primitive U8 NonNullable) (below (λ i. int (pos i)) n))
+
+abbrev chosen_among : List Meaning → Option (List ℕ)
+chosen_among schemes = option_map (λ m. m.name) (choice plain_parts (among schemes) three fresh)
+
+-- the first always-use wins, and a verdict before one that is put off
+pub first_always : (chosen_among (at_once 0 (times_as_much 9 1 (omega arith)) ∷ later 1 AlwaysUse ∷ at_once 2 AlwaysUse ∷ at_once 3 AlwaysUse ∷ []) ≡ Some (2 ∷ []))
+    × (chosen_among (at_once 0 (times_as_much 9 1 (omega arith)) ∷ later 1 AlwaysUse ∷ later 2 AlwaysUse ∷ []) ≡ Some (1 ∷ []))
+first_always = (refl, refl)
+
+-- of equal ratios the earlier stands, but a verdict before one that is put off
+pub earlier_tie : (chosen_among (at_once 0 (times_as_much 3 2 (omega arith)) ∷ at_once 1 (times_as_much 6 4 (omega arith)) ∷ []) ≡ Some (0 ∷ []))
+    × (chosen_among (later 0 (times_as_much 3 2 (omega arith)) ∷ at_once 1 (times_as_much 6 4 (omega arith)) ∷ []) ≡ Some (1 ∷ []))
+earlier_tie = (refl, refl)
+
+-- a greater ratio wins though it is put off
+pub later_greater : chosen_among (at_once 0 (times_as_much 3 2 (omega arith)) ∷ later 1 (times_as_much 2 1 (omega arith)) ∷ []) ≡ Some (1 ∷ [])
+later_greater = refl
+
+-- a ratio of one, or below, doesn't count
+pub no_more_than_one : chosen_among (at_once 0 (times_as_much 7 7 (omega arith)) ∷ later 1 (times_as_much 1 2 (omega arith)) ∷ at_once 2 Skip ∷ []) ≡ None
+no_more_than_one = refl
+
+-- three bytes by one is a ratio of three, by three of none; no byte is out of the race
+pub sampled : (chosen_among (at_once 0 (times_as_much 2 1 (omega arith)) ∷ by_sample 1 (of_bytes 1) ∷ []) ≡ Some (1 ∷ []))
+    × (chosen_among (by_sample 0 (of_bytes 0) ∷ by_sample 1 (of_bytes 2) ∷ []) ≡ Some (1 ∷ []))
+    × (chosen_among (by_sample 0 (of_bytes 0) ∷ by_sample 1 (of_bytes 3) ∷ []) ≡ None)
+sampled = (refl, refl, refl)
+
+-- a name that stands above is not chosen again
+pub not_below_itself : option_map (λ m. m.name) (choice plain_parts (among (at_once 0 AlwaysUse ∷ at_once 1 (times_as_much 2 1 (omega arith)) ∷ [])) three (down fresh (0 ∷ []) 0)) ≡ Some (1 ∷ [])
+not_below_itself = refl
+
+-- the chosen tree stands where it is smaller, and only there
+pub smaller_stands : (leaf_tree (among (telling (0 ∷ []) (Verdict AlwaysUse) Skip (finished (of_bytes 2)) ∷ [])) three fresh ≡ of_bytes 2)
+    × (leaf_tree (among (telling (0 ∷ []) (Verdict AlwaysUse) Skip (finished (of_bytes 3)) ∷ [])) three fresh ≡ plain three)
+    × (leaf_tree (among (at_once 0 AlwaysUse ∷ [])) three fresh ≡ plain three)
+smaller_stands = (refl, refl, refl)
+
+abbrev of_five : Tree
+of_five = plain (column (types.primitive U8 NonNullable) (int (pos 5) ∷ []))
+
+abbrev first_of : List Tree → Tree
+first_of [] = of_bytes 3
+first_of (t ∷ ts) = t
+
+-- parts become plain trees
+pub parts_plain : leaf_tree (among (record (telling (0 ∷ []) (Verdict AlwaysUse) Skip (parts (column (types.primitive U8 NonNullable) (int (pos 5) ∷ []) ∷ []))) { joined = λ c site trees. first_of trees } ∷ [])) three fresh ≡ of_five
+parts_plain = refl
+
+-- ---- names
+
+pub own_names : (schemes_refusal (at_once 0 Skip ∷ at_once 1 Skip ∷ []) ≡ None) × (schemes_refusal (at_once 0 Skip ∷ at_once 1 Skip ∷ at_once 0 Skip ∷ []) ≡ Some DuplicateScheme)
+    × (schemes_refusal (telling root_name (Verdict Skip) Skip kept ∷ []) ≡ Some DuplicateScheme)
+own_names = (refl, refl, refl)

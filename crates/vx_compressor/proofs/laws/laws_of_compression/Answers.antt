@@ -1,0 +1,18 @@
+use Rattle.vx_model.proofs.LeafLemmas.{counts_within_extents}
+use Rattle.vx_compressor.proofs.CascadeLemmas.{keeps_rows_and_type, again_the_same, never_larger_by, by_the_column_alone_by}
+use Rattle.vx_compressor.proofs.laws.laws_of_compression.Goals as goal
+
+pub returns-clause-keeps : goal.returns-clause-keeps
+returns-clause-keeps c = keeps_rows_and_type
+
+pub returns-clause-again : goal.returns-clause-again
+returns-clause-again c = again_the_same
+
+pub returns-clause-never_larger : goal.returns-clause-never_larger
+returns-clause-never_larger c = never_larger_by
+
+pub returns-clause-alone : goal.returns-clause-alone
+returns-clause-alone c = by_the_column_alone_by
+
+pub returns-clause-counts : goal.returns-clause-counts
+returns-clause-counts c = counts_within_extents

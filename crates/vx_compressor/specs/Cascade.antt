@@ -1,0 +1,121 @@
+-- The tree of a leaf column at a site: each scheme that may stand there is scored, and the tree of the chosen one stands where it
+-- is smaller than the plain tree.
+use Rattle.std.specs.Prelude.{ℕ, zero, suc, true, false, ◌+◌, nat_le, Bool, not, ◌&&◌, List, [], ◌∷◌, ◌++◌, map, filter, Option, Some, None, option_map, if◌then◌else◌}
+use Rattle.std.proofs.Common.{zero-lt-suc}
+use Rattle.vx_base.specs.PlainType.{PlainType}
+use Rattle.vx_model.specs.Column.{Column}
+use Rattle.vx_model.specs.Plain.{plain}
+use Rattle.vx_model.specs.Site.{Site, down}
+use Rattle.vx_model.specs.Size.{size}
+use Rattle.vx_model.specs.Tree.{Tree}
+use Rattle.vx_model.specs.Leaf.{Chooses, leaf}
+use Rattle.vx_model.specs.Cascade.{Leaves}
+use Rattle.vx_scheme.specs.Contexts.{sample_site}
+use Rattle.vx_scheme.specs.Excluded.{History, excluded}
+use Rattle.vx_scheme.specs.Meaning.{Meaning, Made, kept, finished, parts}
+use Rattle.vx_scheme.specs.declared.estimate.CompressionEstimate.{CompressionEstimate}
+use Rattle.vx_scheme.specs.declared.estimate.CompressionEstimate.TheVariants.{Verdict, Deferred}
+use Rattle.vx_scheme.specs.declared.estimate.DeferredEstimate.{DeferredEstimate}
+use Rattle.vx_scheme.specs.declared.estimate.DeferredEstimate.TheVariants.{Sample, Callback}
+use Rattle.vx_scheme.specs.declared.estimate.EstimateVerdict.{EstimateVerdict}
+use Rattle.vx_scheme.specs.declared.estimate.EstimateVerdict.TheVariants.{Skip, AlwaysUse, Ratio}
+use Rattle.vx_compressor.specs.declared.choice.Score.{Score}
+use Rattle.vx_compressor.specs.declared.choice.Score.TheVariants.{Always, Finite}
+use Rattle.vx_compressor.specs.Choice.{choice_of}
+use Rattle.vx_compressor.specs.Sampling.{sample}
+
+-- what stays the same throughout: the schemes, and the words that place the samples
+pub record Setting : Type 0 where
+  pub schemes : List Meaning
+  pub words : List ℕ
+
+-- the setting of a list of schemes
+abbrev pub setting : {S : Type 0} → (S → Meaning) → List S → List ℕ → Setting
+setting meaning schemes words = record { schemes = map meaning schemes; words = words }
+
+-- ---- what a scheme makes of a column, where its parts become trees by `child`
+
+-- the trees of the parts, from a child number on
+abbrev pub part_trees : Leaves → List ℕ → Site → ℕ → List Column → List Tree
+part_trees child name site number [] = []
+part_trees child name site number (c ∷ cs) = child c (down site name number) ∷ part_trees child name site (number + 1) cs
+
+abbrev pub made_tree : Leaves → Meaning → Column → Site → Made → Tree
+made_tree child m c site kept = plain c
+made_tree child m c site (finished tree) = tree
+made_tree child m c site (parts columns) = m.joined c site (part_trees child m.name site 0 columns)
+
+abbrev pub trial : Leaves → Meaning → Column → Site → Tree
+trial child m c site = made_tree child m c site (m.splits c site)
+
+-- ---- how good a scheme is for a column
+
+abbrev pub verdict_score : EstimateVerdict → Option Score
+verdict_score Skip = None
+verdict_score AlwaysUse = Some Always
+verdict_score (Ratio f) = Some (Finite f)
+
+-- how many times smaller the tree is; nothing where it takes no byte, or isn't smaller
+abbrev pub size_score : ℕ → ℕ → Option Score
+size_score before zero = None
+size_score before (suc after) = if nat_le before (suc after) then None else Some (Finite (record { num = before; den = suc after; positive = zero-lt-suc after }))
+
+-- by the scheme's trial on a sample
+abbrev pub sample_score : Leaves → Meaning → Column → Site → Option Score
+sample_score child m s site = size_score (size (plain s)) (size (trial child m s (sample_site site)))
+
+abbrev pub deferred_score : Leaves → List ℕ → Meaning → Column → Site → DeferredEstimate → Option Score
+deferred_score child words m c site Sample = sample_score child m (sample site.sampled words c) site
+deferred_score child words m c site Callback = verdict_score (m.resolve c site)
+
+abbrev pub estimate_score : Leaves → List ℕ → Meaning → Column → Site → CompressionEstimate → Option Score
+estimate_score child words m c site (Verdict v) = verdict_score v
+estimate_score child words m c site (Deferred d) = deferred_score child words m c site d
+
+abbrev pub score : Leaves → List ℕ → Meaning → Column → Site → Option Score
+score child words m c site = estimate_score child words m c site (m.estimate c site)
+
+-- ---- the choice
+
+-- the scheme takes the type, and no rule forbids it below those that stand above
+abbrev pub is_eligible : List Meaning → PlainType → History → Meaning → Bool
+is_eligible schemes dtype history m = m.takes dtype && not (excluded schemes m.name history)
+
+abbrev pub eligible : List Meaning → PlainType → History → List Meaning
+eligible schemes dtype history = filter (is_eligible schemes dtype history) schemes
+
+abbrev pub is_verdict : CompressionEstimate → Bool
+is_verdict (Verdict v) = true
+is_verdict (Deferred d) = false
+
+-- those with a verdict, and those that put it off
+abbrev pub with_verdict : Column → Site → List Meaning → List Meaning
+with_verdict c site ms = filter (λ m. is_verdict (m.estimate c site)) ms
+
+abbrev pub deferring : Column → Site → List Meaning → List Meaning
+deferring c site ms = filter (λ m. not (is_verdict (m.estimate c site))) ms
+
+-- in the order of the list, those with a verdict before the others
+abbrev pub judged : List Meaning → Column → Site → List Meaning
+judged schemes c site =
+    with_verdict c site (eligible schemes c.dtype site.history) ++ deferring c site (eligible schemes c.dtype site.history)
+
+-- the first always-use, else the first with the greatest ratio above one
+abbrev pub choice : Leaves → Setting → Column → Site → Option Meaning
+choice child set c site = choice_of (map (λ m. (m, score child set.words m c site)) (judged set.schemes c site))
+
+-- ---- the tree of a site
+
+-- the tree of the scheme that is chosen
+abbrev pub chosen : Leaves → Setting → Chooses
+chosen child set c site = option_map (λ m. trial child m c site) (choice child set c site)
+
+abbrev pub site_tree : Leaves → Setting → Leaves
+site_tree child set = leaf (chosen child set)
+
+-- a part becomes its plain tree
+abbrev pub plain_parts : Leaves
+plain_parts c site = plain c
+
+abbrev pub leaf_tree : Setting → Leaves
+leaf_tree set = site_tree plain_parts set

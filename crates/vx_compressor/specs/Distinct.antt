@@ -1,0 +1,21 @@
+-- Which names the schemes of a compressor may have.
+use Rattle.std.specs.Prelude.{ℕ, Bool, true, not, ◌&&◌, List, [], ◌∷◌, map, Option, None}
+use Rattle.std.specs.List.{list_any}
+use Rattle.vx_base.specs.Answers.{unless}
+use Rattle.vx_base.specs.declared.error.VortexError.{VortexError}
+use Rattle.vx_base.specs.declared.error.VortexError.TheVariants.{DuplicateScheme}
+use Rattle.vx_scheme.specs.Excluded.{root_name}
+use Rattle.vx_scheme.specs.Meaning.{Meaning}
+use Rattle.vx_scheme.specs.Names.{same_name}
+
+-- no name stands twice
+abbrev pub are_distinct : List (List ℕ) → Bool
+are_distinct [] = true
+are_distinct (name ∷ names) = not (list_any (same_name name) names) && are_distinct names
+
+abbrev pub names_of : List Meaning → List (List ℕ)
+names_of schemes = map (λ m. m.name) schemes
+
+-- each scheme has a name of its own, which the root hasn't
+abbrev pub schemes_refusal : List Meaning → Option VortexError
+schemes_refusal schemes = unless (are_distinct (root_name ∷ names_of schemes)) DuplicateScheme None

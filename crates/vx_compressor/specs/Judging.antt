@@ -1,0 +1,66 @@
+-- What the two passes over the schemes of a site have found, and what they rest on.
+use Rattle.std.specs.Prelude.{◌≡◌, ◌<◌, ◌≤◌, ℕ, true, List, [], ◌∷◌, map, length, Option, option_map}
+use Rattle.vx_model.specs.Cascade.{Leaves}
+use Rattle.vx_model.specs.Column.{Column}
+use Rattle.vx_model.specs.Plain.{plain}
+use Rattle.vx_model.specs.Site.{Site}
+use Rattle.vx_scheme.specs.Asked.{most_rows}
+use Rattle.vx_scheme.specs.Bundle.{Bundle}
+use Rattle.vx_scheme.specs.Meaning.{Meaning}
+use Rattle.vx_scheme.specs.Options.{includes}
+use Rattle.vx_scheme.specs.declared.estimate.CompressionEstimate.{CompressionEstimate}
+use Rattle.vx_scheme.specs.declared.estimate.CompressionEstimate.TheVariants.{Verdict, Deferred}
+use Rattle.vx_scheme.specs.declared.estimate.DeferredEstimate.{DeferredEstimate}
+use Rattle.vx_scheme.specs.declared.options.GenerateStatsOptions.{GenerateStatsOptions}
+use Rattle.vx_compressor.specs.declared.choice.Score.{Score}
+use Rattle.vx_compressor.specs.Cascade.{verdict_score, deferred_score}
+
+-- a bundle holds the plain tree of a column, and these options
+pub record Holds (b : Bundle) (c : Column) (opts : GenerateStatsOptions) : Type 0 where
+  pub array : b.array ≡ plain c
+  pub options : b.options ≡ opts
+
+-- a column that schemes may split: it has rows, but not too many
+pub record IsAskable (c : Column) : Type 0 where
+  pub some : 0 < length c.values
+  pub few : length c.values ≤ most_rows
+
+-- a scheme that may be asked about the column: it takes the type, and its options are among these
+pub record IsReady (c : Column) (opts : GenerateStatsOptions) (m : Meaning) : Type 0 where
+  pub taken : m.takes c.dtype ≡ true
+  pub included : includes opts m.options ≡ true
+
+-- ---- the first pass
+
+-- the scores of the verdicts that schemes tell at once
+abbrev pub told_by : {A : Type 0} → A → CompressionEstimate → List (A × Option Score) → List (A × Option Score)
+told_by x (Verdict v) rest = (x, verdict_score v) ∷ rest
+told_by x (Deferred d) rest = rest
+
+abbrev pub told : Column → Site → List Meaning → List (Meaning × Option Score)
+told c site [] = []
+told c site (m ∷ ms) = told_by m (m.estimate c site) (told c site ms)
+
+-- the schemes that put theirs off, each with how it is found
+abbrev pub put_off_by : {A : Type 0} → A → CompressionEstimate → List (A × DeferredEstimate) → List (A × DeferredEstimate)
+put_off_by x (Verdict v) rest = rest
+put_off_by x (Deferred d) rest = (x, d) ∷ rest
+
+abbrev pub put_off : Column → Site → List Meaning → List (Meaning × DeferredEstimate)
+put_off c site [] = []
+put_off c site (m ∷ ms) = put_off_by m (m.estimate c site) (put_off c site ms)
+
+-- ---- the second pass
+
+-- the scores that are found later
+abbrev pub found : Leaves → List ℕ → Column → Site → List (Meaning × DeferredEstimate) → List (Meaning × Option Score)
+found child words c site ps = map (λ p. (p.0, deferred_score child words p.0 c site p.1)) ps
+
+-- ---- schemes by what they mean
+
+-- a scheme with anything, by what the scheme means
+abbrev pub meant_pair : {S A : Type 0} → (S → Meaning) → S × A → Meaning × A
+meant_pair meaning p = (meaning p.0, p.1)
+
+abbrev pub meant : {S : Type 0} → (S → Meaning) → Option (S × Score) → Option (Meaning × Score)
+meant meaning best = option_map (meant_pair meaning) best

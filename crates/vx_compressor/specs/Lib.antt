@@ -1,0 +1,12 @@
+pub mod Bans
+pub mod Behind
+pub mod ByValue
+pub mod Cascade
+pub mod CascadeLaws
+pub mod Choice
+pub mod Distinct
+pub mod Judging
+pub mod Sampling
+pub mod SamplingLaws
+pub mod Shared
+pub mod WholeMeaning

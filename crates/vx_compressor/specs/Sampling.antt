@@ -1,0 +1,58 @@
+-- Which rows a sample has: about one of a hundred, 64 in a row from each of equal partitions of a column.
+use Rattle.std.specs.Prelude.{ℕ, ◌+◌, ◌-◌, ◌*◌, ◌/◌, ◌%◌, max, min, nat_lt, nat_le, Bool, ◌||◌, if◌then◌else◌, List, [], ◌∷◌, length, slice_index}
+use Rattle.vx_base.specs.Gathered.{gathered}
+use Rattle.vx_model.specs.Column.{Column, column}
+use Rattle.vx_model.specs.Rows.{below}
+
+-- ---- partitions: nearly equal parts of so many rows, the longer ones first
+
+abbrev pub partition_rows : ℕ → ℕ → ℕ → ℕ
+partition_rows rows n i = if nat_lt i (rows % n) then rows / n + 1 else rows / n
+
+-- behind i partitions of at least rows / n rows, of which the first rows mod n have one more
+abbrev pub partition_start : ℕ → ℕ → ℕ → ℕ
+partition_start rows n i = i * (rows / n) + min i (rows % n)
+
+-- from its first row to the one after its last
+abbrev pub partition : ℕ → ℕ → ℕ → ℕ × ℕ
+partition rows n i = (partition_start rows n i, partition_start rows n i + partition_rows rows n i)
+
+abbrev pub partitions : ℕ → ℕ → List (ℕ × ℕ)
+partitions rows n = below (partition rows n) n
+
+-- ---- slices
+
+-- the least multiple of k that is at least n
+abbrev pub rounded_up : ℕ → ℕ → ℕ
+rounded_up k n = (n + (k - 1)) / k * k
+
+-- how many slices of 64 rows are about one row of a hundred: a multiple of 16, and at least 16
+abbrev pub slice_count : ℕ → ℕ
+slice_count rows = rounded_up 16 (max 16 (rows / 100 / 64))
+
+-- a column that is no longer than its slices is its own sample
+abbrev pub is_short : ℕ → Bool
+is_short rows = nat_le rows (64 * slice_count rows)
+
+-- the words are taken in turn
+abbrev pub word_at : List ℕ → ℕ → ℕ
+word_at words i = slice_index words (i % length words)
+
+-- a word places the slice anywhere in its partition
+abbrev pub slice_start : ℕ → List ℕ → ℕ → ℕ
+slice_start rows words i =
+    partition_start rows (slice_count rows) i + word_at words i % (partition_rows rows (slice_count rows) i - 63)
+
+abbrev pub slice_of : ℕ → List ℕ → ℕ → ℕ × ℕ
+slice_of rows words i = (slice_start rows words i, slice_start rows words i + 64)
+
+-- a slice from each partition, or all rows
+abbrev pub slices : ℕ → List ℕ → List (ℕ × ℕ)
+slices rows words = if is_short rows then (0, rows) ∷ [] else below (slice_of rows words) (slice_count rows)
+
+-- ---- the sample
+
+-- the rows of the slices; a sample of a sample is the sample itself
+abbrev pub sample : Bool → List ℕ → Column → Column
+sample sampled words c =
+    if sampled || is_short (length c.values) then c else column c.dtype (gathered (slices (length c.values) words) c.values)

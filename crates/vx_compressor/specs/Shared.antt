@@ -1,0 +1,12 @@
+-- What the valid rows of a column share.
+use Rattle.std.specs.Prelude.{◌≡◌, true, false, List, Some, None}
+use Rattle.vx_base.specs.PlainValue.{PlainValue, int}
+use Rattle.vx_model.specs.Leaf.{first_valid, each_null_or}
+use Rattle.vx_compressor.specs.declared.constant.Shared.{Shared}
+use Rattle.vx_compressor.specs.declared.constant.Shared.TheVariants.{Nothing, One, Many}
+
+-- no row is valid; every row is null or this integer; two valid rows differ
+abbrev pub IsShared : List PlainValue → Shared → Type 0
+IsShared values Nothing = first_valid values ≡ None
+IsShared values (One z) = (first_valid values ≡ Some (int z)) × (each_null_or (int z) values ≡ true)
+IsShared values Many = (v : PlainValue) × (first_valid values ≡ Some v) × (each_null_or v values ≡ false)

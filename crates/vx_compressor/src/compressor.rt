@@ -1,0 +1,115 @@
+//! The compressor over any lawful schemes.
+
+ghost use Rattle.std.specs.Prelude.{◌≡◌, ◌<◌, true, map};
+ghost use Rattle.vx_base.specs.Answers.{Answers, Decided, Makes};
+ghost use Rattle.vx_model.specs.Cascade.{cascade};
+ghost use Rattle.vx_model.specs.Column.{column_of};
+ghost use Rattle.vx_model.specs.Extents.{extents_fit};
+ghost use Rattle.vx_model.specs.Refusals.{compress_refusal};
+ghost use Rattle.vx_scheme.specs.Contexts.{site_of};
+ghost use Rattle.vx_scheme.specs.Excluded.{excluded};
+ghost use Rattle.vx_compressor.specs.Cascade.{setting, leaf_tree};
+ghost use Rattle.vx_compressor.specs.Distinct.{schemes_refusal};
+
+use crate::bans::{Ban, bans_of};
+use crate::distinct::have_own_names;
+use crate::excluded::is_excluded;
+use std::alloc::Global;
+use std::marker::{Brand, Model};
+use std::sync::ledger::{Blank, Ledger};
+use vx_array::ArrayRef;
+use vx_base::{ExecutionCtx, Items, Refused, Steps, VortexError, VortexResult};
+use vx_scheme::{CompressorContext, Scheme};
+
+/// Schemes in the order in which they are judged.
+pub type Schemes<S> = Items<S>;
+
+/// Makes a column's tree: at each site every scheme that may stand there is scored, and the tree of the best stands
+/// where it is smaller than the plain one. Contracts see the list of schemes.
+#[derive(Drop)]
+pub struct CascadingCompressor<S: Scheme> {
+    schemes: Schemes<S>,
+    bans: Vec<Ban>,
+}
+
+impl<S: Scheme> Model for CascadingCompressor<S> {
+    ghost use Rattle.std.specs.Prelude.{◌≡◌, List, map};
+    ghost use Rattle.vx_compressor.specs.Bans.{ban_of, all_bans};
+
+    ghost Value = { List S };
+
+    ghost view = { λ a. a.schemes };
+
+    ghost invariant = { λ a. map ban_of a.bans.items ≡ all_bans (map S.meaning a.schemes) };
+}
+
+impl<S: Scheme> CascadingCompressor<S> {
+    /// A compressor over the schemes, whose rules of exclusion it collects. Refuses DuplicateScheme exactly where two
+    /// schemes have the same name or one has `vortex.compressor.root`, and NoMemory; the schemes come back.
+    pub fn new(alloc: Global, schemes: Schemes<S>) -> Result<Self, Refused<Schemes<S>>>
+        ensures { Makes (schemes_refusal (map S.meaning schemes)) schemes schemes result }
+    {
+        if !have_own_names(schemes.as_slice()) {
+            return Err(Refused {
+                error: VortexError::DuplicateScheme,
+                inputs: schemes,
+            });
+        }
+        match bans_of(alloc, schemes.as_slice()) {
+            Ok(bans) => Ok(CascadingCompressor { schemes, bans }),
+            Err(error) => Err(Refused {
+                error,
+                inputs: schemes,
+            }),
+        }
+    }
+
+    /// The schemes, in the order in which they are judged.
+    pub fn schemes(&self) -> &Schemes<S>
+        ensures { result.now ≡ self.now }
+    {
+        &self.schemes
+    }
+
+    /// Whether the candidate may not stand at the site: a scheme of its name stands above, or a rule of the list
+    /// forbids it below one that does, or it is `vortex.int.dict` and the column is a list's offsets.
+    pub fn is_excluded(&self, candidate: &S, site: &CompressorContext) -> bool
+        ensures { result ≡ excluded (map S.meaning self.now) (S.meaning candidate.now).name (site_of site.now).history }
+    {
+        is_excluded(self.bans.as_slice(), candidate.id(), site.cascade_history())
+    }
+
+    /// The tree of the array's column: its type and rows decide, its own encodings don't. Refuses TooManyRows exactly
+    /// where an extent of the array passes 2^31 rows, and NoMemory. The context stays as it was.
+    pub fn compress(&self, array: &ArrayRef, ctx: &mut ExecutionCtx) -> VortexResult<ArrayRef>
+        ensures answer { Decided (compress_refusal array.now) (λ tree. tree ≡ cascade (leaf_tree (setting S.meaning self.now ctx.old)) (column_of array.now)) result }
+        ensures ctx { ctx.new ≡ ctx.old }
+    {
+        if !array.extents_fit() {
+            return Err(VortexError::TooManyRows);
+        }
+        counted::<Brand, S>(self, Blank::new(1), array, ctx)
+    }
+}
+
+// The tree of the array's column, with a count of its own.
+fn counted<L: Ledger, S: Scheme>(
+    compressor: &CascadingCompressor<S>,
+    blank: Blank,
+    array: &ArrayRef,
+    ctx: &mut ExecutionCtx,
+) -> VortexResult<ArrayRef>
+    requires fits { extents_fit array.now ≡ true }
+    requires name { blank.name ≡ L.name }
+    requires parts { blank.parts ≡ L.parts }
+    requires some { 0 < L.parts }
+    ensures answer { Answers result (cascade (leaf_tree (setting S.meaning compressor.now ctx.old)) (column_of array.now)) }
+    ensures ctx { ctx.new ≡ ctx.old }
+{
+    array.known();
+    let words = ctx.words().copy(ctx.alloc())?;
+    let plain = array.canonical(ctx.alloc())?;
+    let site = CompressorContext::new();
+    let mut steps = Steps::<L>::new(blank);
+    compressor.site_tree(words.as_slice(), array, plain, &site, ctx, &mut steps)
+}

@@ -1,0 +1,51 @@
+//! Which schemes may stand at a site, and what statistics they ask for.
+
+ghost use Rattle.std.specs.Prelude.{◌≡◌, true, All, map};
+ghost use Rattle.vx_base.specs.Answers.{OrMemory};
+ghost use Rattle.vx_base.specs.TypeOf.{type_of};
+ghost use Rattle.vx_scheme.specs.Contexts.{site_of};
+ghost use Rattle.vx_scheme.specs.Options.{includes};
+ghost use Rattle.vx_compressor.specs.Cascade.{is_eligible, eligible};
+
+use crate::compressor::{CascadingCompressor, Schemes};
+use std::alloc::Global;
+use vx_base::{DType, VortexResult};
+use vx_scheme::{CompressorContext, GenerateStatsOptions, Scheme};
+
+impl<S: Scheme> CascadingCompressor<S> {
+    /// The schemes that take the type and that no rule forbids at the site, in the order of the list.
+    pub(crate) fn eligible(
+        &self,
+        alloc: Global,
+        dtype: &DType,
+        site: &CompressorContext,
+    ) -> VortexResult<Schemes<S>>
+        ensures { OrMemory result (λ schemes. map S.meaning schemes ≡ eligible (map S.meaning self.now) (type_of dtype.now) (site_of site.now).history) }
+    {
+        let mut found = Vec::new(alloc);
+        let schemes = self.schemes().as_slice();
+        for scheme in schemes {
+            if self.is_eligible(scheme, dtype, site) {
+                found.push(*scheme)?;
+            }
+        }
+        Ok(Schemes::from_vec(found))
+    }
+
+    fn is_eligible(&self, scheme: &S, dtype: &DType, site: &CompressorContext) -> bool
+        ensures { result ≡ is_eligible (map S.meaning self.now) (type_of dtype.now) (site_of site.now).history (S.meaning scheme.now) }
+    {
+        scheme.matches(dtype) && !self.is_excluded(scheme, site)
+    }
+}
+
+/// All that the schemes ask for together.
+pub(crate) fn merged_options<S: Scheme>(schemes: &[S]) -> GenerateStatsOptions
+    ensures { All (λ s. includes result (S.meaning s).options ≡ true) schemes.now }
+{
+    let mut options = GenerateStatsOptions::default();
+    for scheme in schemes {
+        options = options.merge(scheme.stats_options());
+    }
+    options
+}

@@ -1,0 +1,32 @@
+//! The compressor over any lawful schemes: which rows a sample has, which scheme is chosen by its score, and the tree of a
+//! column.
+#![tactic(auto)]
+
+mod bans;
+mod by_value;
+mod choice;
+mod compressor;
+mod constant;
+mod distinct;
+mod eligible;
+mod excluded;
+mod judging;
+mod laws;
+mod plain_sample;
+mod sampling;
+mod site;
+
+pub use choice::{Score, best_is_choice};
+pub use compressor::{CascadingCompressor, Schemes};
+pub use laws::laws_of_compression;
+pub use sampling::{
+    SAMPLE_COUNT, SAMPLE_SIZE, laws_of_sampling, partition_indices,
+    sample_count_approx_one_percent, stratified_slices,
+};
+
+#[cfg(test)]
+mod cascade_tests;
+#[cfg(test)]
+mod tests;
+#[cfg(test)]
+mod whole_tests;

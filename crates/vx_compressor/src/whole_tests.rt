@@ -1,0 +1,135 @@
+//! Compression over a scheme that is always judged: its one part is the column itself.
+
+use crate::{CascadingCompressor, Schemes};
+use std::alloc::Global;
+use std::sync::ledger::Ledger;
+use std::test::Fail;
+use vx_array::{ArrayRef, Arrays, Ints};
+use vx_base::{
+    ArrayId, DType, ExecutionCtx, Fraction, IdSet, IntList, Nullability, Steps, VortexResult, Words,
+};
+use vx_scheme::{
+    AllowedIds, AncestorRules, ArrayAndStats, CompressionEstimate, CompressorContext,
+    DeferredEstimate, DescendantRules, EstimateVerdict, GenerateStatsOptions, Scheme, Split,
+};
+
+// A scheme that tells this of every column. Its tree is the column's own, so it never is smaller.
+#[derive(Clone, Copy, Debug)]
+struct Whole {
+    estimate: CompressionEstimate,
+}
+
+impl Scheme for Whole {
+    ghost use Rattle.vx_compressor.specs.WholeMeaning.{whole_meaning, whole_lawful};
+    ghost use Rattle.std.specs.Prelude.{refl};
+
+    ghost meaning = { λ s. whole_meaning s.estimate };
+
+    ghost refined = { λ s allowed. s };
+
+    ghost lawful = { λ s. whole_lawful s.estimate };
+
+    ghost keeps_name = { λ s allowed. refl };
+
+    fn scheme_name(&self) -> &'static str {
+        "test.whole"
+    }
+
+    fn matches(&self, _dtype: &DType) -> bool {
+        true
+    }
+
+    fn produced_encodings(&self) -> IdSet {
+        IdSet::empty()
+    }
+
+    fn refine(&self, _allowed: &AllowedIds) -> Self {
+        *self
+    }
+
+    fn stats_options(&self) -> GenerateStatsOptions {
+        GenerateStatsOptions::default()
+    }
+
+    fn num_children(&self) -> usize {
+        1
+    }
+
+    fn descendant_exclusions(&self, alloc: Global) -> VortexResult<DescendantRules> {
+        Ok(DescendantRules::new_in(alloc))
+    }
+
+    fn ancestor_exclusions(&self, alloc: Global) -> VortexResult<AncestorRules> {
+        Ok(AncestorRules::new_in(alloc))
+    }
+
+    fn expected_compression_ratio(
+        &self,
+        _column: &mut ArrayAndStats,
+        _site: &CompressorContext,
+        _ctx: &mut ExecutionCtx,
+    ) -> VortexResult<CompressionEstimate> {
+        Ok(self.estimate)
+    }
+
+    fn resolve_estimate(
+        &self,
+        _column: &mut ArrayAndStats,
+        _threshold: Option<Fraction>,
+        _site: &CompressorContext,
+        _ctx: &mut ExecutionCtx,
+    ) -> VortexResult<EstimateVerdict> {
+        Ok(EstimateVerdict::AlwaysUse)
+    }
+
+    fn split<L: Ledger>(
+        &self,
+        column: &mut ArrayAndStats,
+        _site: &CompressorContext,
+        ctx: &mut ExecutionCtx,
+        steps: &mut Steps<L>,
+    ) -> VortexResult<Split> {
+        steps.tick();
+        let mut parts = Vec::new(ctx.alloc());
+        parts.push(column.array().copy(ctx.alloc())?)?;
+        Ok(Split::Parts(Arrays::from_vec(parts)))
+    }
+
+    fn join(
+        &self,
+        column: &mut ArrayAndStats,
+        _site: &CompressorContext,
+        trees: Arrays,
+        ctx: &mut ExecutionCtx,
+    ) -> VortexResult<ArrayRef> {
+        match trees.as_slice() {
+            [] => column.array().copy(ctx.alloc()),
+            [tree, ..] => tree.copy(ctx.alloc()),
+        }
+    }
+}
+
+#[test]
+fn a_tree_that_is_not_smaller_never_stands(rt: HostRuntime) -> Result<(), Fail> {
+    for estimate in [
+        CompressionEstimate::Verdict(EstimateVerdict::AlwaysUse),
+        CompressionEstimate::Deferred(DeferredEstimate::Callback),
+        CompressionEstimate::Deferred(DeferredEstimate::Sample),
+    ] {
+        let schemes = Schemes::from_vec(vec![in rt.alloc(); Whole { estimate }]?);
+        let made = CascadingCompressor::new(rt.alloc(), schemes);
+        let compressor = made.ok().ok_or("refused")?;
+        let words = Words::from_vec(vec![in rt.alloc(); 0]?);
+        if words.len() == 0 {
+            return Err(Fail::from("no word"));
+        }
+        let mut ctx = ExecutionCtx::new(rt.alloc(), words);
+        let values = Ints::U8(IntList::from_vec(vec![in rt.alloc(); 7, 8, 7]?));
+        let array = ArrayRef::primitive(values, None, Nullability::NonNullable);
+        let array = array.ok().ok_or("refused")?;
+        let tree = compressor.compress(&array, &mut ctx)?;
+        assert_eq!(rt; tree.encoding_id(), ArrayId::Primitive);
+        assert_eq!(rt; tree.nbytes(), 3);
+    }
+    Ok(())
+}

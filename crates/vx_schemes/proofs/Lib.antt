@@ -1,0 +1,13 @@
+pub mod DifferenceLemmas
+pub mod EncodingLemmas
+pub mod FrameFacts
+pub mod FramedLemmas
+pub mod KeptLemmas
+pub mod LeastLemmas
+pub mod MadeLemmas
+pub mod NegativeLemmas
+pub mod PackingLemmas
+pub mod ShortLemmas
+pub mod StandardFacts
+pub mod WideLemmas
+pub mod WidthLemmas

@@ -1,0 +1,15 @@
+use Rattle.std.proofs.Common.{◌+◌, ◌∙◌, map, ap, sym}
+use Rattle.vx_base.specs.PlainValue.{whole_or_zero}
+use Rattle.vx_model.specs.Column.{column_of}
+use Rattle.vx_model.specs.Rows.{rows}
+use Rattle.vx_array.specs.TreeOf.{tree_of}
+use Rattle.vx_array.specs.IntsOf.{wholes_of}
+use Rattle.vx_schemes.proofs.ShortLemmas.{plain_wholes, indices_held}
+use Rattle.vx_schemes.proofs.patches.narrowed.Goals as goal
+
+pub in_unsigned-requires-clause-held : goal.in_unsigned-requires-clause-held
+in_unsigned-requires-clause-held c =
+    let p = c.args.patches.now in
+    let at = sym (ap tree_of c.in-Primitive.is) ∙ c.node.ensures.tree ∙ c.in_ok-plain.ensures in
+    let wholes = plain_wholes (column_of c.indices.result.now) _ _ _ _ at ∙ ap (λ t. map whole_or_zero (rows t)) c.indices.ensures in
+    indices_held p.indices p.offset (p.offset + p.array_len) c.index_type-ptype.result (wholes_of c.in-Primitive.indices) c.known.ensures.2.ascending c.known.ensures.0 c.index_type-ptype.ensures wholes

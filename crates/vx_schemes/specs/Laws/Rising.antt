@@ -1,0 +1,73 @@
+-- Rows that rise have numbers, and those are words.
+use Rattle.std.proofs.Common.{◌≡◌, ◌≤◌, ◌+◌, ℕ, zero, suc, ℤ, pos, negsuc, Bool, true, false, List, [], ◌∷◌, length, map, cond, refl, arith}
+use Rattle.std.specs.Prelude.{nat_lt, filter}
+use Rattle.std.specs.List.{list_all, list_any, range_with_len}
+use Rattle.std.proofs.lemmas.Bool.{and_from, and_parts, ltb-true, lt-ltb}
+use Rattle.std.proofs.lemmas.List.{length-map}
+use Rattle.vx_base.specs.declared.ptype.PType.{PType}
+use Rattle.vx_base.specs.declared.ptype.PType.TheVariants.{U64, U8, U16, U32, I8, I16, I32, I64}
+use Rattle.vx_base.specs.declared.dtype.Nullability.TheVariants.{NonNullable}
+use Rattle.vx_base.specs.Integers.{bits_in, lies_in}
+use Rattle.vx_base.specs.Packed.{wide_rows}
+use Rattle.vx_base.specs.PlainType.{PlainType}
+use Rattle.vx_base.specs.PlainType as types
+use Rattle.vx_base.specs.PlainValue.{PlainValue, null, int, is_null}
+use Rattle.vx_model.specs.WellFormed.{ascend}
+use Rattle.vx_model.proofs.PatchLemmas.{ascend_parts, ascend_from}
+use Rattle.vx_base.specs.PlainScalar.{fits}
+
+pub ascend-lower : (low lower high : ℕ) (is : List PlainValue) → lower ≤ low → ascend low high is ≡ true → ascend lower high is ≡ true
+ascend-lower low lower high [] l h = refl
+ascend-lower low lower high (null ∷ is) l h = absurd cc
+ascend-lower low lower high (int (pos n) ∷ is) l h = let a = ascend_parts low high n is h in ascend_from lower high n is (omega (arith, a.0)) a.1 a.2
+ascend-lower low lower high (int (negsuc n) ∷ is) l h = absurd cc
+
+pub filter-ascends : (p : ℕ → Bool) (start n high : ℕ) → start + n ≤ high → ascend start high (map int (map pos (filter p (range_with_len start n)))) ≡ true
+filter-ascends p start zero high h = refl
+filter-ascends p start (suc n) high h =
+    let rest = filter-ascends p (start + 1) n high (omega arith) in
+    pick (p start) rest
+  where
+    pick : (b : Bool) → ascend (start + 1) high (map int (map pos (filter p (range_with_len (start + 1) n)))) ≡ true
+        → ascend start high (map int (map pos (cond b (start ∷ filter p (range_with_len (start + 1) n)) (filter p (range_with_len (start + 1) n))))) ≡ true
+    pick true rest = ascend_from start high start _ (omega arith) (omega arith) rest
+    pick false rest = ascend-lower (start + 1) start high _ (omega arith) rest
+
+pub wide_rows-ascend : (p : PType) (width : ℕ) (xs : List ℤ) (valid : List Bool) → ascend 0 (length xs) (map int (map pos (wide_rows width (map (bits_in p) xs) valid))) ≡ true
+wide_rows-ascend p width xs valid = filter-ascends _ 0 (length (map (bits_in p) xs)) (length xs) (omega (arith, length-map xs (bits_in p)))
+
+pub rows_below : (low n : ℕ) (chosen : List ℕ) → ascend low n (map int (map pos chosen)) ≡ true → list_all (λ row. nat_lt row n) chosen ≡ true
+rows_below low n [] h = refl
+rows_below low n (row ∷ chosen) h =
+    let a = ascend_parts low n row _ h in
+    and_from _ _ (lt-ltb row n a.1) (rows_below (row + 1) n chosen a.2)
+
+pub ascend-no_null : (low high : ℕ) (is : List PlainValue) → ascend low high is ≡ true → list_any is_null is ≡ false
+ascend-no_null low high [] a = refl
+ascend-no_null low high (null ∷ is) a = absurd cc
+ascend-no_null low high (int (negsuc n) ∷ is) a = absurd cc
+ascend-no_null low high (int (pos n) ∷ is) a = ascend-no_null (n + 1) high is (ascend_parts low high n is a).2
+
+abbrev pub fit_all : PType → List PlainValue → Bool
+fit_all q is = list_all (fits (types.primitive q NonNullable)) is
+
+natural_word : (p : PType) (n : ℕ) → lies_in p (pos n) ≡ true → lies_in U64 (pos n) ≡ true
+natural_word U8 n h = lt-ltb _ _ (omega (arith, ltb-true _ _ h))
+natural_word U16 n h = lt-ltb _ _ (omega (arith, ltb-true _ _ h))
+natural_word U32 n h = lt-ltb _ _ (omega (arith, ltb-true _ _ h))
+natural_word U64 n h = lt-ltb _ _ (omega (arith, ltb-true _ _ h))
+natural_word I8 n h = lt-ltb _ _ (omega (arith, ltb-true _ _ h))
+natural_word I16 n h = lt-ltb _ _ (omega (arith, ltb-true _ _ h))
+natural_word I32 n h = lt-ltb _ _ (omega (arith, ltb-true _ _ h))
+natural_word I64 n h = lt-ltb _ _ (omega (arith, ltb-true _ _ h))
+
+word_of : (t : PlainType) (n : ℕ) → fits t (int (pos n)) ≡ true → lies_in U64 (pos n) ≡ true
+word_of (types.primitive p m) n h = natural_word p n h
+
+pub ascend-words : (t : PlainType) (low high : ℕ) (is : List PlainValue) → ascend low high is ≡ true → list_all (fits t) is ≡ true → fit_all U64 is ≡ true
+ascend-words t low high [] a f = refl
+ascend-words t low high (null ∷ is) a f = absurd cc
+ascend-words t low high (int (negsuc n) ∷ is) a f = absurd cc
+ascend-words t low high (int (pos n) ∷ is) a f =
+    let d = and_parts (fits t (int (pos n))) (list_all (fits t) is) f in
+    and_from _ _ (word_of t n d.0) (ascend-words t (n + 1) high is (ascend_parts low high n is a).2 d.1)

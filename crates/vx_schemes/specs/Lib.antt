@@ -1,0 +1,10 @@
+pub mod BitPacking
+pub mod BitPackingMeaning
+pub mod CompressedPatches
+pub mod Differences
+pub mod Exclusions
+pub mod Finishing
+pub mod FrameOfReference
+pub mod Laws
+pub mod StandsFor
+pub mod Widths

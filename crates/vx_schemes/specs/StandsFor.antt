@@ -1,0 +1,13 @@
+-- What every way of making trees owes: that a tree stands for the column that it was made of.
+use Rattle.std.specs.Prelude.{◌≡◌, ◌≤◌, ◌^◌, length, Option, Some}
+use Rattle.vx_model.specs.Column.{Column, IsColumn, column_of}
+use Rattle.vx_model.specs.Tree.{Tree}
+use Rattle.vx_model.specs.WellFormed.{WellFormed}
+
+-- the tree is well formed, and has the column's type and rows
+abbrev pub StandsFor : Tree → Column → Type 0
+StandsFor t c = WellFormed t × (column_of t ≡ c)
+
+-- whatever is made of a column stands for it
+abbrev pub KeepsColumns : (Column → Option Tree) → Type 0
+KeepsColumns made = (c : Column) (t : Tree) → IsColumn c → length c.values ≤ 2 ^ 32 → made c ≡ Some t → StandsFor t c

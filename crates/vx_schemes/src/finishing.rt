@@ -1,0 +1,18 @@
+//! What a scheme without parts makes of a column.
+
+ghost use Rattle.std.specs.Prelude.{◌≡◌};
+ghost use Rattle.vx_scheme.specs.Meaning.{split_of};
+ghost use Rattle.vx_schemes.specs.Finishing.{finished_or_kept};
+
+use vx_array::ArrayRef;
+use vx_scheme::Split;
+
+/// The tree as the whole answer, where there is one; else the column stays plain.
+pub(crate) fn finished_or_kept(made: Option<ArrayRef>) -> Split
+    ensures { result ≡ split_of (finished_or_kept made) }
+{
+    match made {
+        Some(tree) => Split::Finished(tree),
+        None => Split::Kept,
+    }
+}
