@@ -1,29 +1,25 @@
 -- Differences from a reference: their plain tree.
-use Rattle.std.proofs.Common.{◌≡◌, ℤ, pos, true, false, List, [], ◌∷◌, ◌∙◌, length, map, Option, Some, None, refl, sym, ap, subst}
+use Rattle.std.proofs.Common.{◌≡◌, ℤ, pos, true, false, List, [], ◌∷◌, ◌∙◌, length, map, Some, None, refl, sym, ap, subst}
 use Rattle.std.specs.Prelude.{◌-ℤ◌, not}
 use Rattle.std.specs.List.{list_all, list_any}
-use Rattle.std.proofs.lemmas.Bool.{and_from, and_parts, cond_both}
-use Rattle.std.proofs.lemmas.List.{length-map}
+use Rattle.std.proofs.lemmas.Bool.{cond_both}
 use Rattle.vx_base.specs.declared.ptype.PType.{PType}
 use Rattle.vx_base.specs.declared.dtype.Nullability.{Nullability}
-use Rattle.vx_base.specs.declared.dtype.Nullability.TheVariants.{NonNullable}
-use Rattle.vx_base.specs.Integers.{lies_in, unsigned_of}
-use Rattle.vx_base.specs.PlainScalar.{fits, scalar}
+use Rattle.vx_base.specs.Integers.{unsigned_of}
+use Rattle.vx_base.specs.PlainScalar.{fits}
 use Rattle.vx_base.specs.PlainType as types
 use Rattle.vx_base.specs.PlainValue.{PlainValue, null, int, is_null, whole_or_zero}
 use Rattle.vx_base.specs.Wrapping.{wrap}
-use Rattle.vx_base.proofs.WrapLemmas.{wrap-held}
-use Rattle.vx_base.proofs.WrapSumLemmas.{wrap-back}
 use Rattle.vx_model.specs.Column.{column, column_of}
 use Rattle.vx_model.specs.Decoded.{zeroed, zeroed_by}
 use Rattle.vx_model.specs.Plain.{plain, validity, valid_bits, IsPlain}
-use Rattle.vx_model.specs.Refusals.{primitive_refusal, validity_length, kept}
-use Rattle.vx_model.specs.Rows.{rows, moved}
+use Rattle.vx_model.specs.Refusals.{primitive_refusal, kept}
+use Rattle.vx_model.specs.Rows.{rows}
 use Rattle.vx_model.specs.Tree.{Tree, Validity, primitive}
 use Rattle.vx_model.specs.TreeType.{tree_type}
 use Rattle.vx_model.specs.WellFormed.{WellFormed}
 use Rattle.vx_model.proofs.DecodeLemmas.{plain_admitted, kept-validity}
-use Rattle.vx_model.proofs.MadeLemmas.{rows_fit, validity_length-made}
+use Rattle.vx_model.proofs.MadeLemmas.{rows_fit}
 use Rattle.vx_schemes.specs.Differences.{difference, differences}
 use Rattle.vx_schemes.specs.Laws.Differences.{differences_fit}
 use Rattle.vx_schemes.proofs.PackingLemmas.{wholes_are, validity_is}

@@ -1,5 +1,5 @@
 -- Worked values of frames of reference, counted by hand, so that a wrong rule in the definitions does not check.
-use Rattle.std.specs.Prelude.{◌≡◌, ℤ, true, false, [], ◌∷◌, map, Some, None, pos, negsuc, refl}
+use Rattle.std.specs.Prelude.{◌≡◌, ℤ, true, false, [], ◌∷◌, Some, None, pos, negsuc, refl}
 use Rattle.vx_base.specs.declared.ptype.PType.TheVariants.{U8, U64, I8, I32, I64}
 use Rattle.vx_base.specs.declared.dtype.Nullability.TheVariants.{NonNullable, Nullable}
 use Rattle.vx_base.specs.Packed.{bytes_in}

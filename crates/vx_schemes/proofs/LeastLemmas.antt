@@ -1,17 +1,11 @@
 -- The least of numbers, one more at a time.
-use Rattle.std.proofs.Common.{◌≡◌, ◌∙◌, ℤ, Bool, true, false, List, [], ◌∷◌, length, map, get_or, cond, Option, Some, None, refl, sym, ap, subst, arith}
-use Rattle.std.specs.Prelude.{◌<◌, fold, int_lt}
+use Rattle.std.proofs.Common.{◌≡◌, ◌∙◌, ℤ, Bool, true, false, List, [], ◌∷◌, length, map, get_or, cond, Some, refl, sym, ap, arith}
+use Rattle.std.specs.Prelude.{◌<◌, fold}
 use Rattle.std.specs.Int.{int_min}
 use Rattle.std.specs.List.{list_all, reduce}
-use Rattle.std.proofs.lemmas.Bool.{and_from, and_parts, cond_both}
 use Rattle.std.proofs.lemmas.Int.{ints}
-use Rattle.vx_base.specs.declared.ptype.PType.{PType}
-use Rattle.vx_base.specs.declared.dtype.Nullability.{Nullability}
-use Rattle.vx_base.specs.Integers.{lies_in}
-use Rattle.vx_base.specs.PlainScalar.{fits}
-use Rattle.vx_base.specs.PlainType as types
 use Rattle.vx_base.specs.PlainValue.{PlainValue, null, int, is_null}
-use Rattle.vx_scheme.specs.Stats.{valid_wholes, value_count}
+use Rattle.vx_scheme.specs.Stats.{value_count}
 use Rattle.vx_scheme.proofs.StatsLemmas.{BeginsWith, valid_wholes-map-int}
 use Rattle.vx_schemes.specs.Differences.{least_value}
 

@@ -1,5 +1,5 @@
 -- When differences from the least value are as wide as the greatest.
-use Rattle.std.proofs.Common.{◌≡◌, ◌∙◌, ◌<◌, ◌-◌, ◌/◌, ℕ, zero, suc, ℤ, pos, negsuc, Bool, true, false, Option, Some, None, refl, sym, ap, subst, arith}
+use Rattle.std.proofs.Common.{◌≡◌, ◌∙◌, ◌<◌, ◌-◌, ◌/◌, ℕ, zero, suc, ℤ, pos, negsuc, false, Some, None, sym, ap, arith}
 use Rattle.std.specs.Prelude.{◌≤ℤ◌, ◌-ℤ◌, ◌==◌, ◌&&◌, not, nat_lt, nat_le, int_lt, unsigned_abs}
 use Rattle.std.specs.Int.Count.{count_leading_zeros}
 use Rattle.std.specs.Ordering.{int_eq}

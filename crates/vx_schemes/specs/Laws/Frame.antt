@@ -14,7 +14,7 @@ use Rattle.vx_base.specs.PlainValue.{PlainValue, int}
 use Rattle.vx_model.specs.Column.{Column, IsColumn, column}
 use Rattle.vx_model.specs.Plain.{plain}
 use Rattle.vx_model.specs.Rows.{rows, moved}
-use Rattle.vx_model.specs.Tree.{Tree, frame_of_reference}
+use Rattle.vx_model.specs.Tree.{Tree}
 use Rattle.vx_model.specs.TreeType.{tree_type}
 use Rattle.vx_model.specs.WellFormed.{differences_type}
 use Rattle.vx_model.proofs.PackedLemmas.{for_made}

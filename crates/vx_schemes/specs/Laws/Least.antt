@@ -1,5 +1,5 @@
 -- The least value of a column is one of its type.
-use Rattle.std.proofs.Common.{◌≡◌, ℤ, true, List, [], ◌∷◌, Option, Some, None, refl, subst}
+use Rattle.std.proofs.Common.{◌≡◌, ℤ, true, List, [], ◌∷◌, Some, refl, subst}
 use Rattle.std.specs.Prelude.{fold, int_lt}
 use Rattle.std.specs.Int.{int_min}
 use Rattle.std.specs.List.{list_all, reduce}

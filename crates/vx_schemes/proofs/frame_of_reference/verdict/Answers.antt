@@ -1,6 +1,5 @@
 use Rattle.std.proofs.Common.{◌≡◌, ◌∙◌, false, pos, sym, subst}
 use Rattle.std.specs.Prelude.{◌-ℤ◌}
-use Rattle.vx_scheme.specs.Erased.{extremes_of}
 use Rattle.vx_scheme.specs.Stats.{Extremes}
 use Rattle.vx_schemes.specs.FrameOfReference.{gains_nothing}
 use Rattle.vx_schemes.proofs.WideLemmas.{verdict-ratio}
