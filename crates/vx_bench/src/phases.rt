@@ -8,6 +8,7 @@ use vx_array::ArrayRef;
 use vx_base::ExecutionCtx;
 use vx_btrblocks::BtrBlocksCompressor;
 use vx_program::{Document, Input, StdSource, listing_text, read_all, read_document};
+use vx_scheme::NoScheme;
 
 /// How long each phase took.
 #[derive(Clone, Copy)]
@@ -43,7 +44,7 @@ fn compressed(alloc: Global, document: Document) -> Result<ArrayRef> {
         bail!("no sample word");
     }
     let mut ctx = ExecutionCtx::new(alloc, words);
-    let compressor = BtrBlocksCompressor::shipped(alloc)?;
+    let compressor = BtrBlocksCompressor::<NoScheme>::shipped(alloc)?;
     Ok(compressor.compress(&array, &mut ctx)?)
 }
 
