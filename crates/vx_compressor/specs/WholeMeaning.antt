@@ -1,5 +1,5 @@
 -- What the scheme of the tests means: its one part is the column itself, whose tree is then its tree.
-use Rattle.std.specs.Prelude.{◌≡◌, ◌≤◌, true, false, List, [], ◌∷◌, length, map, All, codes, refl}
+use Rattle.std.specs.Prelude.{◌≡◌, ◌≤◌, true, false, List, [], ◌∷◌, length, map, All, Option, Some, None, slice_get, codes, refl}
 use Rattle.std.proofs.Common.{arith, subst, ◌∙◌}
 use Rattle.std.proofs.lemmas.List.Elements.{All-from_recursion, recursion_from_All}
 use Rattle.vx_base.specs.PlainType.{PlainType, primitive, is_leaf}
@@ -12,10 +12,10 @@ use Rattle.vx_scheme.specs.Meaning.{Meaning, parts}
 use Rattle.vx_scheme.specs.declared.estimate.CompressionEstimate.{CompressionEstimate}
 use Rattle.vx_scheme.specs.declared.estimate.EstimateVerdict.TheVariants.{AlwaysUse}
 
--- the first tree, if there is one
-abbrev pub first_of : Column → List Tree → Tree
-first_of c [] = plain c
-first_of c (t ∷ ts) = t
+-- the tree, if there is one
+abbrev pub tree_or_plain : Column → Option Tree → Tree
+tree_or_plain c None = plain c
+tree_or_plain c (Some t) = t
 
 abbrev pub whole_meaning : CompressionEstimate → Meaning
 whole_meaning estimate = record {
@@ -29,13 +29,13 @@ whole_meaning estimate = record {
   estimate = λ c site. estimate;
   resolve = λ c site. AlwaysUse;
   splits = λ c site. parts (c ∷ []);
-  joined = λ c site trees. first_of c trees;
+  joined = λ c site trees. tree_or_plain c (slice_get trees 0);
 }
 
 leaf_type : (t : PlainType) → is_leaf t ≡ true
 leaf_type (primitive p n) = refl
 
-first_well : (c : Column) (trees : List Tree) → All WellFormed trees → map column_of trees ≡ c ∷ [] → WellFormed (first_of c trees) × (column_of (first_of c trees) ≡ c)
+first_well : (c : Column) (trees : List Tree) → All WellFormed trees → map column_of trees ≡ c ∷ [] → WellFormed (tree_or_plain c (slice_get trees 0)) × (column_of (tree_or_plain c (slice_get trees 0)) ≡ c)
 first_well c [] well e = absurd cc
 first_well c (t ∷ ts) well e = ((recursion_from_All WellFormed (t ∷ ts) well).0, cc)
 

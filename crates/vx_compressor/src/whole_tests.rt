@@ -102,9 +102,9 @@ impl Scheme for Whole {
         trees: Arrays,
         ctx: &mut ExecutionCtx,
     ) -> VortexResult<ArrayRef> {
-        match trees.as_slice() {
-            [] => column.array().copy(ctx.alloc()),
-            [tree, ..] => tree.copy(ctx.alloc()),
+        match trees.get(0) {
+            Some(tree) => tree.copy(ctx.alloc()),
+            None => column.array().copy(ctx.alloc()),
         }
     }
 }
