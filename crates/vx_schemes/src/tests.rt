@@ -1,9 +1,6 @@
 //! Each call that takes memory once, over columns worked by hand.
 
-mod bit_packing;
-mod bit_packing_scheme;
 mod frame_of_reference;
-mod patches;
 
 use std::test::Fail;
 use vx_array::{ArrayRef, Ints};
