@@ -7,6 +7,5 @@ mod quick_packing;
 pub use building::compressor;
 pub use quick_packing::QuickPacking;
 
-
 #[cfg(test)]
 mod tests;

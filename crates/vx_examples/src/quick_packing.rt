@@ -43,9 +43,7 @@ fn verdict(stats: &IntegerStats, bits: u32) -> EstimateVerdict
         return EstimateVerdict::Skip;
     }
     match erased.max_ilog2() {
-        Some(log) => {
-            EstimateVerdict::Ratio(Fraction::new(u64::from(bits), u64::from(log) + 1))
-        }
+        Some(log) => EstimateVerdict::Ratio(Fraction::new(u64::from(bits), u64::from(log) + 1)),
         None => EstimateVerdict::Skip,
     }
 }

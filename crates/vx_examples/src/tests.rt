@@ -133,14 +133,14 @@ fn the_ratio_is_of_the_greatest_value(rt: HostRuntime) -> Result<(), Fail> {
 #[test]
 fn the_tree_is_that_of_bit_packing(rt: HostRuntime) -> Result<(), Fail> {
     let judged = ask_of(&rt, integers(&rt, &[3, 1])?)?;
-    match judged.split {
+    match &judged.split {
         Split::Finished(tree) => {
             assert!(rt; tree.encoding_id() == ArrayId::BitPacked && tree.nbytes() == 256);
         }
         _ => return Err(Fail::from("not finished")),
     }
-    let judged = ask_of(&rt, integers(&rt, &[5, -3])?)?;
-    assert!(rt; matches!(judged.split, Split::Kept));
+    let negative = ask_of(&rt, integers(&rt, &[5, -3])?)?;
+    assert!(rt; matches!(negative.split, Split::Kept));
     Ok(())
 }
 
