@@ -1,0 +1,2 @@
+pub mod QuickLemmas
+pub mod StandardFacts

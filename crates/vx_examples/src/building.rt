@@ -1,0 +1,34 @@
+//! The compressor over the shipped schemes and a caller's own.
+
+ghost use Rattle.std.specs.Prelude.{◌≡◌, map};
+ghost use Rattle.vx_base.specs.Answers.{OrMemory};
+ghost use Rattle.vx_btrblocks.specs.AnyMeaning.{any_meaning};
+ghost use Rattle.vx_examples.specs.QuickPacking.{quick_packing, with_quick_packing};
+
+use crate::quick_packing::QuickPacking;
+use std::alloc::Global;
+use vx_base::VortexResult;
+use vx_btrblocks::{AnyScheme, BtrBlocksCompressor};
+use vx_compressor::{CascadingCompressor, Schemes};
+use vx_schemes::{BitPackingScheme, FoRScheme};
+
+// The shipped schemes in their order, and then the caller's.
+fn schemes(alloc: Global) -> VortexResult<Schemes<AnyScheme<QuickPacking>>>
+    ensures { OrMemory result (λ schemes. map (any_meaning (λ scheme. quick_packing)) schemes ≡ with_quick_packing) }
+{
+    let mut schemes = Vec::new(alloc);
+    schemes.push(AnyScheme::FoR(FoRScheme::v1()))?;
+    schemes.push(AnyScheme::BitPacking(BitPackingScheme::v1()))?;
+    schemes.push(AnyScheme::Own(QuickPacking::new()))?;
+    Ok(Schemes::from_vec(schemes))
+}
+
+/// The compressor over the shipped schemes, with quick packing behind them. Refuses NoMemory alone.
+pub fn compressor(alloc: Global) -> VortexResult<BtrBlocksCompressor<QuickPacking>>
+    ensures { OrMemory result (λ compressor. map (any_meaning (λ scheme. quick_packing)) compressor.0 ≡ with_quick_packing) }
+{
+    match CascadingCompressor::new(alloc, schemes(alloc)?) {
+        Ok(compressor) => Ok(BtrBlocksCompressor(compressor)),
+        Err(refused) => Err(refused.error),
+    }
+}
