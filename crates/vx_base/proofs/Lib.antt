@@ -6,3 +6,4 @@ pub mod PackedLemmas
 pub mod WrapLemmas
 pub mod WrapSumLemmas
 pub mod WrapBitsLemmas
+pub mod ZigZagLemmas

@@ -46,6 +46,17 @@ unsigned_of I16 = U16
 unsigned_of I32 = U32
 unsigned_of I64 = U64
 
+-- the signed type of the same width
+abbrev pub signed_of : PType → PType
+signed_of U8 = I8
+signed_of U16 = I16
+signed_of U32 = I32
+signed_of U64 = I64
+signed_of I8 = I8
+signed_of I16 = I16
+signed_of I32 = I32
+signed_of I64 = I64
+
 -- how many binary digits the numbers from 0 on have at most: one less in a signed type
 abbrev pub natural_bits : PType → ℕ
 natural_bits U8 = 8

@@ -21,3 +21,4 @@ pub mod TypeOf
 pub mod TypeText
 pub mod Wrapping
 pub mod Writes
+pub mod ZigZag

@@ -1,9 +1,10 @@
 -- A type as plain data.
-use Rattle.std.specs.Prelude.{◌≡◌, ℕ, Bool, true, false, cond, ◌==◌, refl}
+use Rattle.std.specs.Prelude.{◌≡◌, ℕ, Bool, true, false, not, ◌&&◌, cond, ◌==◌, refl}
 use Rattle.vx_base.specs.declared.ptype.PType.{PType}
 use Rattle.vx_base.specs.declared.ptype.PType.TheVariants as kinds
 use Rattle.vx_base.specs.declared.dtype.Nullability.{Nullability}
 use Rattle.vx_base.specs.declared.dtype.Nullability.TheVariants.{NonNullable, Nullable}
+use Rattle.vx_base.specs.Integers.{is_signed}
 use Rattle.vx_base.specs.Storable.{Storable, rest, stored_by, stored×}
 use base.Stored.{Gv, gnum, gcons}
 
@@ -13,6 +14,11 @@ pub data PlainType : Type 0 where
 abbrev pub allows_null : Nullability → Bool
 allows_null NonNullable = false
 allows_null Nullable = true
+
+-- nullable where one of two is
+abbrev pub or_nullable : Nullability → Nullability → Nullability
+or_nullable NonNullable n = n
+or_nullable Nullable n = Nullable
 
 abbrev pub is_nullable : PlainType → Bool
 is_nullable (primitive p n) = allows_null n
@@ -31,6 +37,9 @@ is_integer (primitive p n) = true
 -- the integer type of a column's values
 abbrev pub integer_of : PlainType → PType
 integer_of (primitive p n) = p
+
+abbrev pub is_unsigned : PlainType → Bool
+is_unsigned t = is_integer t && not (is_signed (integer_of t))
 
 abbrev pub nullability_of : PlainType → Nullability
 nullability_of (primitive p n) = n

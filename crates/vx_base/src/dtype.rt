@@ -2,7 +2,7 @@
 
 ghost use Rattle.std.specs.Prelude.{◌≡◌, ◌↔◌, IsTrue};
 ghost use Rattle.vx_base.specs.Answers.{OrMemory};
-ghost use Rattle.vx_base.specs.PlainType.{ptype_number, nullability_number, allows_null};
+ghost use Rattle.vx_base.specs.PlainType.{ptype_number, nullability_number, allows_null, or_nullable};
 ghost use Rattle.vx_base.specs.TypeText.{nullable_mark};
 
 use crate::error::VortexResult;
@@ -23,6 +23,16 @@ impl Nullability {
         ensures { result ≡ allows_null self }
     {
         matches!(self, Nullability::Nullable)
+    }
+
+    /// Nullable where one of the two is.
+    pub fn or(self, other: Nullability) -> Nullability
+        ensures { result ≡ or_nullable self other }
+    {
+        match self {
+            Nullability::NonNullable => other,
+            Nullability::Nullable => Nullability::Nullable,
+        }
     }
 
     // Its number, which a hash is fed.
@@ -72,7 +82,7 @@ fn ptype_number(ptype: PType) -> u8
 impl DType {
     ghost use Rattle.vx_base.specs.declared.dtype.Nullability.TheVariants.{NonNullable};
     ghost use Rattle.vx_base.specs.TypeOf.{type_of};
-    ghost use Rattle.vx_base.specs.PlainType.{primitive, is_nullable, is_leaf, is_integer, integer_of, nullability_of, with_nullability};
+    ghost use Rattle.vx_base.specs.PlainType.{primitive, is_nullable, is_leaf, is_integer, is_unsigned, integer_of, nullability_of, with_nullability};
 
     /// Integers of a type. Contracts of other crates see it through this call.
     pub fn primitive(ptype: PType, nullability: Nullability) -> DType
@@ -119,6 +129,15 @@ impl DType {
         ensures { result ≡ is_integer (type_of self.now) }
     {
         matches!(self, DType::Primitive(_, _))
+    }
+
+    /// Whether its values are integers of an unsigned type.
+    pub fn is_unsigned(&self) -> bool
+        ensures { result ≡ is_unsigned (type_of self.now) }
+    {
+        match self {
+            DType::Primitive(ptype, _) => ptype.is_unsigned(),
+        }
     }
 
     /// Whether the types differ at most in the outermost nullability.

@@ -1,7 +1,7 @@
 //! The types of integers.
 
 ghost use Rattle.std.specs.Prelude.{◌≡◌, ◌≤◌};
-ghost use Rattle.vx_base.specs.Integers.{bits_of, bytes_of, natural_bits, is_signed, unsigned_of, least, greatest};
+ghost use Rattle.vx_base.specs.Integers.{bits_of, bytes_of, natural_bits, is_signed, unsigned_of, signed_of, least, greatest};
 ghost use Rattle.vx_base.specs.TypeText.{ptype_text};
 ghost use Rattle.std.specs.Prelude.{not};
 
@@ -80,6 +80,18 @@ impl PType {
             PType::U16 | PType::I16 => PType::U16,
             PType::U32 | PType::I32 => PType::U32,
             PType::U64 | PType::I64 => PType::U64,
+        }
+    }
+
+    /// The signed type of the same width.
+    pub fn to_signed(self) -> PType
+        ensures { result ≡ signed_of self }
+    {
+        match self {
+            PType::U8 | PType::I8 => PType::I8,
+            PType::U16 | PType::I16 => PType::I16,
+            PType::U32 | PType::I32 => PType::I32,
+            PType::U64 | PType::I64 => PType::I64,
         }
     }
 

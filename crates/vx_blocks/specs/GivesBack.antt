@@ -1,8 +1,9 @@
--- Unpacking gives back what was packed.
+-- Unpacking gives back what was packed, and unzigzag what zigzag was given.
 use Rattle.std.specs.Prelude.{ℕ, ◌+◌, ◌-◌, ◌^◌, ◌≡◌, ◌<◌, ◌≤◌, ℤ, pos, Bool, true, false, List, length, map, slice_index, slice_index_or}
 use Rattle.vx_base.specs.declared.ptype.PType.{PType}
 use Rattle.vx_base.specs.Integers.{bits_in}
 use Rattle.vx_base.specs.Packed.{field, fields}
+use Rattle.vx_base.specs.ZigZag.{zigzag, unzigzag}
 use Rattle.vx_blocks.specs.IsPacked.{IsPacked, IsUnpacked}
 
 -- rows of a column of integers that was packed
@@ -28,3 +29,7 @@ GivesBackValues = (kind : PType) (values : List ℤ) (valid : List Bool) (width 
 abbrev pub GivesBackFields : Type 0
 GivesBackFields = (kind : PType) (values : List ℤ) (valid : List Bool) (width start end : ℕ) (rows : List ℕ) → Unpacks kind values valid width start end rows
     → (i : ℕ) → i < end - start → slice_index rows i ≡ field width (bits_at kind values (start + i)) (is_valid_at valid (start + i))
+
+-- each number comes back from its zigzag
+abbrev pub GivesBackZigZag : Type 0
+GivesBackZigZag = (v : ℤ) → unzigzag (zigzag v) ≡ v

@@ -9,14 +9,16 @@ mod reading;
 mod unpacking;
 mod wide;
 mod widths;
+mod zig_zag;
 
-pub use laws::unpack_gives_back;
+pub use laws::{unpack_gives_back, unzigzag_gives_back};
 pub use narrowing::narrow_type;
 pub use packing::pack;
 pub use reading::get;
 pub use unpacking::{unpack, unpack_integers};
 pub use wide::wide_rows;
 pub use widths::{best_width, bit_width_histogram};
+pub use zig_zag::{unzigzag, zigzag};
 
 #[cfg(test)]
 mod tests;

@@ -16,7 +16,7 @@ use vx_base::{Integer, Mask, VortexError, VortexResult};
 #[inline(always)]
 fn group<T: Integer, const W: usize, const G: usize>(values: &[T], valid: &[bool], at: usize) -> u64
     requires same { length valid.now ≡ length values.now }
-    requires width { W ≤ 32 }
+    requires width { W < 64 }
     requires within { W * G ≤ 64 }
     requires room { at + G ≤ length values.now }
     ensures value { result ≡ joined W (take G (drop at (fields W (map (bits_in T.kind) (map T.whole values.now)) valid.now))) }
@@ -38,7 +38,7 @@ fn kept_group<T: Integer, const W: usize, const G: usize>(
     at: usize,
 ) -> u64
     requires same { length valid.now ≡ length values.now }
-    requires width { W ≤ 32 }
+    requires width { W < 64 }
     requires within { W * G ≤ 64 }
     requires room { at + G ≤ length values.now }
     requires kept { AreKept W (map (bits_in T.kind) (map T.whole values.now)) valid.now at (at + G) }
@@ -62,7 +62,7 @@ fn are_kept<T: Integer, const W: usize>(
     end: usize,
 ) -> bool
     requires same { length valid.now ≡ length values.now }
-    requires width { W ≤ 32 }
+    requires width { W < 64 }
     requires order { start ≤ end }
     requires room { end ≤ length values.now }
     ensures { OnTrue result (AreKept W (map (bits_in T.kind) (map T.whole values.now)) valid.now start end) }
@@ -85,7 +85,7 @@ fn either_group<T: Integer, const W: usize, const G: usize>(
     kept: bool,
 ) -> u64
     requires same { length valid.now ≡ length values.now }
-    requires width { W ≤ 32 }
+    requires width { W < 64 }
     requires within { W * G ≤ 64 }
     requires room { at + G ≤ length values.now }
     requires kept { OnTrue kept (AreKept W (map (bits_in T.kind) (map T.whole values.now)) valid.now at (at + G)) }
@@ -106,7 +106,7 @@ fn pack_by<T: Integer, const W: usize, const G: usize>(
     valid: &[bool],
 ) -> VortexResult<Vec<u8>>
     requires same { length valid.now ≡ length values.now }
-    requires width { W ≤ 32 }
+    requires width { W < 64 }
     requires some { 0 < G }
     requires within { W * G ≤ 64 }
     ensures size { OrMemory result (λ bytes. length bytes.items ≡ packed_size W (length values.now)) }
@@ -119,12 +119,12 @@ fn pack_by<T: Integer, const W: usize, const G: usize>(
     let mut acc = 0;
     let mut fill = 0;
     let groups = values.len() / G;
-    let whole = groups / 16 * 16;
-    let mut buffer = [0u8; 128];
-    for first in 0..groups / 16 {
+    let whole = groups / 64 * 64;
+    let mut buffer = [0u8; 512];
+    for first in 0..groups / 64 {
         let mut len = 0;
-        let kept = are_kept::<T, W>(values, valid, 16 * first * G, (16 * first + 16) * G);
-        for g in 16 * first..16 * first + 16 {
+        let kept = are_kept::<T, W>(values, valid, 64 * first * G, (64 * first + 64) * G);
+        for g in 64 * first..64 * first + 64 {
             let word = either_group::<T, W, G>(values, valid, g * G, kept);
             (acc, fill, len) = put_in(&mut buffer, len, acc, fill, word, (W * G) as u32);
         }
@@ -142,7 +142,7 @@ fn pack_by<T: Integer, const W: usize, const G: usize>(
     Ok(packed)
 }
 
-// Packs row by row.
+// Packs row by row, at any width.
 fn pack_rows<T: Integer>(
     alloc: Global,
     values: &[T],
@@ -160,17 +160,7 @@ fn pack_rows<T: Integer>(
     let mut out = Vec::with_capacity(alloc, size)?;
     let mut acc = 0;
     let mut fill = 0;
-    let whole = values.len() / 16 * 16;
-    let mut buffer = [0u8; 128];
-    for first in 0..values.len() / 16 {
-        let mut len = 0;
-        for i in 16 * first..16 * first + 16 {
-            let bits = fit(values[i].to_bits(), valid[i], width);
-            (acc, fill, len) = put_in(&mut buffer, len, acc, fill, bits, width);
-        }
-        out.extend_from_slice(&buffer[..len])?;
-    }
-    for i in whole..values.len() {
+    for i in 0..values.len() {
         let bits = fit(values[i].to_bits(), valid[i], width);
         (acc, fill) = put(&mut out, acc, fill, bits, width)?;
     }
@@ -178,7 +168,7 @@ fn pack_rows<T: Integer>(
     Ok(packed)
 }
 
-// A body for each width up to 32, with as many rows at a time as a word holds.
+// A body for each width below 64, with as many rows at a time as a word holds.
 macro_rules! by_width {
     ($values:ident, $valid:ident, $alloc:ident, $width:ident; $($w:literal $g:literal),*) => {
         match $width {
@@ -203,5 +193,5 @@ pub fn pack<T: Integer>(
     ensures rows { OrMemory result (λ bytes. IsPacked width (fields width (map (bits_in T.kind) (map T.whole values.now)) valid.now) bytes.items) }
 {
     let valid = valid.as_slice();
-    by_width!(values, valid, alloc, width; 1 64, 2 32, 3 21, 4 16, 5 12, 6 10, 7 9, 8 8, 9 7, 10 6, 11 5, 12 5, 13 4, 14 4, 15 4, 16 4, 17 3, 18 3, 19 3, 20 3, 21 3, 22 2, 23 2, 24 2, 25 2, 26 2, 27 2, 28 2, 29 2, 30 2, 31 2, 32 2)
+    by_width!(values, valid, alloc, width; 1 64, 2 32, 3 21, 4 16, 5 12, 6 10, 7 9, 8 8, 9 7, 10 6, 11 5, 12 5, 13 4, 14 4, 15 4, 16 4, 17 3, 18 3, 19 3, 20 3, 21 3, 22 2, 23 2, 24 2, 25 2, 26 2, 27 2, 28 2, 29 2, 30 2, 31 2, 32 2, 33 1, 34 1, 35 1, 36 1, 37 1, 38 1, 39 1, 40 1, 41 1, 42 1, 43 1, 44 1, 45 1, 46 1, 47 1, 48 1, 49 1, 50 1, 51 1, 52 1, 53 1, 54 1, 55 1, 56 1, 57 1, 58 1, 59 1, 60 1, 61 1, 62 1, 63 1)
 }

@@ -4,7 +4,7 @@ ghost use Rattle.std.specs.Prelude.{◌≡◌, ◌≤◌, length, vec_len, IfOk}
 
 use crate::{
     best_width, bit_width_histogram, get, narrow_type, pack, unpack, unpack_gives_back,
-    unpack_integers,
+    unpack_integers, unzigzag, unzigzag_gives_back, zigzag,
 };
 use std::alloc::{AllocError, Global};
 use std::test::Fail;
@@ -152,4 +152,21 @@ fn the_narrowest_type(rt: HostRuntime) {
     assert_eq!(rt; narrow_type(-129, 0), PType::I16);
     assert_eq!(rt; narrow_type(-1, 32768), PType::I32);
     assert_eq!(rt; narrow_type(-1, 9223372036854775807), PType::I64);
+}
+
+#[test]
+fn zigzag_and_back(rt: HostRuntime) {
+    for (value, word) in [
+        (0, 0),
+        (-1, 1),
+        (1, 2),
+        (-3, 5),
+        (5, 10),
+        (i64::MAX, 18446744073709551614),
+        (-9223372036854775808, 18446744073709551615),
+    ] {
+        assert_eq!(rt; zigzag(value), word);
+        assert_eq!(rt; unzigzag(word), value);
+    }
+    unzigzag_gives_back();
 }

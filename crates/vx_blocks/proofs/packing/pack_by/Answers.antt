@@ -9,12 +9,12 @@ use Rattle.vx_blocks.proofs.packing.pack_by.Goals as goal
 pub either_group-word-requires-clause-kept : goal.either_group-word-requires-clause-kept
 either_group-word-requires-clause-kept g c =
     let bits = map (bits_in g.T.Integer.kind) (map g.T.Integer.whole c.args.values.now) in
-    let low : 16 * c.loop-first.first ≤ c.loop-g.g = omega arith in
+    let low : 64 * c.loop-first.first ≤ c.loop-g.g = omega arith in
     let m = nat.mul-le-mul_left g.row.G low in
-    let high : c.loop-g.g + 1 ≤ 16 * c.loop-first.first + 16 = omega arith in
+    let high : c.loop-g.g + 1 ≤ 64 * c.loop-first.first + 64 = omega arith in
     let n = nat.mul-le-mul_left g.row.G high in
     OnTrue_map c.are_kept-kept.result
-    (λ kept. AreKept-part g.row.W bits c.args.valid.now (16 * c.loop-first.first * g.row.G) ((16 * c.loop-first.first + 16) * g.row.G) (c.loop-g.g * g.row.G) (c.loop-g.g * g.row.G + g.row.G) kept (omega (arith, m)) (omega (arith, n)))
+    (λ kept. AreKept-part g.row.W bits c.args.valid.now (64 * c.loop-first.first * g.row.G) ((64 * c.loop-first.first + 64) * g.row.G) (c.loop-g.g * g.row.G) (c.loop-g.g * g.row.G + g.row.G) kept (omega (arith, m)) (omega (arith, n)))
     c.are_kept-kept.ensures
 
 pub loop-g-preserved : goal.loop-g-preserved

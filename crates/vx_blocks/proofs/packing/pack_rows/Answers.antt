@@ -1,6 +1,5 @@
 use Rattle.std.proofs.Common.{arith, ◌≡◌, ◌*◌, length, map, ap, ◌∙◌, false, get_or}
 use Rattle.vx_base.specs.Packed.{fields, field, block_count}
-use Rattle.std.proofs.Math.Nat as nat
 use Rattle.vx_blocks.proofs.Rows.{fields-at, fields-length, fields_all, packed_size-fields, next-row, place_within}
 use Rattle.vx_base.specs.Integers.{bits_in}
 use Rattle.vx_blocks.proofs.packing.pack_rows.Goals as goal
@@ -13,20 +12,8 @@ loop-i-preserved g c =
     let len = fields-length f h c.args.width c.args.values.now c.args.valid.now c.requires.same in
     let valid = get_or c.args.valid.now c.loop-i.i false in
     let is : c.fit-bits.result ≡ field c.args.width (f (h c.index-values-i.result)) valid = c.fit-bits.ensures ∙ ap (λ b. field c.args.width b valid) c.to_bits.ensures.value in
-    let at = fields-at f h c.args.width c.args.values.now c.args.valid.now c.loop-i.i c.index-values-i.result c.fit-bits.result c.requires.same (omega arith) c.index-values-i.is is in
-    let holds = next-row c.args.width rows c.loop-i.i c.fit-bits.result _ _ _ (omega (arith, len)) at (c.put_in.ensures.holds c.loop-first.out.items _ _ c.loop-i.invariant.holds) in
-    record { taken = omega (arith, c.put_in.ensures.taken, c.loop-i.invariant.taken); holds = holds }
-
-pub loop-i-2-preserved : goal.loop-i-2-preserved
-loop-i-2-preserved g c =
-    let f = bits_in g.T.Integer.kind in
-    let h = g.T.Integer.whole in
-    let rows = fields c.args.width (map f (map h c.args.values.now)) c.args.valid.now in
-    let len = fields-length f h c.args.width c.args.values.now c.args.valid.now c.requires.same in
-    let valid = get_or c.args.valid.now c.loop-i-2.i false in
-    let is : c.fit-bits-in-loop-i-2.result ≡ field c.args.width (f (h c.index-values-i-in-loop-i-2.result)) valid = c.fit-bits-in-loop-i-2.ensures ∙ ap (λ b. field c.args.width b valid) c.to_bits-in-loop-i-2.ensures.value in
-    let at = fields-at f h c.args.width c.args.values.now c.args.valid.now c.loop-i-2.i c.index-values-i-in-loop-i-2.result c.fit-bits-in-loop-i-2.result c.requires.same c.loop-i-2-test.true c.index-values-i-in-loop-i-2.is is in
-    next-row c.args.width rows c.loop-i-2.i c.fit-bits-in-loop-i-2.result _ _ _ (omega (arith, len)) at (c.in_ok-acc.ensures _ _ c.loop-i-2.invariant)
+    let at = fields-at f h c.args.width c.args.values.now c.args.valid.now c.loop-i.i c.index-values-i.result c.fit-bits.result c.requires.same c.loop-i-test.true c.index-values-i.is is in
+    next-row c.args.width rows c.loop-i.i c.fit-bits.result _ _ _ (omega (arith, len)) at (c.in_ok-acc.ensures _ _ c.loop-i.invariant)
 
 pub returns-clause-rows : goal.returns-clause-rows
 returns-clause-rows g c =
@@ -34,9 +21,9 @@ returns-clause-rows g c =
     let h = g.T.Integer.whole in
     let rows = fields c.args.width (map f (map h c.args.values.now)) c.args.valid.now in
     let len = fields-length f h c.args.width c.args.values.now c.args.valid.now c.requires.same in
-    let all = fields_all f h c.args.width c.args.values.now c.args.valid.now c.loop-i-2.i c.requires.same c.loop-i-2-test.false in
+    let all = fields_all f h c.args.width c.args.values.now c.args.valid.now c.loop-i.i c.requires.same c.loop-i-test.false in
     let size = packed_size-fields f h c.args.width c.args.values.now c.args.valid.now c.in-Some.size c.requires.same c.in-Some.ensures in
     record {
-      number = c.in_ok-packed.ensures.number _ _ (16 * c.args.width * block_count (length c.args.values.now)) (rw all at c.loop-i-2.invariant) (place_within c.args.width (length c.args.values.now) c.loop-i-2.i _ (c.loop-i-2.auto.i-end (nat.div-mul-le_self (length c.args.values.now) 16)) c.in-Some.ensures) (omega (arith, c.in-Some.ensures));
+      number = c.in_ok-packed.ensures.number _ _ (16 * c.args.width * block_count (length c.args.values.now)) (rw all at c.loop-i.invariant) (place_within c.args.width (length c.args.values.now) c.loop-i.i _ (c.loop-i.auto.i-end) c.in-Some.ensures) (omega (arith, c.in-Some.ensures));
       size = c.in_ok-packed.ensures.size ∙ size;
     }
