@@ -1,4 +1,5 @@
 pub mod AtNode
 pub mod Cells
+pub mod Decodings
 pub mod Making
 pub mod Unpacked

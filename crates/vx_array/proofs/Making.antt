@@ -10,15 +10,17 @@ use Rattle.vx_base.specs.PlainScalar.{PlainScalar, fits}
 use Rattle.vx_base.specs.PlainType.{PlainType, is_leaf, is_nullable, integer_of, nullability_of}
 use Rattle.vx_base.specs.PlainType as types
 use Rattle.vx_base.specs.PlainValue.{PlainValue, is_null, int, cell}
-use Rattle.vx_model.specs.Tree.{Tree, Validity, PlainPacked, PlainPatches, primitive, constant, masked, packed_of, frame_of_reference}
-use Rattle.vx_model.specs.Refusals.{validity_length, validity_allowed, kept, kept_packed, bit_packed_refusal, for_refusal}
+use Rattle.vx_model.specs.Tree.{Tree, Validity, PlainPacked, PlainPatches, primitive, constant, masked, packed_of, frame_of_reference, zig_zag, dict}
+use Rattle.vx_model.specs.Refusals.{validity_length, validity_allowed, kept, kept_packed, bit_packed_refusal, for_refusal, zig_zag_refusal, dict_refusal}
 use Rattle.vx_model.specs.Rows.{rows}
 use Rattle.vx_model.specs.TreeType.{tree_type}
 use Rattle.vx_model.specs.WellFormed.{WellFormed, WellFormedPatches}
 use Rattle.vx_model.proofs.MadeLemmas.{primitive_made, constant_made, masked_made}
+use Rattle.vx_model.proofs.DictLemmas.{dict_accepted, length-dict}
 use Rattle.vx_model.proofs.PackedLemmas.{packed_accepted, for_accepted, length-frame_of_reference}
 use Rattle.vx_model.proofs.PackedOfLemmas.{type-packed_of, length-packed_of}
 use Rattle.vx_model.proofs.RowLemmas.{length-primitive, length-constant, length-masked}
+use Rattle.vx_model.proofs.ZigZagLemmas.{zig_zag_accepted, length-zig_zag}
 use Rattle.vx_array.specs.declared.ints.Ints.{Ints}
 use Rattle.vx_array.specs.IntsOf.{ptype_of, wholes_of}
 use Rattle.vx_array.specs.IsArray.{IsArray}
@@ -48,6 +50,12 @@ pub frame_array : (encoded : Tree) (reference : PlainScalar) (own : PlainType) (
     → own ≡ types.primitive (integer_of reference.dtype) (nullability_of (tree_type encoded)) → len ≡ length (rows encoded) → IsArray (frame_of_reference encoded reference) (Some own) len
 frame_array encoded reference own len accepted fitting w own_is len_is =
     record { well_formed = for_accepted encoded reference accepted fitting w; own_type_is = own_is; len_is = len_is ∙ sym (length-frame_of_reference encoded reference) }
+
+pub zig_zag_array : (encoded : Tree) (own : PlainType) (len : ℕ) → zig_zag_refusal encoded ≡ None → WellFormed encoded → own ≡ tree_type (zig_zag encoded) → len ≡ length (rows encoded) → IsArray (zig_zag encoded) (Some own) len
+zig_zag_array encoded own len accepted w own_is len_is = record { well_formed = zig_zag_accepted encoded accepted w; own_type_is = own_is; len_is = len_is ∙ sym (length-zig_zag encoded) }
+
+pub dict_array : (codes values : Tree) (own : PlainType) (len : ℕ) → dict_refusal codes values ≡ None → WellFormed codes → WellFormed values → own ≡ tree_type (dict codes values) → len ≡ length (rows codes) → IsArray (dict codes values) (Some own) len
+dict_array codes values own len accepted c v own_is len_is = record { well_formed = dict_accepted codes values accepted c v; own_type_is = own_is; len_is = len_is ∙ sym (length-dict codes values) }
 
 pub bytes_fit : (xs : List ℕ) → ((i : ℕ) → Fits w8 (slice_index_or xs i 0)) → list_all (λ byte. nat_lt byte 256) xs ≡ true
 bytes_fit [] a = refl

@@ -1,7 +1,7 @@
 -- What is true of each array: its tree is well formed, and the type and length that it keeps are the tree's.
 use Rattle.std.specs.Prelude.{◌≡◌, ℕ, length, Option, Some, None}
 use Rattle.vx_base.specs.PlainType.{PlainType}
-use Rattle.vx_model.specs.Tree.{Tree, primitive, constant, masked, bit_packed, bit_packed_with, frame_of_reference}
+use Rattle.vx_model.specs.Tree.{Tree, primitive, constant, masked, bit_packed, bit_packed_with, frame_of_reference, zig_zag, dict}
 use Rattle.vx_model.specs.Rows.{rows}
 use Rattle.vx_model.specs.TreeType.{tree_type}
 use Rattle.vx_model.specs.WellFormed.{WellFormed}
@@ -14,6 +14,8 @@ IsConstant (masked child valid) = ⊥
 IsConstant (bit_packed k) = ⊥
 IsConstant (bit_packed_with k len offset indices values) = ⊥
 IsConstant (frame_of_reference encoded reference) = ⊥
+IsConstant (zig_zag encoded) = ⊥
+IsConstant (dict codes values) = ⊥
 
 abbrev pub IsOwnType : Option PlainType → Tree → Type 0
 IsOwnType None tree = IsConstant tree

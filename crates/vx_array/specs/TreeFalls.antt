@@ -2,7 +2,7 @@
 use Rattle.std.specs.Prelude.{◌≤◌, max, None, Some}
 use Rattle.std.proofs.Common.{arith}
 use Rattle.vx_array.specs.declared.array.Node.{Node}
-use Rattle.vx_array.specs.declared.array.Node.TheVariants.{Primitive, Constant, Masked, BitPacked, FoR}
+use Rattle.vx_array.specs.declared.array.Node.TheVariants.{Primitive, Constant, Masked, BitPacked, FoR, ZigZag, Dict}
 use Rattle.vx_array.specs.declared.array.ArrayRef.TheDeep.{deep-Node}
 use Rattle.vx_model.specs.Tree.{node_count}
 use Rattle.vx_array.specs.TreeOf.{tree_of}
@@ -14,3 +14,5 @@ depth_le-node_count (Masked child valid) = omega arith
 depth_le-node_count (BitPacked p width bytes len valid None n) = omega arith
 depth_le-node_count (BitPacked p width bytes len valid (Some patches) n) = omega arith
 depth_le-node_count (FoR encoded reference) = omega arith
+depth_le-node_count (ZigZag encoded) = omega arith
+depth_le-node_count (Dict codes values) = omega arith

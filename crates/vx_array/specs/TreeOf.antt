@@ -3,8 +3,8 @@ use Rattle.std.specs.Prelude.{Option, None, Some, Box}
 use Rattle.std.specs.declared.alloc.Global.{Global}
 use Rattle.vx_array.specs.IntsOf.{ptype_of, wholes_of}
 use Rattle.vx_array.specs.declared.array.Node.{Node}
-use Rattle.vx_array.specs.declared.array.Node.TheVariants.{Primitive, Constant, Masked, BitPacked, FoR}
-use Rattle.vx_model.specs.Tree.{Tree, PlainPatches, primitive, constant, masked, plain_packed, packed_of, frame_of_reference}
+use Rattle.vx_array.specs.declared.array.Node.TheVariants.{Primitive, Constant, Masked, BitPacked, FoR, ZigZag, Dict}
+use Rattle.vx_model.specs.Tree.{Tree, PlainPatches, primitive, constant, masked, plain_packed, packed_of, frame_of_reference, zig_zag, dict}
 
 -- patches out of their box
 abbrev pub unboxed : Option (Box PlainPatches Global) → Option PlainPatches
@@ -17,3 +17,5 @@ tree_of (Constant s len) = constant s len
 tree_of (Masked child valid) = masked child.value valid
 tree_of (BitPacked p width bytes len valid patches n) = packed_of (plain_packed p width bytes len valid n) (unboxed patches)
 tree_of (FoR encoded reference) = frame_of_reference encoded.value reference
+tree_of (ZigZag encoded) = zig_zag encoded.value
+tree_of (Dict codes values) = dict codes.value values.value

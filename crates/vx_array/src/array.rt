@@ -22,6 +22,10 @@ pub enum Node {
     BitPacked(PType, u32, Bytes, u64, Option<Mask>, Option<Box<Patches>>, Nullability),
     /// Child 0's integers, each summed with the reference in the reference's type.
     FoR(Box<ArrayRef>, Scalar),
+    /// The integers whose zigzag child 0's are.
+    ZigZag(Box<ArrayRef>),
+    /// Child 1's values by their places, which child 0 has row by row.
+    Dict(Box<ArrayRef>, Box<ArrayRef>),
 }
 
 /// Values, and the rows of an array where they stand in place of its own: the value whose index is x stands at row
@@ -150,6 +154,8 @@ impl ArrayRef {
             Node::Masked(_, _) => ArrayId::Masked,
             Node::BitPacked(_, _, _, _, _, _, _) => ArrayId::BitPacked,
             Node::FoR(_, _) => ArrayId::FoR,
+            Node::ZigZag(_) => ArrayId::ZigZag,
+            Node::Dict(_, _) => ArrayId::Dict,
         }
     }
 
@@ -159,8 +165,8 @@ impl ArrayRef {
     {
         match &self.node {
             Node::Primitive(_, _, _) | Node::Constant(_, _) => 0,
-            Node::Masked(_, _) | Node::FoR(_, _) => 1,
-            Node::BitPacked(_, _, _, _, _, Some(_), _) => 2,
+            Node::Masked(_, _) | Node::FoR(_, _) | Node::ZigZag(_) => 1,
+            Node::BitPacked(_, _, _, _, _, Some(_), _) | Node::Dict(_, _) => 2,
             Node::BitPacked(_, _, _, _, _, None, _) => 0,
         }
     }
@@ -172,6 +178,9 @@ impl ArrayRef {
         match &self.node {
             Node::Masked(child, _) if place == 0 => Some(child),
             Node::FoR(encoded, _) if place == 0 => Some(encoded),
+            Node::ZigZag(encoded) if place == 0 => Some(encoded),
+            Node::Dict(codes, _) if place == 0 => Some(codes),
+            Node::Dict(_, values) if place == 1 => Some(values),
             Node::BitPacked(_, _, _, _, _, Some(patches), _) if place == 0 => Some(
                 &patches.indices,
             ),

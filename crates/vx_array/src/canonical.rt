@@ -1,22 +1,18 @@
 //! The plain tree of a tree, decoded a column at a time.
 
-ghost use Rattle.std.specs.Prelude.{◌≡◌, map};
 ghost use Rattle.vx_base.specs.Answers.{Answers, OrMemory};
-ghost use Rattle.vx_base.specs.PlainType.{integer_of};
-ghost use Rattle.vx_base.specs.PlainValue.{whole_or_zero};
 ghost use Rattle.vx_model.specs.Column.{column_of};
-ghost use Rattle.vx_model.specs.Plain.{plain, validity};
-ghost use Rattle.vx_model.specs.Rows.{rows};
-ghost use Rattle.vx_model.specs.TreeType.{tree_type};
-ghost use Rattle.vx_array.specs.IntsOf.{ptype_of, wholes_of};
+ghost use Rattle.vx_model.specs.Plain.{plain};
+ghost use Rattle.vx_array.specs.IsDecoded.{IsDecoded};
 
 use crate::array::{ArrayRef, Node};
-use crate::ints::Ints;
+use crate::decoded::Decoded;
 use crate::node::{
-    copy_validity, decoded_constant, keep, moved, unpacked, validity_of_constant, written,
+    decoded_by_codes, decoded_constant, decoded_masked, decoded_moved, decoded_packed,
+    decoded_primitive, decoded_zig_zag,
 };
 use std::alloc::Global;
-use vx_base::{Mask, VortexResult};
+use vx_base::VortexResult;
 
 impl ArrayRef {
     /// The plain tree of the same type and rows.
@@ -24,51 +20,32 @@ impl ArrayRef {
         ensures { Answers result (plain (column_of self.now)) }
     {
         self.known();
-        let values = self.decoded(alloc)?;
-        let valid = self.validity(alloc)?;
-        match ArrayRef::primitive(values, valid, self.dtype().nullability()) {
+        let rows = self.decoded(alloc)?;
+        match ArrayRef::primitive(rows.values, rows.valid, self.dtype().nullability()) {
             Ok(plain) => Ok(plain),
             Err(refused) => Err(refused.error),
         }
     }
 
-    // The rows as whole numbers, 0 beneath nulls.
-    #[tactic(auto, using(vx_model::proofs::DecodeLemmas::decodes))]
-    fn decoded(&self, alloc: Global) -> VortexResult<Ints>
-        ensures { OrMemory result (λ ints. (ptype_of ints ≡ integer_of (tree_type self.now)) × (wholes_of ints ≡ map whole_or_zero (rows self.now))) }
+    // The rows. Each tree inside is decoded once.
+    pub(crate) fn decoded(&self, alloc: Global) -> VortexResult<Decoded>
+        ensures { OrMemory result (λ rows. IsDecoded self.now rows) }
     {
         match &self.node {
-            Node::Primitive(values, valid, _) => values.decoded(alloc, valid),
+            Node::Primitive(values, valid, _) => decoded_primitive(alloc, values, valid),
             Node::Constant(value, len) => decoded_constant(alloc, value, *len),
-            Node::Masked(child, valid) => {
-                let values = child.decoded(alloc)?;
-                values.zeroed(valid)
-            }
+            Node::Masked(child, mask) => decoded_masked(alloc, child.decoded(alloc)?, mask),
             Node::BitPacked(ptype, width, packed, len, valid, patches, _) => {
-                let values = unpacked(alloc, *ptype, *width, packed.as_slice(), *len)?;
-                let values = written(values, patches);
-                values.zeroed_by(valid)
+                decoded_packed(alloc, *ptype, *width, packed, *len, valid, patches)
             }
             Node::FoR(encoded, reference) => {
-                let differences = encoded.decoded(alloc)?;
-                let values = moved(alloc, reference, &differences)?;
-                let valid = encoded.validity(alloc)?;
-                values.zeroed_by(&valid)
+                decoded_moved(alloc, encoded.decoded(alloc)?, reference)
             }
-        }
-    }
-
-    // Validity bits where some row is null.
-    #[tactic(auto, using(vx_model::proofs::DecodeLemmas::decodes))]
-    fn validity(&self, alloc: Global) -> VortexResult<Option<Mask>>
-        ensures { Answers result (validity (rows self.now)) }
-    {
-        match &self.node {
-            Node::Primitive(_, valid, _) => copy_validity(valid, alloc),
-            Node::Constant(value, len) => validity_of_constant(alloc, value, *len),
-            Node::Masked(_, valid) => Ok(keep(Some(valid.copy(alloc)?))),
-            Node::BitPacked(_, _, _, _, valid, _, _) => copy_validity(valid, alloc),
-            Node::FoR(encoded, _) => encoded.validity(alloc),
+            Node::ZigZag(encoded) => decoded_zig_zag(alloc, encoded.decoded(alloc)?),
+            Node::Dict(codes, values) => {
+                let codes = codes.decoded(alloc)?;
+                decoded_by_codes(alloc, codes, values.decoded(alloc)?)
+            }
         }
     }
 }

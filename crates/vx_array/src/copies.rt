@@ -56,6 +56,12 @@ impl Node {
                 let encoded = Box::new(alloc, encoded.copy(alloc)?)?;
                 Ok(Node::FoR(encoded, reference.copy(alloc)?))
             }
+            Node::ZigZag(encoded) => Ok(Node::ZigZag(Box::new(alloc, encoded.copy(alloc)?)?)),
+            Node::Dict(codes, values) => {
+                let codes = Box::new(alloc, codes.copy(alloc)?)?;
+                let values = Box::new(alloc, values.copy(alloc)?)?;
+                Ok(Node::Dict(codes, values))
+            }
         }
     }
 }

@@ -62,6 +62,7 @@ macro_rules! map_ints {
 }
 
 mod kernels;
+mod picking;
 
 impl Ints {
     ghost use Rattle.vx_array.specs.IntsOf.{ptype_of, wholes_of};

@@ -5,6 +5,7 @@ mod array;
 mod arrays;
 mod canonical;
 mod copies;
+mod decoded;
 mod ints;
 mod node;
 mod patches;

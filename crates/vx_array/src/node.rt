@@ -8,17 +8,22 @@ ghost use Rattle.vx_model.specs.Rows.{is_valid_at};
 
 mod bit_packed;
 mod constant;
+mod dict;
 mod frame_of_reference;
 mod masked;
 mod primitive;
+mod zig_zag;
 
 use crate::array::ArrayRef;
-pub(crate) use bit_packed::{packed_size, unpacked, written};
-pub(crate) use constant::{decoded_constant, validity_of_constant};
-pub(crate) use frame_of_reference::{moved, moved_at};
-pub(crate) use primitive::{is_zero_beneath, primitive_at};
+pub(crate) use bit_packed::{decoded_packed, packed_size};
+pub(crate) use constant::decoded_constant;
+pub(crate) use dict::decoded_by_codes;
+pub(crate) use frame_of_reference::{decoded_moved, moved_at};
+pub(crate) use masked::decoded_masked;
+pub(crate) use primitive::{decoded_primitive, is_zero_beneath, primitive_at};
 use std::alloc::Global;
 use vx_base::{Mask, Nullability, Refused, VortexResult};
+pub(crate) use zig_zag::{decoded_zig_zag, unzigzagged_at};
 
 /// A tree, or why it isn't made and what it was to be made of.
 pub type Made<T> = Result<ArrayRef, Refused<T>>;

@@ -8,7 +8,7 @@ ghost use Rattle.vx_model.specs.Rows.{rows, row_at};
 ghost use Rattle.vx_model.specs.TreeType.{tree_type};
 
 use crate::array::{ArrayRef, Node};
-use crate::node::{is_valid, is_zero_beneath, moved_at, primitive_at};
+use crate::node::{is_valid, is_zero_beneath, moved_at, primitive_at, unzigzagged_at};
 use vx_blocks::get;
 
 impl ArrayRef {
@@ -44,6 +44,12 @@ impl ArrayRef {
                 Some(i128::from(get(packed.as_slice(), *width, row)))
             }
             Node::FoR(encoded, reference) => moved_at(reference, encoded.integer_at(row)),
+            Node::ZigZag(encoded) => unzigzagged_at(encoded.integer_at(row)),
+            Node::Dict(codes, values) => {
+                let _places = values.len();
+                let code = codes.integer_at(row)?;
+                values.integer_at(code as u64)
+            }
         }
     }
 
@@ -58,7 +64,30 @@ impl ArrayRef {
             Node::Masked(_, valid) => !valid.all_true(),
             Node::BitPacked(_, _, _, _, valid, _, _) => valid.is_some(),
             Node::FoR(encoded, _) => encoded.has_null(),
+            Node::ZigZag(encoded) => encoded.has_null(),
+            Node::Dict(codes, values) => {
+                if codes.has_null() {
+                    return true;
+                }
+                if values.has_null() {
+                    return self.has_null_row();
+                }
+                false
+            }
         }
+    }
+
+    // The same, row by row.
+    fn has_null_row(&self) -> bool
+        requires { IsTrue (is_integer (tree_type self.now)) }
+        ensures { result ≡ list_any is_null (rows self.now) }
+    {
+        for row in 0..self.len() {
+            if self.integer_at(row).is_none() {
+                return true;
+            }
+        }
+        false
     }
 
     /// Whether the tree is the plain one of its column: a Primitive with 0 beneath nulls.

@@ -34,7 +34,8 @@ impl ArrayRef {
                     None => own,
                 }
             }
-            Node::FoR(encoded, _) => encoded.nbytes(),
+            Node::FoR(encoded, _) | Node::ZigZag(encoded) => encoded.nbytes(),
+            Node::Dict(codes, values) => codes.nbytes().saturating_add(values.nbytes()),
         }
     }
 
@@ -49,7 +50,8 @@ impl ArrayRef {
             },
             Node::Masked(child, _) => child.extents_fit(),
             Node::BitPacked(_, _, _, len, _, _, _) => *len <= ROW_LIMIT,
-            Node::FoR(encoded, _) => encoded.extents_fit(),
+            Node::FoR(encoded, _) | Node::ZigZag(encoded) => encoded.extents_fit(),
+            Node::Dict(codes, _) => codes.extents_fit(),
         }
     }
 }

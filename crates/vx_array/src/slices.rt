@@ -14,6 +14,7 @@ ghost use Rattle.vx_model.specs.Leaf.{first_valid, null_or, each_null_or};
 ghost use Rattle.vx_model.specs.Rows.{row_at, valid_rows};
 
 pub(crate) mod made;
+pub(crate) mod picking;
 
 use crate::node::is_valid;
 use std::alloc::Global;

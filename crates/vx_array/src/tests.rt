@@ -1,10 +1,12 @@
 //! Each constructor and each call that takes memory once, over small trees worked by hand.
 
 mod bit_packed;
+mod dict;
 mod frame_of_reference;
 mod ints;
 mod packed_rows;
 mod patches;
+mod zig_zag;
 
 use crate::{ArrayRef, Arrays, Ints, Node};
 use std::test::Fail;
@@ -23,6 +25,19 @@ fn list<T: Integer>(rt: &impl AllocGlobal, wholes: &[i128]) -> Result<IntList<T>
     Ok(IntList::from_vec(items))
 }
 
+fn integers(rt: &impl AllocGlobal, ptype: PType, wholes: &[i128]) -> Result<Ints, Fail> {
+    match ptype {
+        PType::U8 => Ok(Ints::U8(list(rt, wholes)?)),
+        PType::U16 => Ok(Ints::U16(list(rt, wholes)?)),
+        PType::U32 => Ok(Ints::U32(list(rt, wholes)?)),
+        PType::U64 => Ok(Ints::U64(list(rt, wholes)?)),
+        PType::I8 => Ok(Ints::I8(list(rt, wholes)?)),
+        PType::I16 => Ok(Ints::I16(list(rt, wholes)?)),
+        PType::I32 => Ok(Ints::I32(list(rt, wholes)?)),
+        PType::I64 => Ok(Ints::I64(list(rt, wholes)?)),
+    }
+}
+
 // A flat tree without nulls.
 fn flat(
     rt: &impl AllocGlobal,
@@ -30,17 +45,19 @@ fn flat(
     nullability: Nullability,
     wholes: &[i128],
 ) -> Result<ArrayRef, Fail> {
-    let values = match ptype {
-        PType::U8 => Ints::U8(list(rt, wholes)?),
-        PType::U16 => Ints::U16(list(rt, wholes)?),
-        PType::U32 => Ints::U32(list(rt, wholes)?),
-        PType::U64 => Ints::U64(list(rt, wholes)?),
-        PType::I8 => Ints::I8(list(rt, wholes)?),
-        PType::I16 => Ints::I16(list(rt, wholes)?),
-        PType::I32 => Ints::I32(list(rt, wholes)?),
-        PType::I64 => Ints::I64(list(rt, wholes)?),
-    };
-    let made = ArrayRef::primitive(values, None, nullability);
+    let made = ArrayRef::primitive(integers(rt, ptype, wholes)?, None, nullability);
+    Ok(made.ok().ok_or("refused")?)
+}
+
+// A flat tree that is null where a bit is false.
+fn with_nulls(
+    rt: &impl AllocGlobal,
+    ptype: PType,
+    wholes: &[i128],
+    valid: &[bool],
+) -> Result<ArrayRef, Fail> {
+    let valid = Some(bits(rt, valid)?);
+    let made = ArrayRef::primitive(integers(rt, ptype, wholes)?, valid, Nullability::Nullable);
     Ok(made.ok().ok_or("refused")?)
 }
 

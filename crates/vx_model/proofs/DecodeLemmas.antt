@@ -2,6 +2,7 @@
 use Rattle.std.proofs.Common.{◌≡◌, ℕ, zero, suc, ℤ, pos, List, [], ◌∷◌, length, map, refl, sym, ap, ◌∙◌, arith, Bool, true, false, cond, Some, None}
 use Rattle.std.specs.Prelude.{◌||◌, ◌&&◌, ◌==◌, not, replicate}
 use Rattle.std.specs.List.{list_all, list_any}
+use Rattle.std.proofs.lemmas.Bool.{cond_both, eq-eqb}
 use Rattle.std.proofs.lemmas.List.{length-map}
 use Rattle.std.proofs.lemmas.Bool.Decides.{nat_tests}
 use Rattle.vx_base.specs.declared.ptype.PType.{PType}
@@ -15,7 +16,7 @@ use Rattle.vx_model.specs.Tree.{Tree, Validity, primitive}
 use Rattle.vx_model.specs.Decoded.{zeroed, zeroed_by}
 use Rattle.vx_model.specs.Column.{column_of}
 use Rattle.vx_model.specs.Plain.{plain, validity, valid_bits}
-use Rattle.vx_model.specs.Refusals.{kept, primitive_refusal}
+use Rattle.vx_model.specs.Refusals.{kept, validity_length, primitive_refusal}
 use Rattle.vx_model.specs.Rows.{rows, masked_rows, valid_rows}
 use Rattle.vx_model.specs.TreeType.{tree_type}
 use Rattle.vx_model.specs.WellFormed.{WellFormed, IsValidityOf}
@@ -94,12 +95,18 @@ pub validity-valid_rows : (valid : Validity) (xs : List ℤ) (n : Nullability) �
 validity-valid_rows None xs n h = rw (no_null-map-int xs) refl
 validity-valid_rows (Some bits) xs n h = validity-masked_rows bits (map int xs) (h.0 ∙ sym (length-map xs int)) (no_null-map-int xs) ∙ rw h.2 refl
 
+-- validity has a bit a row
+pub length-validity : (vs : List PlainValue) → validity_length (validity vs) (length (map whole_or_zero vs)) ≡ true
+length-validity vs =
+    cond_both (list_any is_null vs) (Some (valid_bits vs)) None (λ valid. validity_length valid (length (map whole_or_zero vs)) ≡ true)
+    (λ some. eq-eqb _ _ (length-map vs (λ v. not (is_null v)) ∙ sym (length-map vs whole_or_zero))) (λ none. refl)
+
 -- ---- the plain tree by its constructor
 
-length-valid_bits : (vs : List PlainValue) → length (valid_bits vs) ≡ length vs
+pub length-valid_bits : (vs : List PlainValue) → length (valid_bits vs) ≡ length vs
 length-valid_bits vs = length-map vs (λ v. not (is_null v))
 
-all_valid_bits : (vs : List PlainValue) → list_all (λ b. b) (valid_bits vs) ≡ not (list_any is_null vs)
+pub all_valid_bits : (vs : List PlainValue) → list_all (λ b. b) (valid_bits vs) ≡ not (list_any is_null vs)
 all_valid_bits [] = refl
 all_valid_bits (v ∷ vs) = rw (all_valid_bits vs) (joined (is_null v) (list_any is_null vs))
   where

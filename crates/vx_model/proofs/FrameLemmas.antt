@@ -14,7 +14,7 @@ use Rattle.vx_model.specs.TreeType.{tree_type}
 use Rattle.vx_model.specs.WellFormed.{WellFormed, differences_type}
 use Rattle.vx_model.proofs.MadeLemmas.{rows_fit}
 
-row_passes : (p : PlainValue → Bool) (vs : List PlainValue) (i : ℕ) → i < length vs → list_all p vs ≡ true → p (row_at vs i) ≡ true
+pub row_passes : (p : PlainValue → Bool) (vs : List PlainValue) (i : ℕ) → i < length vs → list_all p vs ≡ true → p (row_at vs i) ≡ true
 row_passes p [] i h e = absurd (omega arith)
 row_passes p (v ∷ vs) zero h e = (and_parts _ _ e).0
 row_passes p (v ∷ vs) (suc i) h e = row_passes p vs i (omega arith) (and_parts _ _ e).1

@@ -8,9 +8,9 @@ use Rattle.std.proofs.lemmas.List.FromFn.{length-map-range_with_len}
 use Rattle.vx_base.specs.PlainType.{PlainType, primitive}
 use Rattle.vx_base.specs.PlainScalar.{scalar}
 use Rattle.vx_base.specs.PlainValue.{PlainValue, null, int, is_null}
-use Rattle.vx_model.specs.Tree.{Tree, Validity, constant, masked, bit_packed, bit_packed_with, frame_of_reference}
+use Rattle.vx_model.specs.Tree.{Tree, Validity, constant, masked, bit_packed, bit_packed_with, frame_of_reference, zig_zag, dict}
 use Rattle.vx_model.specs.Tree as trees
-use Rattle.vx_model.specs.Rows.{rows, masked_rows, valid_rows, below, patched, packed_at, moved}
+use Rattle.vx_model.specs.Rows.{rows, masked_rows, valid_rows, below, patched, packed_at, moved, unzigzagged, looked_up}
 use Rattle.vx_model.specs.TreeType.{tree_type}
 use Rattle.vx_model.specs.Size.{size}
 use Rattle.vx_model.specs.Column.{Column, column, column_of}
@@ -154,3 +154,9 @@ counts_within_extents (bit_packed_with k len offset indices values) w = (counts-
 counts_within_extents (frame_of_reference encoded reference) w =
     counts-fewer (tree_type (frame_of_reference encoded reference)) (tree_type encoded) (map (moved reference) (rows encoded)) (rows encoded) (extents encoded)
     (let same = length-map (rows encoded) (moved reference) in omega arith) (counts_within_extents encoded w.0)
+counts_within_extents (zig_zag encoded) w =
+    counts-fewer (tree_type (zig_zag encoded)) (tree_type encoded) (map unzigzagged (rows encoded)) (rows encoded) (extents encoded)
+    (let same = length-map (rows encoded) unzigzagged in omega arith) (counts_within_extents encoded w.0)
+counts_within_extents (dict codes values) w =
+    counts-fewer (tree_type (dict codes values)) (tree_type codes) (map (looked_up (rows values)) (rows codes)) (rows codes) (extents codes)
+    (let same = length-map (rows codes) (looked_up (rows values)) in omega arith) (counts_within_extents codes w.0)

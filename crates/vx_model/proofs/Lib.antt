@@ -1,4 +1,6 @@
 pub mod DecodeLemmas
+pub mod DictDecodeLemmas
+pub mod DictLemmas
 pub mod FrameLemmas
 pub mod LeafLemmas
 pub mod MadeLemmas
@@ -15,3 +17,4 @@ pub mod RowLemmas
 pub mod SizeLemmas
 pub mod StandardFacts
 pub mod ZeroLemmas
+pub mod ZigZagLemmas

@@ -11,7 +11,7 @@ use Rattle.vx_base.specs.PlainScalar.{PlainScalar, fits}
 use Rattle.vx_base.specs.PlainType.{PlainType, is_leaf, is_nullable}
 use Rattle.vx_base.specs.PlainType as types
 use Rattle.vx_base.specs.PlainValue.{PlainValue, null, int, is_null}
-use Rattle.vx_model.specs.Tree.{Tree, Validity, primitive, constant, masked, bit_packed, bit_packed_with, frame_of_reference}
+use Rattle.vx_model.specs.Tree.{Tree, Validity, primitive, constant, masked, bit_packed, bit_packed_with, frame_of_reference, zig_zag, dict}
 use Rattle.vx_model.specs.Refusals.{validity_length, validity_allowed, kept}
 use Rattle.vx_model.specs.Rows.{rows, masked_rows, valid_rows}
 use Rattle.vx_model.specs.TreeType.{tree_type}
@@ -68,6 +68,8 @@ rows_fit (masked child valid) h = h.2
 rows_fit (bit_packed k) h = h.1
 rows_fit (bit_packed_with k len offset indices values) h = h.5
 rows_fit (frame_of_reference encoded reference) h = h.2
+rows_fit (zig_zag encoded) h = h.2
+rows_fit (dict codes values) h = h.3
 
 pub masked_made : (child : Tree) (valid : List Bool) → is_leaf (tree_type child) ≡ true → is_nullable (tree_type child) ≡ true → length valid ≡ length (rows child) → list_any is_null (rows child) ≡ false → WellFormed child → WellFormed (masked child valid)
 masked_made child valid leaf nullable lengths no_null h =

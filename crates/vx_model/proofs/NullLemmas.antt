@@ -11,7 +11,7 @@ use Rattle.vx_base.specs.PlainScalar.{PlainScalar}
 use Rattle.vx_base.specs.PlainType.{PlainType}
 use Rattle.vx_base.specs.PlainType as types
 use Rattle.vx_base.specs.PlainValue.{PlainValue, int, is_null}
-use Rattle.vx_model.specs.Tree.{Tree, Validity, PlainPacked, primitive, constant, masked, bit_packed, bit_packed_with, frame_of_reference}
+use Rattle.vx_model.specs.Tree.{Tree, Validity, PlainPacked, primitive, constant, masked, bit_packed, bit_packed_with, frame_of_reference, zig_zag, dict}
 use Rattle.vx_model.specs.Decoded.{zeroed, zeroed_by, zero_beneath, zero_beneath_by}
 use Rattle.vx_model.specs.Plain.{IsPlain, plain_of}
 use Rattle.vx_model.specs.Rows.{rows}
@@ -98,6 +98,12 @@ not_bit_packed_with k len offset indices values (types.primitive p n) vs e = cc
 not_frame_of_reference : (encoded : Tree) (reference : PlainScalar) (t : PlainType) (vs : List PlainValue) → frame_of_reference encoded reference ≡ plain_of t vs → ⊥
 not_frame_of_reference encoded reference (types.primitive p n) vs e = cc
 
+not_zig_zag : (encoded : Tree) (t : PlainType) (vs : List PlainValue) → zig_zag encoded ≡ plain_of t vs → ⊥
+not_zig_zag encoded (types.primitive p n) vs e = cc
+
+not_dict : (codes values : Tree) (t : PlainType) (vs : List PlainValue) → dict codes values ≡ plain_of t vs → ⊥
+not_dict codes values (types.primitive p n) vs e = cc
+
 pub plain-constant : (s : PlainScalar) (len : ℕ) → IsPlain (constant s len) → ⊥
 plain-constant s len = not_constant s len s.dtype (replicate len s.value)
 
@@ -115,4 +121,10 @@ pub plain-frame_of_reference : (encoded : Tree) (reference : PlainScalar) → Is
 plain-frame_of_reference encoded reference =
     let t = frame_of_reference encoded reference in not_frame_of_reference encoded reference (tree_type t) (rows t)
 
-pub ruleset plains = (plain-constant, plain-masked, plain-bit_packed, plain-bit_packed_with, plain-frame_of_reference)
+pub plain-zig_zag : (encoded : Tree) → IsPlain (zig_zag encoded) → ⊥
+plain-zig_zag encoded = let t = zig_zag encoded in not_zig_zag encoded (tree_type t) (rows t)
+
+pub plain-dict : (codes values : Tree) → IsPlain (dict codes values) → ⊥
+plain-dict codes values = let t = dict codes values in not_dict codes values (tree_type t) (rows t)
+
+pub ruleset plains = (plain-constant, plain-masked, plain-bit_packed, plain-bit_packed_with, plain-frame_of_reference, plain-zig_zag, plain-dict)

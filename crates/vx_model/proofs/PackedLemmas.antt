@@ -148,7 +148,7 @@ for_made encoded reference integer not_null fitting encoded_type w =
 
 -- ---- the same, where nothing is refused
 
-passed : (b : Bool) (e : VortexError) (o : Option VortexError) → unless b e o ≡ None → (b ≡ true) × (o ≡ None)
+pub passed : (b : Bool) (e : VortexError) (o : Option VortexError) → unless b e o ≡ None → (b ≡ true) × (o ≡ None)
 passed true e o h = (refl, h)
 passed false e o h = absurd cc
 

@@ -1,6 +1,6 @@
 -- Worked values, counted by hand, so that a wrong rule in the definitions does not check.
 use Rattle.std.specs.Prelude.{◌≡◌, ℕ, true, false, List, [], ◌∷◌, map, Some, None, pos, negsuc, replicate, refl}
-use Rattle.vx_base.specs.declared.ptype.PType.TheVariants.{U8, U16, U32, U64, I8, I32, I64}
+use Rattle.vx_base.specs.declared.ptype.PType.TheVariants.{U8, U16, U32, U64, I8, I16, I32, I64}
 use Rattle.vx_base.specs.declared.dtype.Nullability.TheVariants.{NonNullable, Nullable}
 use Rattle.vx_base.specs.declared.error.VortexError.TheVariants.{MismatchedTypes, LengthMismatch, OutOfBounds, IndicesNotAscending}
 use Rattle.vx_base.specs.Integers.{lies_in, least, greatest}
@@ -9,14 +9,15 @@ use Rattle.vx_base.specs.PlainType as types
 use Rattle.vx_base.specs.PlainScalar.{scalar}
 use Rattle.vx_base.specs.PlainValue.{PlainValue, null, int}
 use Rattle.vx_base.specs.Wrapping.{wrap}
-use Rattle.vx_model.specs.Tree.{Tree, Validity, PlainPacked, PlainPatches, patches, packed_of, primitive, constant, masked, bit_packed, frame_of_reference}
+use Rattle.vx_base.specs.ZigZag.{zigzag, unzigzag}
+use Rattle.vx_model.specs.Tree.{Tree, Validity, PlainPacked, PlainPatches, patches, packed_of, primitive, constant, masked, bit_packed, frame_of_reference, zig_zag, dict}
 use Rattle.vx_model.specs.Column.{Column, column}
 use Rattle.vx_model.specs.Rows.{rows}
 use Rattle.vx_model.specs.TreeType.{tree_type}
 use Rattle.vx_model.specs.Size.{size, bit_bytes}
 use Rattle.vx_model.specs.Extents.{extents, extents_fit}
 use Rattle.vx_model.specs.Plain.{plain}
-use Rattle.vx_model.specs.Refusals.{patches_refusal, bit_packed_refusal, for_refusal}
+use Rattle.vx_model.specs.Refusals.{patches_refusal, bit_packed_refusal, for_refusal, zig_zag_refusal, dict_refusal}
 use Rattle.vx_model.specs.Site.{Site, fresh}
 use Rattle.vx_model.specs.Leaf.{no_scheme, leaf}
 use Rattle.vx_model.specs.Cascade.{cascade}
@@ -178,3 +179,42 @@ pub refused_references :
     (map (λ p. for_refusal (primitive p [] None Nullable) (scalar (types.primitive I32 NonNullable) seven)) (U32 ∷ I32 ∷ U16 ∷ []) ≡ None ∷ Some MismatchedTypes ∷ Some MismatchedTypes ∷ [])
     × (for_refusal (primitive U32 [] None Nullable) (scalar (types.primitive I32 Nullable) null) ≡ Some MismatchedTypes)
 refused_references = (refl, refl)
+
+-- ---- zigzag, and values by their codes
+
+-- -3, 5, and -2^63, there and back
+pub zigzags : (map zigzag (negsuc 2 ∷ pos 5 ∷ negsuc 9_223_372_036_854_775_807 ∷ []) ≡ 5 ∷ 10 ∷ 18_446_744_073_709_551_615 ∷ [])
+    × (map unzigzag (5 ∷ 10 ∷ 18_446_744_073_709_551_615 ∷ []) ≡ negsuc 2 ∷ pos 5 ∷ negsuc 9_223_372_036_854_775_807 ∷ [])
+zigzags = (refl, refl)
+
+-- the u8 5, null and 255 as i8
+abbrev zigzag_bytes : Tree
+zigzag_bytes = zig_zag (primitive U8 (pos 5 ∷ pos 0 ∷ pos 255 ∷ []) (Some (true ∷ false ∷ true ∷ [])) Nullable)
+
+pub rows-zigzag_bytes : (rows zigzag_bytes ≡ int (negsuc 2) ∷ null ∷ int (negsuc 127) ∷ []) × (tree_type zigzag_bytes ≡ types.primitive I8 Nullable) × (size zigzag_bytes ≡ 4) × (extents zigzag_bytes ≡ 3 ∷ [])
+rows-zigzag_bytes = (refl, refl, refl, refl)
+
+pub refused_zigzags : map (λ p. zig_zag_refusal (primitive p [] None NonNullable)) (U16 ∷ I16 ∷ []) ≡ None ∷ Some MismatchedTypes ∷ []
+refused_zigzags = refl
+
+-- 300 and a null, by codes
+abbrev two_values : Tree
+two_values = primitive I16 (pos 300 ∷ pos 0 ∷ []) (Some (true ∷ false ∷ [])) Nullable
+
+abbrev codes_of : List PlainValue → Tree
+codes_of vs = plain (column (types.primitive I8 Nullable) vs)
+
+abbrev four_codes : Tree
+four_codes = dict (codes_of (int (pos 1) ∷ null ∷ int (pos 0) ∷ int (pos 0) ∷ [])) two_values
+
+-- four codes and a byte of validity, and two values and a byte of theirs
+pub rows-four_codes : (rows four_codes ≡ null ∷ null ∷ int (pos 300) ∷ int (pos 300) ∷ []) × (tree_type four_codes ≡ types.primitive I16 Nullable) × (size four_codes ≡ 10) × (extents four_codes ≡ 4 ∷ [])
+rows-four_codes = (refl, refl, refl, refl)
+
+-- nullable codes are enough
+pub type-of_nullable_codes : tree_type (dict (codes_of []) (primitive I16 [] None NonNullable)) ≡ types.primitive I16 Nullable
+type-of_nullable_codes = refl
+
+-- 2 and -1 are no places of two values
+pub refused_codes : map (λ v. dict_refusal (codes_of (v ∷ [])) two_values) (int (pos 1) ∷ int (pos 2) ∷ int (negsuc 0) ∷ null ∷ []) ≡ None ∷ Some OutOfBounds ∷ Some OutOfBounds ∷ None ∷ []
+refused_codes = refl

@@ -3,7 +3,7 @@ use Rattle.std.specs.Prelude.{ℕ, ◌*◌, ◌^◌, Bool, List, [], ◌∷◌, 
 use Rattle.std.specs.List.{list_all}
 use Rattle.vx_base.specs.PlainType.{PlainType, primitive}
 use Rattle.vx_base.specs.PlainValue.{PlainValue}
-use Rattle.vx_model.specs.Tree.{Tree, constant, masked, bit_packed, bit_packed_with, frame_of_reference}
+use Rattle.vx_model.specs.Tree.{Tree, constant, masked, bit_packed, bit_packed_with, frame_of_reference, zig_zag, dict}
 use Rattle.vx_model.specs.Tree as trees
 
 -- the rows of the column, then of each nested column in the order of the type
@@ -18,6 +18,8 @@ extents (masked child valid) = extents child
 extents (bit_packed k) = k.len ∷ []
 extents (bit_packed_with k len offset indices values) = k.len ∷ []
 extents (frame_of_reference encoded reference) = extents encoded
+extents (zig_zag encoded) = extents encoded
+extents (dict codes values) = extents codes
 
 -- the greatest number of rows that is compressed
 abbrev pub row_limit : ℕ

@@ -2,7 +2,7 @@
 use Rattle.std.specs.Prelude.{List, [], ◌∷◌}
 use Rattle.vx_base.specs.declared.array_id.ArrayId.{ArrayId}
 use Rattle.vx_base.specs.declared.array_id.ArrayId.TheVariants as ids
-use Rattle.vx_model.specs.Tree.{Tree, primitive, constant, masked, bit_packed, bit_packed_with, frame_of_reference}
+use Rattle.vx_model.specs.Tree.{Tree, primitive, constant, masked, bit_packed, bit_packed_with, frame_of_reference, zig_zag, dict}
 
 abbrev pub encoding : Tree → ArrayId
 encoding (primitive p xs valid n) = ids.Primitive
@@ -11,6 +11,8 @@ encoding (masked child valid) = ids.Masked
 encoding (bit_packed k) = ids.BitPacked
 encoding (bit_packed_with k len offset indices values) = ids.BitPacked
 encoding (frame_of_reference encoded reference) = ids.FoR
+encoding (zig_zag encoded) = ids.ZigZag
+encoding (dict codes values) = ids.Dict
 
 abbrev pub children : Tree → List Tree
 children (primitive p xs valid n) = []
@@ -19,3 +21,5 @@ children (masked child valid) = child ∷ []
 children (bit_packed k) = []
 children (bit_packed_with k len offset indices values) = indices ∷ values ∷ []
 children (frame_of_reference encoded reference) = encoded ∷ []
+children (zig_zag encoded) = encoded ∷ []
+children (dict codes values) = codes ∷ values ∷ []

@@ -10,7 +10,7 @@ use Rattle.vx_base.specs.Answers.{unless}
 use Rattle.vx_base.specs.Integers.{natural_bits}
 use Rattle.vx_base.specs.Packed.{packed_size}
 use Rattle.vx_base.specs.PlainScalar.{PlainScalar}
-use Rattle.vx_base.specs.PlainType.{PlainType, is_nullable, is_leaf, is_integer, allows_null, stored_type}
+use Rattle.vx_base.specs.PlainType.{PlainType, is_nullable, is_leaf, is_integer, is_unsigned, allows_null, stored_type}
 use Rattle.vx_base.specs.PlainType as types
 use Rattle.vx_base.specs.PlainValue.{is_null}
 use Rattle.vx_base.specs.Storable.{same}
@@ -18,7 +18,7 @@ use Rattle.vx_model.specs.Tree.{Tree, Validity, PlainPacked, PlainPatches}
 use Rattle.vx_model.specs.Rows.{rows}
 use Rattle.vx_model.specs.TreeType.{tree_type}
 use Rattle.vx_model.specs.Extents.{extents_fit}
-use Rattle.vx_model.specs.WellFormed.{ascend, differences_type}
+use Rattle.vx_model.specs.WellFormed.{ascend, differences_type, is_place}
 
 -- validity has a bit a row
 abbrev pub validity_length : Validity → ℕ → Bool
@@ -76,6 +76,14 @@ kept_packed k = record k { valid = kept k.valid }
 abbrev pub for_refusal : Tree → PlainScalar → Option VortexError
 for_refusal encoded reference =
     unless (is_integer reference.dtype && (not (is_null reference.value) && same_type (tree_type encoded) (differences_type reference.dtype (tree_type encoded)))) MismatchedTypes None
+
+abbrev pub zig_zag_refusal : Tree → Option VortexError
+zig_zag_refusal encoded = unless (is_unsigned (tree_type encoded)) MismatchedTypes None
+
+abbrev pub dict_refusal : Tree → Tree → Option VortexError
+dict_refusal codes values =
+    unless (is_integer (tree_type codes) && is_leaf (tree_type values)) MismatchedTypes
+    (unless (list_all (is_place (length (rows values))) (rows codes)) OutOfBounds None)
 
 -- compression refuses a tree with an extent above the limit
 abbrev pub compress_refusal : Tree → Option VortexError

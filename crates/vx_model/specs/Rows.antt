@@ -1,12 +1,13 @@
 -- The rows of a tree, the values that it stands for; the children are decoded first.
-use Rattle.std.specs.Prelude.{ℕ, ◌+◌, pos, negsuc, ◌+ℤ◌, Bool, true, false, ◌==◌, List, [], ◌∷◌, map, Option, None, Some, position, replicate, slice_index_or, cond}
+use Rattle.std.specs.Prelude.{ℕ, ◌+◌, pos, negsuc, unsigned_abs, ◌+ℤ◌, Bool, true, false, ◌==◌, List, [], ◌∷◌, map, Option, None, Some, position, replicate, slice_index_or, cond}
 use Rattle.std.specs.List.{range_with_len}
 use Rattle.vx_base.specs.Packed.{packed_row}
 use Rattle.vx_base.specs.PlainScalar.{PlainScalar}
 use Rattle.vx_base.specs.PlainType.{integer_of}
 use Rattle.vx_base.specs.PlainValue.{PlainValue, null, int, whole_or_zero}
 use Rattle.vx_base.specs.Wrapping.{wrap}
-use Rattle.vx_model.specs.Tree.{Tree, Validity, PlainPacked, PlainPatches, primitive, constant, masked, bit_packed, bit_packed_with, frame_of_reference}
+use Rattle.vx_base.specs.ZigZag.{unzigzag}
+use Rattle.vx_model.specs.Tree.{Tree, Validity, PlainPacked, PlainPatches, primitive, constant, masked, bit_packed, bit_packed_with, frame_of_reference, zig_zag, dict}
 
 -- null where the mask is false
 abbrev pub masked_rows : List Bool → List PlainValue → List PlainValue
@@ -61,6 +62,17 @@ abbrev pub moved : PlainScalar → PlainValue → PlainValue
 moved reference null = null
 moved reference (int z) = int (wrap (integer_of reference.dtype) (whole_or_zero reference.value +ℤ z))
 
+-- the integer whose zigzag a row is
+abbrev pub unzigzagged : PlainValue → PlainValue
+unzigzagged null = null
+unzigzagged (int z) = int (unzigzag (unsigned_abs z))
+
+-- the value whose place a code is; null of a null code
+abbrev pub looked_up : List PlainValue → PlainValue → PlainValue
+looked_up values null = null
+looked_up values (int (pos k)) = row_at values k
+looked_up values (int (negsuc k)) = null
+
 abbrev pub rows : Tree → List PlainValue
 rows (primitive p xs valid n) = valid_rows valid (map int xs)
 rows (constant s len) = replicate len s.value
@@ -68,6 +80,8 @@ rows (masked child valid) = masked_rows valid (rows child)
 rows (bit_packed k) = valid_rows k.valid (below (packed_at k) k.len)
 rows (bit_packed_with k len offset indices values) = valid_rows k.valid (below (λ i. patched (rows indices) (rows values) (packed_at k i) (offset + i)) k.len)
 rows (frame_of_reference encoded reference) = map (moved reference) (rows encoded)
+rows (zig_zag encoded) = map unzigzagged (rows encoded)
+rows (dict codes values) = map (looked_up (rows values)) (rows codes)
 
 -- a row of packed integers where it is valid: its patch, else its bits
 abbrev pub packed_or_patch : PlainPacked → Option PlainPatches → ℕ → PlainValue

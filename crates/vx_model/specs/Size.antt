@@ -4,7 +4,7 @@ use Rattle.vx_base.specs.Integers.{bytes_of}
 use Rattle.vx_base.specs.Packed.{packed_size}
 use Rattle.vx_base.specs.PlainType.{PlainType, primitive}
 use Rattle.vx_base.specs.PlainValue.{PlainValue, null, int}
-use Rattle.vx_model.specs.Tree.{Tree, Validity, PlainPatches, constant, masked, bit_packed, bit_packed_with, frame_of_reference}
+use Rattle.vx_model.specs.Tree.{Tree, Validity, PlainPatches, constant, masked, bit_packed, bit_packed_with, frame_of_reference, zig_zag, dict}
 use Rattle.vx_model.specs.Tree as trees
 
 -- whole bytes that hold this many bits
@@ -27,6 +27,8 @@ size (masked child valid) = size child + bit_bytes (length valid)
 size (bit_packed k) = packed_size k.width k.len + validity_size k.valid
 size (bit_packed_with k len offset indices values) = packed_size k.width k.len + (size indices + size values) + validity_size k.valid
 size (frame_of_reference encoded reference) = size encoded
+size (zig_zag encoded) = size encoded
+size (dict codes values) = size codes + size values
 
 abbrev pub patches_size : Option PlainPatches → ℕ
 patches_size None = 0

@@ -33,6 +33,10 @@ pub data Tree : Type 0 where
   bit_packed_with : PlainPacked → ℕ → ℕ → Tree → Tree → Tree
   -- integers less a reference
   frame_of_reference : Tree → PlainScalar → Tree
+  -- integers as their zigzag
+  zig_zag : Tree → Tree
+  -- the places of each row's value, and the values
+  dict : Tree → Tree → Tree
 
 -- how many nodes it has, and one for a node's patches
 abbrev pub node_count : Tree → ℕ
@@ -42,6 +46,8 @@ node_count (masked child valid) = suc (node_count child)
 node_count (bit_packed k) = 1
 node_count (bit_packed_with k len offset indices values) = suc (suc (node_count indices + node_count values))
 node_count (frame_of_reference encoded reference) = suc (node_count encoded)
+node_count (zig_zag encoded) = suc (node_count encoded)
+node_count (dict codes values) = suc (node_count codes + node_count values)
 
 -- Patches: the value whose index is x stands at row x less the offset, in an array of so many rows.
 pub record PlainPatches : Type 0 where

@@ -6,7 +6,7 @@ use Rattle.vx_base.specs.declared.dtype.Nullability.{Nullability}
 use Rattle.vx_base.specs.PlainType.{stored_ptype, stored_nullability}
 use Rattle.vx_base.specs.PlainScalar.{PlainScalar, stored_scalar}
 use Rattle.vx_base.specs.Storable.{Storable, code_of, first, rest, stored_ℕ, stored_ℤ, stored_bool, stored_list, stored_option, stored×}
-use Rattle.vx_model.specs.Tree.{Tree, Validity, PlainPacked, PlainPatches, patches, primitive, constant, masked, bit_packed, bit_packed_with, frame_of_reference}
+use Rattle.vx_model.specs.Tree.{Tree, Validity, PlainPacked, PlainPatches, patches, primitive, constant, masked, bit_packed, bit_packed_with, frame_of_reference, zig_zag, dict}
 use base.Stored.{Gv, gnil, gnum, gcons, num}
 
 abbrev pub stored_bits : Storable (List Bool)
@@ -61,6 +61,8 @@ to (masked child valid) = node 2 (stored_bits.to valid) (one (to child))
 to (bit_packed k) = node 3 (stored_packed.to k) gnil
 to (bit_packed_with k len offset indices values) = node 4 (stored_packed_with.to (k, (len, offset))) (two (to indices) (to values))
 to (frame_of_reference encoded reference) = node 5 (stored_scalar.to reference) (one (to encoded))
+to (zig_zag encoded) = node 6 gnil (one (to encoded))
+to (dict codes values) = node 7 gnil (two (to codes) (to values))
 
 abbrev pub some_tree : Tree
 some_tree = constant (stored_scalar.from gnil) 0
@@ -89,7 +91,9 @@ tree_at number label inside =
     (cond (number == 2) (masked (tree_1 inside) (stored_bits.from label))
     (cond (number == 3) (bit_packed (stored_packed.from label))
     (cond (number == 4) (packed_with_by (stored_packed_with.from label) (tree_1 inside) (tree_2 inside))
-    (frame_of_reference (tree_1 inside) (stored_scalar.from label))))))
+    (cond (number == 5) (frame_of_reference (tree_1 inside) (stored_scalar.from label))
+    (cond (number == 6) (zig_zag (tree_1 inside))
+    (dict (tree_1 inside) (tree_2 inside))))))))
 
 -- what is read as a tree, and as a list of trees
 abbrev pub read : Gv → Tree × List Tree
@@ -107,6 +111,8 @@ from-to (masked child valid) = λ i. masked (from-to child i) (stored_bits.back 
 from-to (bit_packed k) = λ i. bit_packed (stored_packed.back k i)
 from-to (bit_packed_with k len offset indices values) = λ i. packed_with_by (stored_packed_with.back (k, (len, offset)) i) (from-to indices i) (from-to values i)
 from-to (frame_of_reference encoded reference) = λ i. frame_of_reference (from-to encoded i) (stored_scalar.back reference i)
+from-to (zig_zag encoded) = λ i. zig_zag (from-to encoded i)
+from-to (dict codes values) = λ i. dict (from-to codes i) (from-to values i)
 
 abbrev pub stored_tree : Storable Tree
 stored_tree = record { to = to; from = from; back = from-to }

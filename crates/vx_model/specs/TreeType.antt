@@ -1,7 +1,16 @@
 -- The type of a tree.
-use Rattle.vx_base.specs.PlainType.{PlainType, integer_of, nullability_of}
+use Rattle.vx_base.specs.Integers.{signed_of}
+use Rattle.vx_base.specs.PlainType.{PlainType, integer_of, nullability_of, or_nullable, with_nullability}
 use Rattle.vx_base.specs.PlainType as types
-use Rattle.vx_model.specs.Tree.{Tree, primitive, constant, masked, bit_packed, bit_packed_with, frame_of_reference}
+use Rattle.vx_model.specs.Tree.{Tree, primitive, constant, masked, bit_packed, bit_packed_with, frame_of_reference, zig_zag, dict}
+
+-- the signed type of an integer type's width, as nullable as it
+abbrev pub zig_zag_type : PlainType → PlainType
+zig_zag_type encoded = types.primitive (signed_of (integer_of encoded)) (nullability_of encoded)
+
+-- the values' type, nullable where the values or the codes are
+abbrev pub dict_type : PlainType → PlainType → PlainType
+dict_type codes values = with_nullability values (or_nullable (nullability_of values) (nullability_of codes))
 
 abbrev pub tree_type : Tree → PlainType
 tree_type (primitive p xs valid n) = types.primitive p n
@@ -10,3 +19,5 @@ tree_type (masked child valid) = tree_type child
 tree_type (bit_packed k) = types.primitive k.ptype k.nullability
 tree_type (bit_packed_with k len offset indices values) = types.primitive k.ptype k.nullability
 tree_type (frame_of_reference encoded reference) = types.primitive (integer_of reference.dtype) (nullability_of (tree_type encoded))
+tree_type (zig_zag encoded) = zig_zag_type (tree_type encoded)
+tree_type (dict codes values) = dict_type (tree_type codes) (tree_type values)

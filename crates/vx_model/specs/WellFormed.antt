@@ -6,11 +6,11 @@ use Rattle.vx_base.specs.declared.dtype.Nullability.{Nullability}
 use Rattle.vx_base.specs.declared.dtype.Nullability.TheVariants.{NonNullable, Nullable}
 use Rattle.vx_base.specs.Integers.{lies_in, natural_bits, unsigned_of}
 use Rattle.vx_base.specs.Packed.{packed_size}
-use Rattle.vx_base.specs.PlainType.{PlainType, is_nullable, is_leaf, is_integer, integer_of, nullability_of}
+use Rattle.vx_base.specs.PlainType.{PlainType, is_nullable, is_leaf, is_integer, is_unsigned, integer_of, nullability_of}
 use Rattle.vx_base.specs.PlainType as types
 use Rattle.vx_base.specs.PlainScalar.{PlainScalar, fits}
 use Rattle.vx_base.specs.PlainValue.{PlainValue, null, int, is_null}
-use Rattle.vx_model.specs.Tree.{Tree, Validity, PlainPacked, PlainPatches, primitive, constant, masked, bit_packed, bit_packed_with, frame_of_reference}
+use Rattle.vx_model.specs.Tree.{Tree, Validity, PlainPacked, PlainPatches, primitive, constant, masked, bit_packed, bit_packed_with, frame_of_reference, zig_zag, dict}
 use Rattle.vx_model.specs.Rows.{rows}
 use Rattle.vx_model.specs.TreeType.{tree_type}
 
@@ -65,6 +65,20 @@ pub record IsFrame (encoded : Tree) (reference : PlainScalar) : Type 0 where
   pub fitting : IsTrue (fits reference.dtype reference.value)
   pub encoded_type : tree_type encoded ≡ differences_type reference.dtype (tree_type encoded)
 
+pub record IsZigZag (encoded : Tree) : Type 0 where
+  pub unsigned : IsTrue (is_unsigned (tree_type encoded))
+
+-- a code is null, or a place among so many values
+abbrev pub is_place : ℕ → PlainValue → Bool
+is_place len null = true
+is_place len (int (pos k)) = nat_lt k len
+is_place len (int (negsuc k)) = false
+
+pub record IsDict (codes values : Tree) : Type 0 where
+  pub codes_type : IsTrue (is_integer (tree_type codes))
+  pub values_type : IsTrue (is_leaf (tree_type values))
+  pub places : IsTrue (list_all (is_place (length (rows values))) (rows codes))
+
 -- every row fits the tree's type
 abbrev pub RowsFit : Tree → Type 0
 RowsFit t = IsTrue (list_all (fits (tree_type t)) (rows t))
@@ -78,6 +92,8 @@ WellFormed (bit_packed_with k len offset indices values) =
     WellFormed indices × WellFormed values × IsPatches len offset indices values × IsPacked k × IsPatched k len values
     × RowsFit (bit_packed_with k len offset indices values)
 WellFormed (frame_of_reference encoded reference) = WellFormed encoded × IsFrame encoded reference × RowsFit (frame_of_reference encoded reference)
+WellFormed (zig_zag encoded) = WellFormed encoded × IsZigZag encoded × RowsFit (zig_zag encoded)
+WellFormed (dict codes values) = WellFormed codes × WellFormed values × IsDict codes values × RowsFit (dict codes values)
 
 abbrev pub WellFormedPatches : PlainPatches → Type 0
 WellFormedPatches p = WellFormed p.indices × WellFormed p.values × IsPatches p.array_len p.offset p.indices p.values

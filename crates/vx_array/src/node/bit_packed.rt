@@ -1,11 +1,12 @@
 //! Integers of some bits each, and the values that are wider as patches.
 
-ghost use Rattle.std.specs.Prelude.{◌≡◌, ◌<◌, ◌≤◌, ◌^◌, length, nat_lt, MatchResult, IfSome, IsTrue, map, nat_le, pos};
+ghost use Rattle.std.specs.Prelude.{◌≡◌, ◌<◌, ◌≤◌, ◌^◌, length, true, nat_lt, MatchResult, IfSome, IsTrue, map, nat_le, pos};
 ghost use Rattle.std.specs.List.{list_all};
 ghost use Rattle.vx_base.specs.Answers.{Makes, OrMemory};
 ghost use Rattle.vx_base.specs.Integers.{natural_bits};
 ghost use Rattle.vx_base.specs.Packed.{packed_row, packed_size};
-ghost use Rattle.vx_model.specs.Refusals.{bit_packed_refusal, kept_packed, patches_of_type, patches_length};
+ghost use Rattle.vx_model.specs.Decoded.{zeroed_by};
+ghost use Rattle.vx_model.specs.Refusals.{bit_packed_refusal, kept_packed, validity_length, patches_of_type, patches_length};
 ghost use Rattle.vx_model.specs.Tree.{PlainPacked, plain_packed, packed_of};
 ghost use Rattle.vx_model.specs.WellFormed.{WellFormedPatches};
 ghost use Rattle.vx_base.specs.declared.dtype.Nullability.TheVariants.{NonNullable};
@@ -17,8 +18,9 @@ ghost use Rattle.vx_array.specs.IntsOf.{ptype_of, wholes_of};
 ghost use Rattle.vx_array.specs.TreeOf.{unboxed};
 
 use crate::array::{ArrayRef, Node, Patches};
+use crate::decoded::{Decoded, behind};
 use crate::ints::Ints;
-use crate::node::{Made, has_length, is_allowed, keep};
+use crate::node::{Made, copy_validity, has_length, is_allowed, keep};
 use std::alloc::Global;
 use vx_base::{
     Bytes, DType, IntList, Integer, Mask, Nullability, PType, Refused, VortexError, VortexResult,
@@ -153,13 +155,7 @@ fn known_patches(patches: &Option<Patches>)
 }
 
 // The integers without their patches.
-pub(crate) fn unpacked(
-    alloc: Global,
-    ptype: PType,
-    width: u32,
-    packed: &[u8],
-    len: u64,
-) -> VortexResult<Ints>
+fn unpacked(alloc: Global, ptype: PType, width: u32, packed: &[u8], len: u64) -> VortexResult<Ints>
     requires narrow { IsTrue (nat_le width (natural_bits ptype)) }
     requires sized { length packed.now ≡ packed_size width len }
     ensures { OrMemory result (λ ints. (ptype_of ints ≡ ptype) × (wholes_of ints ≡ below (λ i. pos (packed_row packed.now width i)) len)) }
@@ -192,7 +188,7 @@ fn unpacked_list<T: Integer>(
 }
 
 // The integers with the patches that there are.
-pub(crate) fn written(values: Ints, patches: &Option<Box<Patches>>) -> Ints
+fn written(values: Ints, patches: &Option<Box<Patches>>) -> Ints
     requires integers { IfSome (unboxed patches.now) (λ p. tree_type p.values ≡ types.primitive (ptype_of values) NonNullable) }
     requires rows { IfSome (unboxed patches.now) (λ p. length (wholes_of values) ≡ p.array_len) }
     ensures ptype { ptype_of result ≡ ptype_of values }
@@ -202,4 +198,26 @@ pub(crate) fn written(values: Ints, patches: &Option<Box<Patches>>) -> Ints
         Some(patches) => patches.written(values),
         None => values,
     }
+}
+
+// The rows.
+pub(crate) fn decoded_packed(
+    alloc: Global,
+    ptype: PType,
+    width: u32,
+    packed: &Bytes,
+    len: u64,
+    valid: &Option<Mask>,
+    patches: &Option<Box<Patches>>,
+) -> VortexResult<Decoded>
+    requires narrow { IsTrue (nat_le width (natural_bits ptype)) }
+    requires sized { length packed.now ≡ packed_size width len }
+    requires bits { validity_length valid.now len ≡ true }
+    requires integers { IfSome (unboxed patches.now) (λ p. tree_type p.values ≡ types.primitive ptype NonNullable) }
+    requires rows { IfSome (unboxed patches.now) (λ p. len ≡ p.array_len) }
+    ensures { let k = plain_packed ptype width packed.now len valid.now NonNullable in OrMemory result (λ rows. (ptype_of rows.values ≡ ptype) × (wholes_of rows.values ≡ zeroed_by valid.now (below (λ i. whole_or_zero (packed_or_patch k (unboxed patches.now) i)) len)) × (rows.valid ≡ valid.now)) }
+{
+    let values = unpacked(alloc, ptype, width, packed.as_slice(), len)?;
+    let values = written(values, patches);
+    behind(values, copy_validity(valid, alloc)?)
 }

@@ -9,8 +9,10 @@ ghost use Rattle.vx_base.specs.TypeOf.{type_of};
 ghost use Rattle.vx_model.specs.Plain.{validity};
 ghost use Rattle.vx_model.specs.Tree.{constant};
 ghost use Rattle.vx_array.specs.IntsOf.{ptype_of, wholes_of};
+ghost use Rattle.vx_array.specs.IsDecoded.{IsDecoded};
 
 use crate::array::{ArrayRef, Node};
+use crate::decoded::Decoded;
 use crate::ints::Ints;
 use std::alloc::Global;
 use vx_base::{DType, Mask, Scalar, VortexResult};
@@ -32,7 +34,7 @@ impl ArrayRef {
 
 // The value in every row as whole numbers, 0 where it is null.
 #[tactic(auto, using(vx_model::proofs::DecodeLemmas::decodes))]
-pub(crate) fn decoded_constant(alloc: Global, value: &Scalar, len: u64) -> VortexResult<Ints>
+fn constant_wholes(alloc: Global, value: &Scalar, len: u64) -> VortexResult<Ints>
     ensures { OrMemory result (λ ints. (ptype_of ints ≡ integer_of value.now.dtype) × (wholes_of ints ≡ map whole_or_zero (replicate len value.now.value))) }
 {
     value.known();
@@ -45,15 +47,20 @@ pub(crate) fn decoded_constant(alloc: Global, value: &Scalar, len: u64) -> Vorte
 
 // Bits where the value is null and there are rows.
 #[tactic(auto, using(vx_model::proofs::DecodeLemmas::decodes))]
-pub(crate) fn validity_of_constant(
-    alloc: Global,
-    value: &Scalar,
-    len: u64,
-) -> VortexResult<Option<Mask>>
+fn validity_of_constant(alloc: Global, value: &Scalar, len: u64) -> VortexResult<Option<Mask>>
     ensures { Answers result (validity (replicate len value.now.value)) }
 {
     if !value.is_null() || len == 0 {
         return Ok(None);
     }
     Ok(Some(Mask::from_bits(vec![in alloc; false; len as usize]?)))
+}
+
+// The rows.
+pub(crate) fn decoded_constant(alloc: Global, value: &Scalar, len: u64) -> VortexResult<Decoded>
+    ensures { OrMemory result (λ rows. IsDecoded (constant value.now len) rows) }
+{
+    let values = constant_wholes(alloc, value, len)?;
+    let valid = validity_of_constant(alloc, value, len)?;
+    Ok(Decoded { values, valid })
 }

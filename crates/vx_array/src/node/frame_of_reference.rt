@@ -1,18 +1,20 @@
 //! Integers, each less a reference.
 
-ghost use Rattle.std.specs.Prelude.{◌≡◌, ◌+ℤ◌, IsTrue, IfSome, false, map};
+ghost use Rattle.std.specs.Prelude.{◌≡◌, ◌+ℤ◌, IsTrue, IfSome, true, false, length, map};
 ghost use Rattle.vx_base.specs.Answers.{Makes, OrMemory};
 ghost use Rattle.vx_base.specs.declared.ptype.PType.TheVariants.{U64};
 ghost use Rattle.vx_base.specs.Integers.{lies_in, unsigned_of};
 ghost use Rattle.vx_base.specs.PlainType.{integer_of};
 ghost use Rattle.vx_base.specs.PlainValue.{cell, is_null, whole_or_zero};
 ghost use Rattle.vx_base.specs.Wrapping.{wrap};
-ghost use Rattle.vx_model.specs.Refusals.{for_refusal};
+ghost use Rattle.vx_model.specs.Decoded.{zeroed_by};
+ghost use Rattle.vx_model.specs.Refusals.{for_refusal, validity_length};
 ghost use Rattle.vx_model.specs.Rows.{moved};
 ghost use Rattle.vx_model.specs.Tree.{frame_of_reference};
 ghost use Rattle.vx_array.specs.IntsOf.{ptype_of, wholes_of};
 
 use crate::array::{ArrayRef, Node};
+use crate::decoded::{Decoded, behind};
 use crate::ints::Ints;
 use crate::node::Made;
 use crate::slices::summed;
@@ -117,7 +119,7 @@ pub(crate) fn moved_at(reference: &Scalar, difference: Option<i128>) -> Option<i
 }
 
 // The sums of the reference and each difference.
-pub(crate) fn moved(alloc: Global, reference: &Scalar, differences: &Ints) -> VortexResult<Ints>
+fn moved(alloc: Global, reference: &Scalar, differences: &Ints) -> VortexResult<Ints>
     requires not_null { is_null reference.now.value ≡ false }
     requires unsigned { ptype_of differences.now ≡ unsigned_of (integer_of reference.now.dtype) }
     ensures { OrMemory result (λ ints. (ptype_of ints ≡ integer_of reference.now.dtype) × (wholes_of ints ≡ map (λ z. wrap (integer_of reference.now.dtype) (whole_or_zero reference.now.value +ℤ z)) (wholes_of differences.now))) }
@@ -127,4 +129,19 @@ pub(crate) fn moved(alloc: Global, reference: &Scalar, differences: &Ints) -> Vo
         unreachable!();
     };
     differences.moved(alloc, reference.dtype().ptype(), whole)
+}
+
+// The rows, by the rows of the differences.
+pub(crate) fn decoded_moved(
+    alloc: Global,
+    encoded: Decoded,
+    reference: &Scalar,
+) -> VortexResult<Decoded>
+    requires not_null { is_null reference.now.value ≡ false }
+    requires unsigned { ptype_of encoded.values ≡ unsigned_of (integer_of reference.now.dtype) }
+    requires bits { validity_length encoded.valid (length (wholes_of encoded.values)) ≡ true }
+    ensures { OrMemory result (λ rows. (ptype_of rows.values ≡ integer_of reference.now.dtype) × (wholes_of rows.values ≡ zeroed_by encoded.valid (map (λ z. wrap (integer_of reference.now.dtype) (whole_or_zero reference.now.value +ℤ z)) (wholes_of encoded.values))) × (rows.valid ≡ encoded.valid)) }
+{
+    let values = moved(alloc, reference, &encoded.values)?;
+    behind(values, encoded.valid)
 }

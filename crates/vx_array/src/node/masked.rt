@@ -1,13 +1,17 @@
 //! A tree behind a mask.
 
-ghost use Rattle.vx_base.specs.Answers.{Makes};
-ghost use Rattle.vx_model.specs.Refusals.{masked_refusal};
+ghost use Rattle.std.specs.Prelude.{◌≡◌, length, Some};
+ghost use Rattle.vx_base.specs.Answers.{Makes, OrMemory};
+ghost use Rattle.vx_model.specs.Decoded.{zeroed};
+ghost use Rattle.vx_model.specs.Refusals.{masked_refusal, kept};
 ghost use Rattle.vx_model.specs.Tree.{masked};
+ghost use Rattle.vx_array.specs.IntsOf.{ptype_of, wholes_of};
 
 use crate::array::{ArrayRef, Node};
-use crate::node::Made;
+use crate::decoded::Decoded;
+use crate::node::{Made, keep};
 use std::alloc::Global;
-use vx_base::{Mask, Refused, VortexError};
+use vx_base::{Mask, Refused, VortexError, VortexResult};
 
 impl ArrayRef {
     /// The child's rows, null where `valid` is false. Refuses MismatchedTypes where the child isn't of a nullable leaf
@@ -57,4 +61,14 @@ impl ArrayRef {
             }),
         }
     }
+}
+
+// The child's rows behind the mask, where none of them is null.
+pub(crate) fn decoded_masked(alloc: Global, child: Decoded, mask: &Mask) -> VortexResult<Decoded>
+    requires { length mask.now ≡ length (wholes_of child.values) }
+    ensures { OrMemory result (λ rows. (ptype_of rows.values ≡ ptype_of child.values) × (wholes_of rows.values ≡ zeroed mask.now (wholes_of child.values)) × (rows.valid ≡ kept (Some mask.now))) }
+{
+    let values = child.values.zeroed(mask)?;
+    let valid = keep(Some(mask.copy(alloc)?));
+    Ok(Decoded { values, valid })
 }

@@ -1,18 +1,20 @@
 //! Integers, row by row.
 
 ghost use Rattle.std.specs.Prelude.{◌≡◌, ◌<◌, length, slice_index_or, pos, true, if◌then◌else◌};
-ghost use Rattle.vx_base.specs.Answers.{MakesSurely};
+ghost use Rattle.vx_base.specs.Answers.{MakesSurely, OrMemory};
 ghost use Rattle.vx_base.specs.PlainValue.{cell, int, null};
-ghost use Rattle.vx_model.specs.Decoded.{zero_beneath_by};
+ghost use Rattle.vx_model.specs.Decoded.{zeroed_by, zero_beneath_by};
 ghost use Rattle.vx_model.specs.Refusals.{primitive_refusal, validity_length, kept};
 ghost use Rattle.vx_model.specs.Rows.{is_valid_at};
 ghost use Rattle.vx_model.specs.Tree.{primitive};
 ghost use Rattle.vx_array.specs.IntsOf.{ptype_of, wholes_of};
 
 use crate::array::{ArrayRef, Node};
+use crate::decoded::Decoded;
 use crate::ints::Ints;
-use crate::node::{Made, has_length, is_allowed, is_valid, keep};
-use vx_base::{DType, Mask, Nullability, Refused, VortexError};
+use crate::node::{Made, copy_validity, has_length, is_allowed, is_valid, keep};
+use std::alloc::Global;
+use vx_base::{DType, Mask, Nullability, Refused, VortexError, VortexResult};
 
 impl ArrayRef {
     /// A tree of integers, null where `valid` is false. Refuses LengthMismatch where the mask hasn't a bit a row, then
@@ -46,6 +48,20 @@ impl ArrayRef {
             len,
         })
     }
+}
+
+// The rows.
+pub(crate) fn decoded_primitive(
+    alloc: Global,
+    values: &Ints,
+    valid: &Option<Mask>,
+) -> VortexResult<Decoded>
+    requires { validity_length valid.now (length (wholes_of values.now)) ≡ true }
+    ensures { OrMemory result (λ rows. (ptype_of rows.values ≡ ptype_of values.now) × (wholes_of rows.values ≡ zeroed_by valid.now (wholes_of values.now)) × (rows.valid ≡ valid.now)) }
+{
+    let values = values.decoded(alloc, valid)?;
+    let valid = copy_validity(valid, alloc)?;
+    Ok(Decoded { values, valid })
 }
 
 // The integer in a row, none where the row isn't valid.

@@ -8,12 +8,14 @@ use Rattle.vx_base.proofs.PackedLemmas.{packed_size_le}
 use Rattle.vx_model.specs.Rows.{rows, row_at, is_valid_at, index_of, packed_at, packed_or_patch, place_of}
 use Rattle.vx_model.specs.Tree.{plain_packed, packed_of}
 use Rattle.vx_model.specs.WellFormed.{WellFormed, ascend}
+use Rattle.vx_model.proofs.DictLemmas.{length-dict, code_at}
 use Rattle.vx_model.proofs.FrameLemmas.{difference-word}
 use Rattle.vx_model.proofs.PackedLemmas.{length-frame_of_reference}
 use Rattle.vx_model.proofs.PackedOfLemmas.{length-packed_of, row_at-packed_of, packed-packed_of, patches-packed_of}
 use Rattle.vx_model.proofs.PatchLemmas.{none_from-next, place-none, ascend-index}
 use Rattle.vx_model.proofs.PatchedLemmas.{patched-place, patched-fill}
 use Rattle.vx_model.proofs.RowLemmas.{length-primitive, row_at-primitive}
+use Rattle.vx_model.proofs.ZigZagLemmas.{length-zig_zag, encoded-word}
 use Rattle.vx_array.specs.TreeOf.{unboxed}
 use Rattle.vx_array.proofs.AtNode.{at_node}
 use Rattle.vx_array.proofs.Making.{words_where}
@@ -98,6 +100,29 @@ ArrayRef::integer_at-moved_at-requires-clause-held t c =
     let within : c.args.row < length (rows c.in-FoR.encoded.value) = omega (arith, l, rw a.is at c.requires.in_range) in
     words_where c.integer_at-in-FoR.result (row_at (rows c.in-FoR.encoded.value) c.args.row) (c.integer_at-in-FoR.ensures ∙ ap (λ t. row_at (rows t) c.args.row) c.deref-in-FoR.ensures)
     (λ z e. difference-word c.in-FoR.encoded.value c.in-FoR.reference c.args.row z a.well_formed within e)
+
+-- ---- zigzags, and values by codes
+
+pub ArrayRef::integer_at-unzigzagged_at-requires : goal.ArrayRef::integer_at-unzigzagged_at-requires
+ArrayRef::integer_at-unzigzagged_at-requires t c =
+    let encoded = c.in-ZigZag.encoded.value in
+    let a = at_node c.self.view_is c.self.invariant c.in-ZigZag.is in
+    let within : c.args.row < length (rows encoded) = omega (arith, length-zig_zag encoded, rw a.is at c.requires.in_range) in
+    words_where c.integer_at-in-ZigZag.result (row_at (rows encoded) c.args.row) (c.integer_at-in-ZigZag.ensures ∙ ap (λ t. row_at (rows t) c.args.row) c.deref-in-ZigZag.ensures) (λ z e. encoded-word encoded c.args.row z a.well_formed within e)
+
+pub ArrayRef::integer_at-overflow_cast-code : goal.ArrayRef::integer_at-overflow_cast-code
+ArrayRef::integer_at-overflow_cast-code t c =
+    let codes = c.in-Dict.codes.value in
+    let values = c.in-Dict.values.value in
+    let a = at_node c.self.view_is c.self.invariant c.in-Dict.is in
+    let within : c.args.row < length (rows codes) = omega (arith, length-dict codes values, rw a.is at c.requires.in_range) in
+    let code = c.in_ok-code-in-Dict.code in
+    let found : row_at (rows codes) c.args.row ≡ int code = sym (c.in_ok-code-in-Dict.ensures ∙ ap (λ t. row_at (rows t) c.args.row) c.deref-in-Dict-2.ensures) in
+    let place = code_at codes values c.args.row code a.well_formed within found in
+    let few = c.len-places.ensures ∙ ap (λ t. length (rows t)) c.deref-in-Dict.ensures in
+    let small : place.place < c.len-places.result = omega (arith, place.within, few) in
+    let fits : FitsSigned w128 code = search rules in
+    rw (to_z-of_z w128 code fits, place.is) (search rules)
 
 -- ---- the place of a patch
 

@@ -2,9 +2,11 @@ use Rattle.std.proofs.Common.{◌∙◌, sym, ap}
 use Rattle.std.specs.List.{list_any}
 use Rattle.vx_base.specs.PlainValue.{is_null}
 use Rattle.vx_model.specs.Rows.{rows}
+use Rattle.vx_model.proofs.DictDecodeLemmas.{any_null-codes, any_null-dict}
 use Rattle.vx_model.proofs.NullLemmas.{any_null-primitive}
 use Rattle.vx_model.proofs.PackedDecodeLemmas.{any_null-frame_of_reference}
 use Rattle.vx_model.proofs.PackedOfLemmas.{any_null-packed_of}
+use Rattle.vx_model.proofs.ZigZagLemmas.{any_null-zig_zag}
 use Rattle.vx_array.proofs.AtNode.{at_node}
 use Rattle.vx_array.proofs.array.ArrayRef.+has_null.Goals as goal
 
@@ -22,3 +24,23 @@ pub returns-in-FoR : goal.returns-in-FoR
 returns-in-FoR t c =
     let a = at_node c.self.view_is c.self.invariant c.in-FoR.is in
     rw a.is (c.has_null.ensures ∙ ap (λ t. list_any is_null (rows t)) c.deref.ensures ∙ sym (any_null-frame_of_reference c.in-FoR.encoded.value c.in-FoR.field-1))
+
+pub returns-in-ZigZag : goal.returns-in-ZigZag
+returns-in-ZigZag t c =
+    let a = at_node c.self.view_is c.self.invariant c.in-ZigZag.is in
+    rw a.is (c.has_null-in-ZigZag.ensures ∙ ap (λ t. list_any is_null (rows t)) c.deref-in-ZigZag.ensures ∙ sym (any_null-zig_zag c.in-ZigZag.encoded.value))
+
+pub returns-then-has_null : goal.returns-then-has_null
+returns-then-has_null t c =
+    let a = at_node c.self.view_is c.self.invariant c.in-Dict.is in
+    let some = ap (λ t. list_any is_null (rows t)) (sym c.deref-in-Dict.ensures) ∙ sym c.has_null-in-Dict.ensures ∙ c.if-has_null.true in
+    rw a.is (sym (any_null-codes c.in-Dict.codes.value c.in-Dict.values.value some))
+
+pub returns-else-has_null-2 : goal.returns-else-has_null-2
+returns-else-has_null-2 t c =
+    let a = at_node c.self.view_is c.self.invariant c.in-Dict.is in
+    let codes = c.in-Dict.codes.value in
+    let values = c.in-Dict.values.value in
+    let none = ap (λ t. list_any is_null (rows t)) (sym c.deref-in-Dict.ensures) ∙ sym c.has_null-in-Dict.ensures ∙ c.if-has_null.false in
+    let none_of_values = ap (λ t. list_any is_null (rows t)) (sym c.deref-in-Dict-2.ensures) ∙ sym c.has_null-in-Dict-2.ensures ∙ c.if-has_null-2.false in
+    rw a.is (sym (any_null-dict codes values a.well_formed none_of_values ∙ none))

@@ -7,13 +7,13 @@ use Rattle.vx_array.proofs.array.ArrayRef.canonical.Goals as goal
 pub returns-in-Ok : goal.returns-in-Ok
 returns-in-Ok c =
     let t = c.args.self.now in
-    let values = c.in_ok-values.ensures in
+    let rows = c.in_ok-rows.ensures in
     let nullability = c.nullability.ensures ∙ ap nullability_of c.dtype.ensures in
-    MakesSurely_ok _ _ _ _ c.in-Ok.ensures ∙ canonical_tree t _ _ _ values.1 c.in_ok-valid.ensures nullability _ values.0
+    MakesSurely_ok _ _ _ _ c.in-Ok.ensures ∙ canonical_tree t _ _ _ rows.1 rows.2 nullability _ rows.0
 
 pub returns-in-Err : goal.returns-in-Err
 returns-in-Err c =
     let t = c.args.self.now in
-    let values = c.in_ok-values.ensures in
+    let rows = c.in_ok-rows.ensures in
     let nullability = c.nullability.ensures ∙ ap nullability_of c.dtype.ensures in
-    absurd (MakesSurely_err _ _ _ _ (canonical_refusal t _ _ _ values.1 c.in_ok-valid.ensures nullability c.known.ensures) c.in-Err.ensures)
+    absurd (MakesSurely_err _ _ _ _ (canonical_refusal t _ _ _ rows.1 rows.2 nullability c.known.ensures) c.in-Err.ensures)

@@ -1,0 +1,168 @@
+//! Values by their places.
+
+ghost use Rattle.std.specs.Prelude.{◌≡◌, IsTrue, MatchResult, true, length, map, pos};
+ghost use Rattle.std.specs.List.{list_all};
+ghost use Rattle.vx_base.specs.Answers.{Answers, Makes, OrMemory};
+ghost use Rattle.vx_base.specs.PlainType.{is_integer};
+ghost use Rattle.vx_base.specs.PlainValue.{cell};
+ghost use Rattle.vx_model.specs.Decoded.{zeroed_by, picked};
+ghost use Rattle.vx_model.specs.Refusals.{dict_refusal, validity_length};
+ghost use Rattle.vx_array.specs.IntsOf.{ptype_of, wholes_of};
+ghost use Rattle.vx_array.specs.IsDecoded.{validity_by_codes};
+ghost use Rattle.vx_model.specs.Rows.{rows};
+ghost use Rattle.vx_model.specs.Tree.{dict};
+ghost use Rattle.vx_model.specs.TreeType.{tree_type};
+ghost use Rattle.vx_model.specs.WellFormed.{is_place};
+
+use crate::array::{ArrayRef, Node};
+use crate::decoded::Decoded;
+use crate::ints::Ints;
+use crate::node::{Made, keep};
+use std::alloc::Global;
+use vx_base::{Mask, Refused, VortexError, VortexResult};
+
+impl ArrayRef {
+    /// The value at each code's place in `values`; null where the code or that value is. Child 0: `codes`, as many
+    /// rows; child 1: `values`. The type is the values', nullable where the values or the codes are. Refuses
+    /// MismatchedTypes where the codes are no integers or the values not of a leaf type, then OutOfBounds where a code
+    /// that isn't null is no place of a value.
+    #[tactic(auto, using(crate::proofs::Making::dict_array))]
+    pub fn dict(alloc: Global, codes: ArrayRef, values: ArrayRef) -> Made<(ArrayRef, ArrayRef)>
+        ensures { Makes (dict_refusal codes values) (dict codes values) (codes, values) result }
+    {
+        if let Some(error) = refusal(alloc, &codes, &values) {
+            return Err(Refused {
+                error,
+                inputs: (codes, values),
+            });
+        }
+        let nullability = values.dtype().nullability().or(codes.dtype().nullability());
+        let own_type = match values.dtype().with_nullability(alloc, nullability) {
+            Ok(own_type) => own_type,
+            Err(error) => {
+                return Err(Refused {
+                    error,
+                    inputs: (codes, values),
+                });
+            }
+        };
+        let len = codes.len();
+        codes.known();
+        values.known();
+        match boxed(alloc, codes, values) {
+            Ok((codes, values)) => Ok(ArrayRef {
+                node: Node::Dict(codes, values),
+                own_type: Some(own_type),
+                len,
+            }),
+            Err(inputs) => Err(Refused {
+                error: VortexError::NoMemory,
+                inputs,
+            }),
+        }
+    }
+
+    // Whether each row is null or a place among so many values, row by row.
+    fn has_places(&self, values: u64) -> bool
+        requires { IsTrue (is_integer (tree_type self.now)) }
+        ensures { result ≡ list_all (is_place values) (rows self.now) }
+    {
+        for row in 0..self.len() {
+            if !is_place(self.integer_at(row), values) {
+                return false;
+            }
+        }
+        true
+    }
+}
+
+// Why the node isn't made of these.
+fn refusal(alloc: Global, codes: &ArrayRef, values: &ArrayRef) -> Option<VortexError>
+    ensures { result ≡ dict_refusal codes.now values.now }
+{
+    if !codes.dtype().is_integer() || !values.dtype().is_leaf() {
+        return Some(VortexError::MismatchedTypes);
+    }
+    if !have_places(alloc, codes, values.len()) {
+        return Some(VortexError::OutOfBounds);
+    }
+    None
+}
+
+// Whether each code is null or a place among so many values: of the decoded column where there is memory for it.
+fn have_places(alloc: Global, codes: &ArrayRef, values: u64) -> bool
+    requires { IsTrue (is_integer (tree_type codes.now)) }
+    ensures { result ≡ list_all (is_place values) (rows codes.now) }
+{
+    // Without values only nulls are places, and decoded a null is 0.
+    if values == 0 {
+        return codes.has_places(values);
+    }
+    match codes.decoded(alloc) {
+        Ok(rows) => !rows.values.has_outside(values),
+        Err(_) => codes.has_places(values),
+    }
+}
+
+fn is_place(code: Option<i128>, values: u64) -> bool
+    ensures { result ≡ is_place values (cell code) }
+{
+    match code {
+        Some(code) => code >= 0 && code < i128::from(values),
+        None => true,
+    }
+}
+
+// Both in boxes, or as they were where memory is wanting.
+fn boxed(
+    alloc: Global,
+    codes: ArrayRef,
+    values: ArrayRef,
+) -> Result<(Box<ArrayRef>, Box<ArrayRef>), (ArrayRef, ArrayRef)>
+    ensures { MatchResult result (λ boxed. (boxed.0.value ≡ codes) × (boxed.1.value ≡ values)) (λ back. back ≡ (codes, values)) }
+{
+    match Box::new(alloc, codes) {
+        Ok(codes) => match Box::new(alloc, values) {
+            Ok(values) => Ok((codes, values)),
+            Err(failed) => Err((Box::into_inner(codes), failed.value)),
+        },
+        Err(failed) => Err((failed.value, values)),
+    }
+}
+
+// The validity of rows by their codes, of the codes' validity and the values'.
+fn valid_codes(
+    alloc: Global,
+    codes: &Ints,
+    valid: Option<Mask>,
+    value_bits: &Option<Mask>,
+) -> VortexResult<Option<Mask>>
+    ensures { Answers result (validity_by_codes (ptype_of codes.now) (wholes_of codes.now) valid value_bits.now) }
+{
+    match value_bits {
+        Some(bits) => Ok(keep(Some(codes.picks_valid(alloc, &valid, bits)?))),
+        None => Ok(valid),
+    }
+}
+
+// The rows, by the rows of the codes and of the values.
+pub(crate) fn decoded_by_codes(
+    alloc: Global,
+    codes: Decoded,
+    values: Decoded,
+) -> VortexResult<Decoded>
+    requires { validity_length codes.valid (length (wholes_of codes.values)) ≡ true }
+    ensures { OrMemory result (λ rows. (ptype_of rows.values ≡ ptype_of values.values) × (wholes_of rows.values ≡ zeroed_by codes.valid (map (λ code. picked (ptype_of codes.values) (wholes_of values.values) (pos 0) code) (wholes_of codes.values))) × (rows.valid ≡ validity_by_codes (ptype_of codes.values) (wholes_of codes.values) codes.valid values.valid)) }
+{
+    let picked = values.values.picked(alloc, &codes.values)?;
+    let picked = picked.zeroed_by(&codes.valid)?;
+    let Decoded {
+        values: codes,
+        valid,
+    } = codes;
+    let valid = valid_codes(alloc, &codes, valid, &values.valid)?;
+    Ok(Decoded {
+        values: picked,
+        valid,
+    })
+}

@@ -1,0 +1,142 @@
+-- What the decoding of a dict node has to show: whole numbers with 0 beneath nulls, and validity; and where a row is null.
+use Rattle.std.proofs.Common.{◌≡◌, ◌<◌, ◌∙◌, ℕ, zero, suc, ℤ, pos, negsuc, List, [], ◌∷◌, length, map, refl, ap, sym, arith, Bool, true, false, cond, Some, None}
+use Rattle.std.specs.Prelude.{◌&&◌, ◌||◌, not, slice_index_or}
+use Rattle.std.specs.List.{list_all, list_any, range_with_len}
+use Rattle.std.proofs.lemmas.Bool.{and_parts, cond_both, or_parts, ltb-true}
+use Rattle.std.proofs.lemmas.List.{length-map, get_or-map}
+use Rattle.std.proofs.lemmas.List.FromFn.{fill_by_all}
+use Rattle.vx_base.specs.declared.ptype.PType.{PType}
+use Rattle.vx_base.specs.PlainType.{PlainType, integer_of}
+use Rattle.vx_base.specs.PlainType as types
+use Rattle.vx_base.specs.PlainValue.{PlainValue, null, int, is_null, whole_or_zero}
+use Rattle.vx_model.specs.Tree.{Tree, dict}
+use Rattle.vx_model.specs.Decoded.{zeroed, zeroed_by, picked, picks_valid}
+use Rattle.vx_model.specs.Plain.{validity, valid_bits}
+use Rattle.vx_model.specs.Refusals.{kept}
+use Rattle.vx_model.specs.Rows.{rows, row_at, looked_up, is_valid_at}
+use Rattle.vx_model.specs.TreeType.{dict_type}
+use Rattle.vx_model.specs.WellFormed.{WellFormed, is_place}
+use Rattle.vx_model.proofs.DecodeLemmas.{length-valid_bits, all_valid_bits}
+use Rattle.vx_model.proofs.FrameLemmas.{row_passes}
+
+-- ---- whole numbers
+
+whole_at : (vs : List PlainValue) (k : ℕ) → whole_or_zero (row_at vs k) ≡ slice_index_or (map whole_or_zero vs) k (pos 0)
+whole_at [] k = refl
+whole_at (v ∷ vs) zero = refl
+whole_at (v ∷ vs) (suc k) = whole_at vs k
+
+module _ (p : PType) (vs : List PlainValue) where
+  abbrev picked_whole : ℤ → ℤ
+  picked_whole z = picked p (map whole_or_zero vs) (pos 0) z
+
+  wholes_bits : (rs : List PlainValue) → list_all (is_place (length vs)) rs ≡ true → map whole_or_zero (map (looked_up vs) rs) ≡ zeroed (valid_bits rs) (map picked_whole (map whole_or_zero rs))
+  wholes_bits [] h = refl
+  wholes_bits (null ∷ rs) h = ap (λ xs. pos 0 ∷ xs) (wholes_bits rs h)
+  wholes_bits (int (pos k) ∷ rs) h = λ i. whole_at vs k i ∷ wholes_bits rs (and_parts _ _ h).1 i
+  wholes_bits (int (negsuc k) ∷ rs) h = absurd cc
+
+  wholes_all : (rs : List PlainValue) → list_all (is_place (length vs)) rs ≡ true → list_any is_null rs ≡ false → map whole_or_zero (map (looked_up vs) rs) ≡ map picked_whole (map whole_or_zero rs)
+  wholes_all [] h e = refl
+  wholes_all (null ∷ rs) h e = absurd cc
+  wholes_all (int (pos k) ∷ rs) h e = λ i. whole_at vs k i ∷ wholes_all rs (and_parts _ _ h).1 e i
+  wholes_all (int (negsuc k) ∷ rs) h e = absurd cc
+
+pub wholes-dict : (codes values : Tree) (p : PType) → WellFormed (dict codes values)
+    → map whole_or_zero (rows (dict codes values)) ≡ zeroed_by (validity (rows codes)) (map (picked p (map whole_or_zero (rows values)) (pos 0)) (map whole_or_zero (rows codes)))
+wholes-dict codes values p h =
+    cond_both (list_any is_null (rows codes)) (Some (valid_bits (rows codes))) None
+    (λ valid. map whole_or_zero (rows (dict codes values)) ≡ zeroed_by valid (map (picked p (map whole_or_zero (rows values)) (pos 0)) (map whole_or_zero (rows codes))))
+    (λ some. wholes_bits p (rows values) (rows codes) h.2.places) (λ none. wholes_all p (rows values) (rows codes) h.2.places none)
+
+-- ---- nulls, where no value is null
+
+valid_value : (vs : List PlainValue) (k : ℕ) → k < length vs → list_any is_null vs ≡ false → is_null (row_at vs k) ≡ false
+valid_value [] k l e = absurd (omega arith)
+valid_value (v ∷ vs) zero l e = (or_parts _ _ e).0
+valid_value (v ∷ vs) (suc k) l e = valid_value vs k (omega arith) (or_parts _ _ e).1
+
+module _ (vs : List PlainValue) (none : list_any is_null vs ≡ false) where
+  is_null-looked_up : (r : PlainValue) → is_place (length vs) r ≡ true → is_null (looked_up vs r) ≡ is_null r
+  is_null-looked_up null h = refl
+  is_null-looked_up (int (pos k)) h = valid_value vs k (ltb-true _ _ h) none
+  is_null-looked_up (int (negsuc k)) h = absurd cc
+
+  any_null-looked_up : (rs : List PlainValue) → list_all (is_place (length vs)) rs ≡ true → list_any is_null (map (looked_up vs) rs) ≡ list_any is_null rs
+  any_null-looked_up [] h = refl
+  any_null-looked_up (r ∷ rs) h = let b = and_parts _ _ h in rw (is_null-looked_up r b.0, any_null-looked_up rs b.1) refl
+
+  bits-looked_up : (rs : List PlainValue) → list_all (is_place (length vs)) rs ≡ true → valid_bits (map (looked_up vs) rs) ≡ valid_bits rs
+  bits-looked_up [] h = refl
+  bits-looked_up (r ∷ rs) h = let b = and_parts _ _ h in λ i. not (is_null-looked_up r b.0 i) ∷ bits-looked_up rs b.1 i
+
+-- a null code's row is null
+any_null-code : (vs rs : List PlainValue) → list_any is_null rs ≡ true → list_any is_null (map (looked_up vs) rs) ≡ true
+any_null-code vs [] e = absurd cc
+any_null-code vs (null ∷ rs) e = refl
+any_null-code vs (int z ∷ rs) e = right (is_null (looked_up vs (int z))) (any_null-code vs rs e)
+  where
+    right : (b : Bool) → list_any is_null (map (looked_up vs) rs) ≡ true → (b || list_any is_null (map (looked_up vs) rs)) ≡ true
+    right true h = refl
+    right false h = h
+
+pub any_null-codes : (codes values : Tree) → list_any is_null (rows codes) ≡ true → list_any is_null (rows (dict codes values)) ≡ true
+any_null-codes codes values e = any_null-code (rows values) (rows codes) e
+
+module _ (codes values : Tree) (h : WellFormed (dict codes values)) where
+  pub any_null-dict : list_any is_null (rows values) ≡ false → list_any is_null (rows (dict codes values)) ≡ list_any is_null (rows codes)
+  any_null-dict none = any_null-looked_up (rows values) none (rows codes) h.2.places
+
+  pub validity-dict_codes : list_any is_null (rows values) ≡ false → validity (rows (dict codes values)) ≡ validity (rows codes)
+  validity-dict_codes none = rw (any_null-looked_up (rows values) none (rows codes) h.2.places, bits-looked_up (rows values) none (rows codes) h.2.places) refl
+
+-- ---- validity, row by row
+
+no_null_at : (rs : List PlainValue) (k : ℕ) → k < length rs → list_any is_null rs ≡ false → true ≡ not (is_null (row_at rs k))
+no_null_at rs k l e = ap not (sym (valid_value rs k l e))
+
+valid_at : (rs : List PlainValue) (k : ℕ) → k < length rs → is_valid_at (validity rs) k ≡ not (is_null (row_at rs k))
+valid_at rs k l =
+    cond_both (list_any is_null rs) (Some (valid_bits rs)) None (λ valid. is_valid_at valid k ≡ not (is_null (row_at rs k)))
+    (λ some. get_or-map (λ v. not (is_null v)) rs k null false l) (λ none. no_null_at rs k l none)
+
+bit_at : (vs : List PlainValue) (k : ℕ) → not (is_null (row_at vs k)) ≡ slice_index_or (valid_bits vs) k false
+bit_at [] k = refl
+bit_at (v ∷ vs) zero = refl
+bit_at (v ∷ vs) (suc k) = bit_at vs k
+
+module _ (p : PType) (vs : List PlainValue) where
+  picks : (r : PlainValue) → is_place (length vs) r ≡ true → not (is_null (looked_up vs r)) ≡ (not (is_null r) && picked p (valid_bits vs) false (whole_or_zero r))
+  picks null h = refl
+  picks (int (pos k)) h = bit_at vs k
+  picks (int (negsuc k)) h = absurd cc
+
+  bit_of_row : (rs : List PlainValue) (k : ℕ) → list_all (is_place (length vs)) rs ≡ true → k < length rs
+      → slice_index_or (valid_bits (map (looked_up vs) rs)) k false ≡ picks_valid p (valid_bits vs) (validity rs) (map whole_or_zero rs) k
+  bit_of_row rs k h l =
+      let r = row_at rs k in
+      let within = length-map rs (looked_up vs) in
+      let bit = get_or-map (λ v. not (is_null v)) (map (looked_up vs) rs) k null false (omega (arith, within)) in
+      let row = ap (λ v. not (is_null v)) (get_or-map (looked_up vs) rs k null null l) in
+      let valid = valid_at rs k l in
+      let whole = get_or-map whole_or_zero rs k null (pos 0) l in
+      bit ∙ row ∙ picks r (row_passes (is_place (length vs)) rs k l h) ∙ (λ i. sym valid i && picked p (valid_bits vs) false (sym whole i))
+
+kept-valid_bits : (rs : List PlainValue) → kept (Some (valid_bits rs)) ≡ validity rs
+kept-valid_bits rs = rw (all_valid_bits rs) (turned (list_any is_null rs))
+  where
+    turned : (b : Bool) → cond (not b) None (Some (valid_bits rs)) ≡ cond b (Some (valid_bits rs)) None
+    turned true = refl
+    turned false = refl
+
+pub validity-dict : (codes values : Tree) (p : PType) → WellFormed (dict codes values)
+    → kept (Some (map (picks_valid p (valid_bits (rows values)) (validity (rows codes)) (map whole_or_zero (rows codes))) (range_with_len 0 (length (rows codes))))) ≡ validity (rows (dict codes values))
+validity-dict codes values p h =
+    let rs = rows (dict codes values) in
+    let len = length-valid_bits rs ∙ length-map (rows codes) (looked_up (rows values)) in
+    let bits = fill_by_all (picks_valid p (valid_bits (rows values)) (validity (rows codes)) (map whole_or_zero (rows codes))) (valid_bits rs) (length (rows codes)) false len
+    (λ k l. bit_of_row p (rows values) (rows codes) k h.2.places l) in
+    ap (λ b. kept (Some b)) (sym bits) ∙ kept-valid_bits rs
+
+pub integer_of-dict : (codes values : PlainType) → integer_of (dict_type codes values) ≡ integer_of values
+integer_of-dict codes (types.primitive p n) = refl
