@@ -1,3 +1,4 @@
+pub mod DistinctLemmas
 pub mod NullLemmas
 pub mod RatioLemmas
 pub mod StandardFacts

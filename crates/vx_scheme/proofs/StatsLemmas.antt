@@ -10,12 +10,13 @@ use Rattle.vx_base.specs.declared.ptype.PType.{PType}
 use Rattle.vx_base.specs.Integers.{lies_in, least, greatest, is_signed, natural_bits, least_where}
 use Rattle.vx_base.specs.PlainValue.{PlainValue, null, int, is_null}
 use Rattle.vx_model.specs.Rows.{masked_rows}
-use Rattle.vx_scheme.specs.Stats.{valid_wholes, value_count, null_count, least_in, greatest_in, runs_after, run_count}
+use Rattle.vx_scheme.specs.Stats.{valid_wholes, value_count, null_count, least_in, greatest_in, runs_after, run_count, distinct_counts, distinct_info}
+use Rattle.vx_scheme.specs.declared.options.GenerateStatsOptions.{GenerateStatsOptions}
 use Rattle.vx_scheme.specs.Tally.{IsTallyAfter, IsTally}
 use Rattle.vx_scheme.specs.declared.stats.tally.Tally.{Tally}
 use Rattle.vx_base.specs.Masks.{true_count}
 use Rattle.vx_model.proofs.RowLemmas.{length-masked_rows}
-use Rattle.std.proofs.lemmas.Bool.{cond_both, ltb-true, ltb-false}
+use Rattle.std.proofs.lemmas.Bool.{cond_both, cond-true, and_from, lt-ltb, ltb-true, ltb-false}
 use Rattle.std.proofs.lemmas.List.Sums.{sum_by-cons}
 use Rattle.vx_scheme.proofs.TallyLemmas.{same-eq, left}
 
@@ -139,3 +140,8 @@ ordered p vs some =
     let low = (fold-int_min_bounds (greatest p) (valid_wholes vs) _ refl).1 0 (pos 0) some in
     let high = (fold-int_max_bounds (least p) (valid_wholes vs) _ refl).1 0 (pos 0) some in
     omega (arith, ints, low, high)
+
+-- ---- distinct values are told where they are asked for and there is a row
+
+pub distinct-told : (options : GenerateStatsOptions) (vs : List PlainValue) → options.count_distinct_values ≡ true → 0 < length vs → distinct_info options vs ≡ Some (distinct_counts vs)
+distinct-told options vs asked some = cond-true _ _ _ (and_from _ _ asked (lt-ltb 0 (length vs) some))

@@ -19,7 +19,7 @@ ap-cond f false x y = refl
 -- ---- the order of an integer type is that of the whole numbers
 
 module _ {T : Type 0} (whole : T → ℤ) (cmp : T → T → Ordering) (ordered : (a b : T) → cmp a b ≡ int_cmp (whole a) (whole b)) where
-  less : (a b : T) → is_lt (cmp a b) ≡ int_lt (whole a) (whole b)
+  pub less : (a b : T) → is_lt (cmp a b) ≡ int_lt (whole a) (whole b)
   less a b = ap is_lt (ordered a b) ∙ is_lt-int_cmp (whole a) (whole b)
 
   pub whole-min : (a b : T) → whole (ord_min cmp a b) ≡ int_min (whole a) (whole b)

@@ -1,9 +1,9 @@
--- The type and the extremes of statistics of any integer type.
-use Rattle.std.specs.Prelude.{ℕ, ◌-◌, ◌==◌, if◌then◌else◌, Option, None, Some}
+-- The type, the extremes and the distinct values of statistics of any integer type.
+use Rattle.std.specs.Prelude.{ℕ, ◌-◌, ◌==◌, ℤ, if◌then◌else◌, List, Option, None, Some}
 use Rattle.vx_base.specs.Digits.{digits}
 use Rattle.vx_base.specs.declared.ptype.PType.{PType}
 use Rattle.vx_base.specs.declared.ptype.PType.TheVariants as kinds
-use Rattle.vx_scheme.specs.Stats.{Extremes}
+use Rattle.vx_scheme.specs.Stats.{Extremes, PlainTyped}
 use Rattle.vx_scheme.specs.declared.stats.erased.ErasedStats.{ErasedStats}
 use Rattle.vx_scheme.specs.declared.stats.erased.ErasedStats.TheVariants.{U8, U16, U32, U64, I8, I16, I32, I64}
 
@@ -17,15 +17,21 @@ kind_of (I16 e) = kinds.I16
 kind_of (I32 e) = kinds.I32
 kind_of (I64 e) = kinds.I64
 
+abbrev pub typed_of : ErasedStats → PlainTyped
+typed_of (U8 e) = e
+typed_of (U16 e) = e
+typed_of (U32 e) = e
+typed_of (U64 e) = e
+typed_of (I8 e) = e
+typed_of (I16 e) = e
+typed_of (I32 e) = e
+typed_of (I64 e) = e
+
 abbrev pub extremes_of : ErasedStats → Extremes
-extremes_of (U8 e) = e
-extremes_of (U16 e) = e
-extremes_of (U32 e) = e
-extremes_of (U64 e) = e
-extremes_of (I8 e) = e
-extremes_of (I16 e) = e
-extremes_of (I32 e) = e
-extremes_of (I64 e) = e
+extremes_of stats = (typed_of stats).extremes
+
+abbrev pub distinct_of : ErasedStats → Option (List (ℤ × ℕ))
+distinct_of stats = (typed_of stats).distinct
 
 -- the greatest k with 2^k at most n, of n below 2^64; none of 0
 abbrev pub log2_of : ℕ → Option ℕ

@@ -3,8 +3,10 @@ pub mod Asked
 pub mod Bundle
 pub mod Contexts
 pub mod Counts
+pub mod Distinct
 pub mod Erased
 pub mod Excluded
+pub mod Frequent
 pub mod Keeping
 pub mod Lawful
 pub mod Meaning
@@ -13,6 +15,7 @@ pub mod NoMeaning
 pub mod Options
 pub mod Resolved
 pub mod Rules
+pub mod Runs
 pub mod Scores
 pub mod Selects
 pub mod Stats

@@ -1,6 +1,10 @@
 -- Options of statistics: what either of two asks for, and when one asks for all that another asks for.
-use Rattle.std.specs.Prelude.{Bool, not, ◌||◌}
+use Rattle.std.specs.Prelude.{Bool, false, not, ◌||◌}
 use Rattle.vx_scheme.specs.declared.options.GenerateStatsOptions.{GenerateStatsOptions}
+
+-- nothing beyond what always comes
+abbrev pub no_options : GenerateStatsOptions
+no_options = record { count_distinct_values = false }
 
 -- what either asks for
 abbrev pub merge_of : GenerateStatsOptions → GenerateStatsOptions → GenerateStatsOptions

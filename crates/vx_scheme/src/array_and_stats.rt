@@ -38,7 +38,7 @@ impl Model for ArrayAndStats {
 
     ghost view = { λ a. record { array = a.array; options = a.opts; integers_kept = is_some a.integers } };
 
-    ghost invariant = { λ a. IsPlain a.array × IfSome a.integers (λ stats. stats ≡ stats_of (integer_of (tree_type a.array)) (rows a.array)) };
+    ghost invariant = { λ a. IsPlain a.array × IfSome a.integers (λ stats. stats ≡ stats_of a.opts (integer_of (tree_type a.array)) (rows a.array)) };
 }
 
 impl ArrayAndStats {
@@ -84,12 +84,12 @@ impl ArrayAndStats {
         self.opts
     }
 
-    /// The statistics of an array of integers, kept from now on. Where they aren't kept yet, refuses TooManyRows exactly
+    /// The statistics of an array of integers with what the options ask for, kept from now on. Where they aren't kept yet, refuses TooManyRows exactly
     /// above 2^32 - 1 rows, and NoMemory. The context stays as it was.
     pub fn integer_stats(&mut self, ctx: &mut ExecutionCtx) -> VortexResult<&IntegerStats>
         requires { IsTrue (is_integer (tree_type self.old.array)) }
         ensures* kept { sem 𝓛 (LendsIntegers self.entry (is_ok result)) }
-        ensures answer { KeptOrDecided self.old.integers_kept (stats_refusal (rows self.old.array)) (λ stats. stats.now ≡ stats_of (integer_of (tree_type self.old.array)) (rows self.old.array)) result }
+        ensures answer { KeptOrDecided self.old.integers_kept (stats_refusal (rows self.old.array)) (λ stats. stats.now ≡ stats_of self.old.options (integer_of (tree_type self.old.array)) (rows self.old.array)) result }
         ensures ctx { ctx.new ≡ ctx.old }
     {
         if self.integers.is_none() {

@@ -27,7 +27,9 @@ pub use scheme::Scheme;
 pub use scheme_id::SchemeId;
 pub use selection::ChildSelection;
 pub use split::Split;
-pub use stats::{ErasedStats, IntegerStats, TypedStats};
+pub use stats::{
+    Counts, DistinctInfo, ErasedStats, IntegerStats, PValue, TypedStats, laws_of_distinct,
+};
 
 /// How many schemes may follow one another below the first.
 pub const MAX_CASCADE: usize = 3;

@@ -1,7 +1,7 @@
 //! Statistics of columns.
 
-ghost use Rattle.std.specs.Prelude.{◌≡◌, ◌<◌, ◌^◌, ◌≤ℤ◌, length, map, true, IsTrue};
-ghost use Rattle.vx_base.specs.Answers.{Decided};
+ghost use Rattle.std.specs.Prelude.{◌≡◌, ◌<◌, ◌^◌, ◌≤ℤ◌, length, map, true, IsTrue, option_map};
+ghost use Rattle.vx_base.specs.Answers.{Decided, Answers};
 ghost use Rattle.vx_base.specs.PlainType.{is_integer, integer_of};
 ghost use Rattle.vx_base.specs.PlainValue.{int};
 ghost use Rattle.vx_model.specs.Plain.{IsPlain};
@@ -9,25 +9,33 @@ ghost use Rattle.vx_model.specs.Refusals.{validity_length};
 ghost use Rattle.vx_model.specs.Rows.{rows, valid_rows};
 ghost use Rattle.vx_model.specs.TreeType.{tree_type};
 ghost use Rattle.vx_array.specs.IntsOf.{ptype_of, wholes_of};
+ghost use Rattle.vx_scheme.specs.Frequent.{frequent_value};
+ghost use Rattle.vx_scheme.specs.Options.{no_options};
 ghost use Rattle.vx_scheme.specs.Stats.{stats_of, stats_refusal};
 
+mod counting;
 mod counts;
+mod distinct;
 mod erased;
 mod tally;
 mod typed;
+mod value;
 
 use crate::options::GenerateStatsOptions;
-use counts::{Counts, summary};
+use counts::{RowCounts, summary};
+pub use distinct::{Counts, DistinctInfo, laws_of_distinct};
 pub use erased::ErasedStats;
+use std::alloc::Global;
 use std::marker::Model;
 pub use typed::TypedStats;
+pub use value::PValue;
 use vx_array::{ArrayRef, Ints, Node};
 use vx_base::{ExecutionCtx, Mask, VortexError, VortexResult};
 
 /// Statistics of a column of integers. Contracts see them as plain data.
 #[derive(Debug, Drop)]
 pub struct IntegerStats {
-    counts: Counts,
+    counts: RowCounts,
     erased: ErasedStats,
 }
 
@@ -37,20 +45,20 @@ impl Model for IntegerStats {
 
     ghost Value = { PlainStats };
 
-    ghost use Rattle.vx_scheme.specs.Erased.{kind_of, extremes_of};
+    ghost use Rattle.vx_scheme.specs.Erased.{kind_of, extremes_of, distinct_of};
 
-    ghost view = { λ a. record { ptype = kind_of a.erased; null_count = a.counts.null_count; value_count = a.counts.value_count; average_run_length = a.counts.average_run_length; extremes = extremes_of a.erased } };
+    ghost view = { λ a. record { ptype = kind_of a.erased; null_count = a.counts.null_count; value_count = a.counts.value_count; average_run_length = a.counts.average_run_length; extremes = extremes_of a.erased; distinct = distinct_of a.erased } };
 
     ghost invariant = { λ a. 0 < a.counts.value_count → (extremes_of a.erased).least ≤ℤ (extremes_of a.erased).greatest };
 }
 
 impl IntegerStats {
-    ghost use Rattle.vx_scheme.specs.Erased.{kind_of, extremes_of};
+    ghost use Rattle.vx_scheme.specs.Erased.{kind_of, extremes_of, distinct_of};
 
-    /// The statistics with no more than the plain counts.
+    /// The statistics without distinct values.
     pub fn generate(input: &ArrayRef, ctx: &mut ExecutionCtx) -> VortexResult<IntegerStats>
         requires { IsTrue (is_integer (tree_type input.now)) }
-        ensures answer { Decided (stats_refusal (rows input.now)) (λ stats. stats ≡ stats_of (integer_of (tree_type input.now)) (rows input.now)) result }
+        ensures answer { Decided (stats_refusal (rows input.now)) (λ stats. stats ≡ stats_of no_options (integer_of (tree_type input.now)) (rows input.now)) result }
         ensures ctx { ctx.new ≡ ctx.old }
     {
         let opts = GenerateStatsOptions {
@@ -59,29 +67,30 @@ impl IntegerStats {
         IntegerStats::generate_opts(input, opts, ctx)
     }
 
-    /// The statistics of a tree of integers, which is decoded where its root isn't a Primitive. Refuses TooManyRows
-    /// exactly above 2^32 - 1 rows, before it decodes, and NoMemory. The context stays as it was.
+    /// The statistics of a tree of integers, which is decoded where its root isn't a Primitive, with its distinct values
+    /// where the options ask for them and it has a row. Refuses TooManyRows exactly above 2^32 - 1 rows, before it
+    /// decodes, and NoMemory. The context stays as it was.
     pub fn generate_opts(
         input: &ArrayRef,
-        _opts: GenerateStatsOptions,
+        opts: GenerateStatsOptions,
         ctx: &mut ExecutionCtx,
     ) -> VortexResult<IntegerStats>
         requires { IsTrue (is_integer (tree_type input.now)) }
-        ensures answer { Decided (stats_refusal (rows input.now)) (λ stats. stats ≡ stats_of (integer_of (tree_type input.now)) (rows input.now)) result }
+        ensures answer { Decided (stats_refusal (rows input.now)) (λ stats. stats ≡ stats_of opts (integer_of (tree_type input.now)) (rows input.now)) result }
         ensures ctx { ctx.new ≡ ctx.old }
     {
         if input.len() > u64::from(u32::MAX) {
             return Err(VortexError::TooManyRows);
         }
         match input.node() {
-            Node::Primitive(values, valid, _) => Ok(stats_of_ints(values, valid)),
-            _ => Ok(stats_of_plain(&input.canonical(ctx.alloc())?)),
+            Node::Primitive(values, valid, _) => stats_of_ints(ctx.alloc(), values, valid, opts),
+            _ => stats_of_plain(ctx.alloc(), &input.canonical(ctx.alloc())?, opts),
         }
     }
 
-    fn new(counts: Counts, erased: ErasedStats) -> Self
+    fn new(counts: RowCounts, erased: ErasedStats) -> Self
         requires { 0 < counts.value_count → (extremes_of erased).least ≤ℤ (extremes_of erased).greatest }
-        ensures { result ≡ record { ptype = kind_of erased; null_count = counts.null_count; value_count = counts.value_count; average_run_length = counts.average_run_length; extremes = extremes_of erased } }
+        ensures { result ≡ record { ptype = kind_of erased; null_count = counts.null_count; value_count = counts.value_count; average_run_length = counts.average_run_length; extremes = extremes_of erased; distinct = distinct_of erased } }
     {
         IntegerStats { counts, erased }
     }
@@ -107,10 +116,26 @@ impl IntegerStats {
         self.counts.average_run_length
     }
 
-    /// The least and the greatest value.
+    /// How many distinct values there are, where they were asked for and there is a row.
+    pub fn distinct_count(&self) -> Option<u32>
+        ensures { result ≡ option_map length self.now.distinct }
+    {
+        self.erased.distinct_count()
+    }
+
+    /// The least of the most frequent values with its count, where distinct values are told. Without a value it is 0,
+    /// which occurs 0 times.
+    pub fn most_frequent_value_and_count(&self) -> Option<(PValue, u32)>
+        ensures { result ≡ frequent_value self.now.ptype self.now.distinct }
+    {
+        self.erased.most_frequent_value_and_count()
+    }
+
+    /// The least and the greatest value, and the distinct ones.
     pub fn erased(&self) -> &ErasedStats
         ensures ptype { kind_of result.now ≡ self.now.ptype }
         ensures extremes { extremes_of result.now ≡ self.now.extremes }
+        ensures distinct { distinct_of result.now ≡ self.now.distinct }
         ensures ordered { 0 < self.now.value_count → self.now.extremes.least ≤ℤ self.now.extremes.greatest }
     {
         &self.erased
@@ -118,32 +143,41 @@ impl IntegerStats {
 }
 
 macro_rules! stats_by_type {
-    ($values:expr, $valid:expr; $($kind:ident),*) => {
+    ($alloc:expr, $values:expr, $valid:expr, $opts:expr; $($kind:ident),*) => {
         match $values {
             $(Ints::$kind(items) => {
-                let (counts, typed) = summary(items.as_slice(), $valid);
-                IntegerStats::new(counts, ErasedStats::from(typed))
+                let (counts, typed) = summary($alloc, items.as_slice(), $valid, $opts)?;
+                Ok(IntegerStats::new(counts, ErasedStats::from(typed)))
             })*
         }
     };
 }
 
 // The statistics of the valid rows.
-fn stats_of_ints(values: &Ints, valid: &Option<Mask>) -> IntegerStats
+fn stats_of_ints(
+    alloc: Global,
+    values: &Ints,
+    valid: &Option<Mask>,
+    opts: GenerateStatsOptions,
+) -> VortexResult<IntegerStats>
     requires mask { validity_length valid.now (length (wholes_of values.now)) ≡ true }
     requires few { length (wholes_of values.now) < 2 ^ 32 }
-    ensures { result ≡ stats_of (ptype_of values.now) (valid_rows valid.now (map int (wholes_of values.now))) }
+    ensures { Answers result (stats_of opts (ptype_of values.now) (valid_rows valid.now (map int (wholes_of values.now)))) }
 {
-    stats_by_type!(values, valid; U8, U16, U32, U64, I8, I16, I32, I64)
+    stats_by_type!(alloc, values, valid, opts; U8, U16, U32, U64, I8, I16, I32, I64)
 }
 
-fn stats_of_plain(plain: &ArrayRef) -> IntegerStats
+fn stats_of_plain(
+    alloc: Global,
+    plain: &ArrayRef,
+    opts: GenerateStatsOptions,
+) -> VortexResult<IntegerStats>
     requires plain { IsPlain plain.now }
     requires few { length (rows plain.now) < 2 ^ 32 }
-    ensures { result ≡ stats_of (integer_of (tree_type plain.now)) (rows plain.now) }
+    ensures { Answers result (stats_of opts (integer_of (tree_type plain.now)) (rows plain.now)) }
 {
     match plain.node() {
-        Node::Primitive(values, valid, _) => stats_of_ints(values, valid),
+        Node::Primitive(values, valid, _) => stats_of_ints(alloc, values, valid, opts),
         _ => unreachable!(),
     }
 }

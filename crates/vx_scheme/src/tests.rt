@@ -7,6 +7,7 @@ ghost use Rattle.vx_model.specs.Rows.{rows};
 ghost use Rattle.vx_model.specs.TreeType.{tree_type};
 ghost use Rattle.vx_scheme.specs.Asked.{IsSiteTree, HasValue};
 
+mod distinct;
 mod stats;
 
 use crate::{

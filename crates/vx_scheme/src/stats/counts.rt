@@ -1,20 +1,24 @@
 //! The statistics of a list of integers.
 
 ghost use Rattle.std.specs.Prelude.{◌≡◌, ◌<◌, ◌/◌, ◌^◌, ◌≤ℤ◌, suc, ℤ, List, length, map, true};
+ghost use Rattle.vx_base.specs.Answers.{OrMemory};
 ghost use Rattle.vx_base.specs.PlainValue.{PlainValue, int};
 ghost use Rattle.vx_model.specs.Refusals.{validity_length};
 ghost use Rattle.vx_model.specs.Rows.{valid_rows};
 ghost use Rattle.vx_scheme.specs.Counts.{counts_of};
-ghost use Rattle.vx_scheme.specs.Stats.{valid_wholes, null_count, value_count, average_run_length, extremes_in};
+ghost use Rattle.vx_scheme.specs.Stats.{valid_wholes, null_count, value_count, average_run_length, extremes_in, extremes_alone, typed_of};
 ghost use Rattle.vx_scheme.specs.Tally.{IsTallyOf};
 
+use crate::options::GenerateStatsOptions;
+use crate::stats::counting::distinct_info;
 use crate::stats::tally::{Tally, tally_rows};
 use crate::stats::typed::TypedStats;
-use vx_base::{Integer, Mask};
+use std::alloc::Global;
+use vx_base::{Integer, Mask, VortexResult};
 
-/// What statistics count.
+/// What statistics count of the rows.
 #[derive(Clone, Copy, Debug)]
-pub(crate) struct Counts {
+pub(crate) struct RowCounts {
     pub(crate) null_count: u32,
     pub(crate) value_count: u32,
     pub(crate) average_run_length: u32,
@@ -42,7 +46,7 @@ fn average(values: u32, changes: u32) -> u32
 
 // The average run length and the extremes of so many values.
 fn shown<T: Integer>(count: u32, tally: Option<Tally<T>>) -> (u32, TypedStats<T>)
-    ensures { (values : List PlainValue) → IsTallyOf T.whole T.kind (valid_wholes values) tally → count ≡ value_count values → (result.0 ≡ average_run_length values) × (result.1 ≡ extremes_in T.kind values) }
+    ensures { (values : List PlainValue) → IsTallyOf T.whole T.kind (valid_wholes values) tally → count ≡ value_count values → (result.0 ≡ average_run_length values) × (result.1 ≡ extremes_alone (extremes_in T.kind values)) }
 {
     match tally {
         Some(tally) => (
@@ -53,20 +57,38 @@ fn shown<T: Integer>(count: u32, tally: Option<Tally<T>>) -> (u32, TypedStats<T>
     }
 }
 
-/// The counts and the extremes of the valid rows.
-pub(crate) fn summary<T: Integer>(items: &[T], valid: &Option<Mask>) -> (Counts, TypedStats<T>)
+// The counts and the extremes of the valid rows.
+fn extremes_summary<T: Integer>(items: &[T], valid: &Option<Mask>) -> (RowCounts, TypedStats<T>)
     requires mask { validity_length valid.now (length items.now) ≡ true }
     requires few { length items.now < 2 ^ 32 }
     ensures counts { result.0 ≡ counts_of (valid_rows valid.now (map int (map T.whole items.now))) }
-    ensures extremes { result.1 ≡ extremes_in T.kind (valid_rows valid.now (map int (map T.whole items.now))) }
-    ensures ordered { 0 < result.0.value_count → result.1.least ≤ℤ result.1.greatest }
+    ensures extremes { result.1 ≡ extremes_alone (extremes_in T.kind (valid_rows valid.now (map int (map T.whole items.now)))) }
+    ensures ordered { 0 < result.0.value_count → result.1.extremes.least ≤ℤ result.1.extremes.greatest }
 {
     let (null_count, value_count) = count_rows(items.len() as u32, valid);
     let (average_run_length, extremes) = shown(value_count, tally_rows(items, valid));
-    let counts = Counts {
+    let counts = RowCounts {
         null_count,
         value_count,
         average_run_length,
     };
     (counts, extremes)
+}
+
+/// The counts, the extremes and, where they are asked for, the distinct values of the valid rows.
+pub(crate) fn summary<T: Integer>(
+    alloc: Global,
+    items: &[T],
+    valid: &Option<Mask>,
+    opts: GenerateStatsOptions,
+) -> VortexResult<(RowCounts, TypedStats<T>)>
+    requires mask { validity_length valid.now (length items.now) ≡ true }
+    requires few { length items.now < 2 ^ 32 }
+    ensures counts { OrMemory result (λ r. r.0 ≡ counts_of (valid_rows valid.now (map int (map T.whole items.now)))) }
+    ensures typed { OrMemory result (λ r. r.1 ≡ typed_of opts T.kind (valid_rows valid.now (map int (map T.whole items.now)))) }
+    ensures ordered { OrMemory result (λ r. 0 < r.0.value_count → r.1.extremes.least ≤ℤ r.1.extremes.greatest) }
+{
+    let (counts, extremes) = extremes_summary(items, valid);
+    let distinct = distinct_info(alloc, items, valid, opts)?;
+    Ok((counts, extremes.with_distinct(distinct)))
 }

@@ -1,12 +1,14 @@
-//! The least and the greatest integer of any type.
+//! The least, the greatest and the distinct integers of any type.
 
-ghost use Rattle.std.specs.Prelude.{◌≡◌, ◌≤ℤ◌, ◌-ℤ◌, pos, int_lt};
+ghost use Rattle.std.specs.Prelude.{◌≡◌, ◌≤ℤ◌, ◌-ℤ◌, pos, int_lt, length, option_map};
 ghost use Rattle.std.specs.Ordering.{int_eq};
 ghost use Rattle.vx_base.specs.Integers.{bits_in};
+ghost use Rattle.vx_scheme.specs.Frequent.{frequent_value};
 
 use crate::stats::typed::TypedStats;
+use crate::stats::value::PValue;
 
-/// The least and the greatest of the valid integers of a type.
+/// The least and the greatest of the valid integers of a type, and the distinct ones where they were asked for.
 #[derive(Debug, Drop)]
 pub enum ErasedStats {
     U8(TypedStats<u8>),
@@ -36,7 +38,7 @@ macro_rules! with_typed {
 }
 
 impl ErasedStats {
-    ghost use Rattle.vx_scheme.specs.Erased.{kind_of, extremes_of, log2_of};
+    ghost use Rattle.vx_scheme.specs.Erased.{kind_of, extremes_of, distinct_of, log2_of};
 
     // The least integer.
     fn least(&self) -> i128
@@ -75,6 +77,21 @@ impl ErasedStats {
         } else {
             Some(63 - bits.leading_zeros())
         }
+    }
+
+    /// How many distinct values there are, where they were asked for and there is a row.
+    pub fn distinct_count(&self) -> Option<u32>
+        ensures { result ≡ option_map length (distinct_of self.now) }
+    {
+        with_typed!(self, typed => typed.distinct_count())
+    }
+
+    /// The least of the most frequent values with its count, where distinct values are told. Without a value it is 0,
+    /// which occurs 0 times.
+    pub fn most_frequent_value_and_count(&self) -> Option<(PValue, u32)>
+        ensures { result ≡ frequent_value (kind_of self.now) (distinct_of self.now) }
+    {
+        with_typed!(self, typed => typed.most_frequent())
     }
 }
 

@@ -13,7 +13,7 @@ const PLAIN: GenerateStatsOptions = GenerateStatsOptions {
     count_distinct_values: false,
 };
 
-fn ctx(rt: &impl AllocGlobal) -> Result<ExecutionCtx, Fail> {
+pub(crate) fn ctx(rt: &impl AllocGlobal) -> Result<ExecutionCtx, Fail> {
     let mut words = Vec::new(rt.alloc());
     words.push(0)?;
     let words = Words::from_vec(words);
@@ -24,7 +24,7 @@ fn ctx(rt: &impl AllocGlobal) -> Result<ExecutionCtx, Fail> {
 }
 
 // A column of 8 signed bits, null where the bit is false.
-fn column(rt: &impl AllocGlobal, values: &[i8], bits: &[bool]) -> Result<ArrayRef, Fail>
+pub(crate) fn column(rt: &impl AllocGlobal, values: &[i8], bits: &[bool]) -> Result<ArrayRef, Fail>
     ensures { IfOk result (λ array. IsTrue (is_integer (tree_type array))) }
 {
     let values = Ints::I8(IntList::from_vec(Vec::from_slice(rt.alloc(), values)?));
@@ -33,7 +33,9 @@ fn column(rt: &impl AllocGlobal, values: &[i8], bits: &[bool]) -> Result<ArrayRe
     Ok(made.ok().ok_or("refused")?)
 }
 
-fn sevens(len: u64) -> Result<ArrayRef, VortexError> {
+pub(crate) fn sevens(len: u64) -> Result<ArrayRef, VortexError>
+    ensures { IfOk result (λ array. IsTrue (is_integer (tree_type array))) }
+{
     let seven = Scalar::primitive(7, PType::U8, Nullability::Nullable)?;
     Ok(ArrayRef::constant(seven, len))
 }

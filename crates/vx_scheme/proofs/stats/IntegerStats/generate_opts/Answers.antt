@@ -3,6 +3,7 @@ use Rattle.vx_array.specs.TreeOf.{tree_of}
 use Rattle.vx_model.specs.Column.{column_of}
 use Rattle.std.specs.Prelude.{nat_lt, true}
 use Rattle.std.proofs.lemmas.Bool.{lt-ltb}
+use Rattle.vx_base.specs.Answers.{Answers}
 use Rattle.vx_base.specs.PlainType.{integer_of}
 use Rattle.vx_model.specs.TreeType.{tree_type}
 use Rattle.vx_scheme.specs.Stats.{stats_of}
@@ -33,8 +34,8 @@ pub returns-in_ok-canonical-in_default : goal.returns-in_ok-canonical-in_default
 returns-in_ok-canonical-in_default c =
     let t = c.args.input.now in
     let few : nat_lt (length (rows t)) 4294967296 ≡ true = lt-ltb _ _ (omega arith) in
-    let plain = ap (λ p. stats_of (integer_of (tree_type p)) (rows p)) c.in_ok-canonical-in_default.ensures in
-    let its : stats_of (integer_of (tree_type (plain_of (tree_type t) (rows t)))) (rows (plain_of (tree_type t) (rows t))) ≡ stats_of (integer_of (tree_type t)) (rows t) =
-    λ i. stats_of (integer_of (type-plain_of (tree_type t) (rows t) i)) (rows-plain_of (tree_type t) (rows t) i)
+    let plain = ap (λ p. stats_of c.args.opts (integer_of (tree_type p)) (rows p)) c.in_ok-canonical-in_default.ensures in
+    let its : stats_of c.args.opts (integer_of (tree_type (plain_of (tree_type t) (rows t)))) (rows (plain_of (tree_type t) (rows t))) ≡ stats_of c.args.opts (integer_of (tree_type t)) (rows t) =
+    λ i. stats_of c.args.opts (integer_of (type-plain_of (tree_type t) (rows t) i)) (rows-plain_of (tree_type t) (rows t) i)
     in
-    record { answer = rw few (c.stats_of_plain-in_default.ensures ∙ plain ∙ its); ctx = refl }
+    record { answer = rw few (subst (Answers c.stats_of_plain-in_default.result) (plain ∙ its) c.stats_of_plain-in_default.ensures); ctx = refl }

@@ -1,0 +1,10 @@
+//! A single integer with its type.
+
+use vx_base::PType;
+
+/// An integer and its type.
+#[derive(Clone, Copy, Debug, PartialEq, Eq)]
+pub struct PValue {
+    pub ptype: PType,
+    pub value: i128,
+}
