@@ -6,8 +6,10 @@ pub mod EligibleLemmas
 pub mod HeldLemmas
 pub mod JudgingLemmas
 pub mod LeafCases
+pub mod LeafFormLemmas
 pub mod LimitLemmas
 pub mod OneValueTrees
+pub mod ReachedLemmas
 pub mod SampleLemmas
 pub mod SampleSizes
 pub mod SamplingLemmas

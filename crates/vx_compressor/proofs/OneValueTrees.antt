@@ -29,7 +29,7 @@ answers_along result x y e h = subst (λ z. Answers result z) e h
 
 -- ---- values that fit
 
-nulls_fit : (t : PlainType) (vs : List PlainValue) → length vs ≢ 0 → first_valid vs ≡ None → list_all (fits t) vs ≡ true → is_nullable t ≡ true
+pub nulls_fit : (t : PlainType) (vs : List PlainValue) → length vs ≢ 0 → first_valid vs ≡ None → list_all (fits t) vs ≡ true → is_nullable t ≡ true
 nulls_fit t [] full e h = absurd (full refl)
 nulls_fit t (null ∷ vs) full e h = (and_parts (is_nullable t) (list_all (fits t) vs) h).0
 nulls_fit t (int z ∷ vs) full e h = absurd cc
@@ -38,7 +38,7 @@ nulls_fit t (int z ∷ vs) full e h = absurd cc
 pub nulls_nullable : (t : Tree) → WellFormed t → length (rows t) ≢ 0 → first_valid (rows t) ≡ None → is_nullable (tree_type t) ≡ true
 nulls_nullable t w full e = nulls_fit (tree_type t) (rows t) full e (rows_fit t w)
 
-first_fits_in : (t : PlainType) (vs : List PlainValue) (v : PlainValue) → first_valid vs ≡ Some v → list_all (fits t) vs ≡ true → fits t v ≡ true
+pub first_fits_in : (t : PlainType) (vs : List PlainValue) (v : PlainValue) → first_valid vs ≡ Some v → list_all (fits t) vs ≡ true → fits t v ≡ true
 first_fits_in t [] v e h = absurd cc
 first_fits_in t (null ∷ vs) v e h = first_fits_in t vs v e (and_parts (fits t null) (list_all (fits t) vs) h).1
 first_fits_in t (int z ∷ vs) v e h = let same : int z ≡ v = cc in subst (λ w. fits t w ≡ true) same (and_parts (fits t (int z)) (list_all (fits t) vs) h).0

@@ -11,6 +11,7 @@ use Rattle.vx_base.specs.Integers.{bytes_of}
 use Rattle.vx_base.specs.Masks.{rows_between}
 use Rattle.vx_base.specs.PlainType.{PlainType, primitive}
 use Rattle.vx_base.specs.PlainValue.{PlainValue, is_null, whole_or_zero}
+use Rattle.vx_model.specs.Cascade.{Leaves}
 use Rattle.vx_model.specs.Column.{Column, column, column_of}
 use Rattle.vx_model.specs.Site.{Site}
 use Rattle.vx_model.specs.Tree.{Tree}
@@ -23,8 +24,9 @@ use Rattle.vx_scheme.specs.Contexts.{sample_site}
 use Rattle.vx_scheme.specs.Meaning.{Meaning}
 use Rattle.vx_scheme.specs.declared.options.GenerateStatsOptions.{GenerateStatsOptions}
 use Rattle.vx_compressor.specs.declared.choice.Score.{Score}
-use Rattle.vx_compressor.specs.Cascade.{plain_parts, trial, size_score, sample_score}
+use Rattle.vx_compressor.specs.Cascade.{trial, size_score, sample_score}
 use Rattle.vx_compressor.specs.Judging.{IsAskable, IsReady}
+use Rattle.vx_compressor.specs.Reach.{IsInReach}
 use Rattle.vx_compressor.specs.Sampling.{slice_of, slice_count, slices, is_short, sample}
 use Rattle.vx_compressor.proofs.HeldLemmas.{column_of-is, plain-is}
 use Rattle.vx_compressor.proofs.SamplingLemmas.{slices_lie, end-within, counts_are_least}
@@ -73,6 +75,12 @@ sample_askable false words c askable =
     long : is_short (length c.values) ≡ false → IsAskable (column c.dtype (gathered (below (slice_of (length c.values) words) (slice_count (length c.values))) c.values))
     long e = let rows = sampled_rows c.values words e in record { some = rows.0; few = omega (arith, rows.1, askable.few) }
 
+pub sample-fewer : (sampled : Bool) (words : List ℕ) (c : Column) → length (sample sampled words c).values ≤ length c.values
+sample-fewer true words c = omega arith
+sample-fewer false words c =
+    cond_both (is_short (length c.values)) c (column c.dtype (gathered (slices (length c.values) words) c.values)) (λ s. length s.values ≤ length c.values) (λ e. omega arith)
+    (λ e. cond_both (is_short (length c.values)) ((0, length c.values) ∷ []) (below (slice_of (length c.values) words) (slice_count (length c.values))) (λ ranges. length (gathered ranges c.values) ≤ length c.values) (λ t. absurd cc) (λ f. (sampled_rows c.values words e).1))
+
 pub sample-dtype : (sampled : Bool) (words : List ℕ) (c : Column) → (sample sampled words c).dtype ≡ c.dtype
 sample-dtype true words c = refl
 sample-dtype false words c = cond_both (is_short (length c.values)) c (column c.dtype (gathered (slices (length c.values) words) c.values)) (λ s. s.dtype ≡ c.dtype) (λ e. refl) (λ e. refl)
@@ -115,13 +123,19 @@ module _ (part : Tree) (c : Column) (sampled : Bool) (words : List ℕ) (e : par
   pub site_tree-sampled : IsAskable c → IsSiteTree part
   site_tree-sampled askable = let own = askable-sampled askable in record { plain = plain-is part (sample sampled words c) e; some = own.some; few = own.few }
 
+  pub reach-sampled : (budget : ℕ) → IsInReach c budget → IsInReach (column_of part) budget
+  reach-sampled budget reach =
+      let fewer = sample-fewer sampled words c in
+      let few = reach.few in
+      subst (λ s. IsInReach s budget) (sym column-sampled) (record { few = omega (arith, fewer, few); within = reach.within })
+
   pub ready-sampled : (opts : GenerateStatsOptions) (m : Meaning) → IsReady c opts m → IsReady (column_of part) opts m
   ready-sampled opts m ready = record { taken = ap m.takes (ap (λ s. s.dtype) column-sampled ∙ sample-dtype sampled words c) ∙ ready.taken; included = ready.included }
 
   pub size-sampled : IsAskable c → size part < 2 ^ 64
   size-sampled askable = rw e (size-askable (sample sampled words c) (sample_askable sampled words c askable))
 
-  pub score-sampled : (m : Meaning) (site : Site) (tree part' : Tree) (r : Option Score) → tree ≡ trial plain_parts m (column_of part) (sample_site site) → part' ≡ part → r ≡ size_score (size part') (size tree)
-      → r ≡ sample_score plain_parts m (sample sampled words c) site
-  score-sampled m site tree part' r made same scored =
-      scored ∙ (λ i. size_score (size ((same ∙ e) i)) (size ((made ∙ ap (λ s. trial plain_parts m s (sample_site site)) column-sampled) i)))
+  pub score-sampled : (child : Leaves) (m : Meaning) (site : Site) (tree part' : Tree) (r : Option Score) → tree ≡ trial child m (column_of part) (sample_site site) → part' ≡ part → r ≡ size_score (size part') (size tree)
+      → r ≡ sample_score child m (sample sampled words c) site
+  score-sampled child m site tree part' r made same scored =
+      scored ∙ (λ i. size_score (size ((same ∙ e) i)) (size ((made ∙ ap (λ s. trial child m s (sample_site site)) column-sampled) i)))

@@ -1,16 +1,19 @@
 -- Worked values, counted by hand, so that a wrong rule in the definitions does not check.
-use Rattle.std.specs.Prelude.{◌≡◌, ◌<◌, ℕ, true, false, List, [], ◌∷◌, map, take, Option, Some, None, option_map, pos, refl}
+use Rattle.std.specs.Prelude.{◌≡◌, ◌<◌, ℕ, true, false, List, [], ◌∷◌, map, replicate, take, drop, Option, Some, None, option_map, pos, refl}
 use Rattle.std.proofs.Common.{arith}
 use Rattle.vx_base.specs.declared.error.VortexError.TheVariants.{DuplicateScheme}
 use Rattle.vx_base.specs.declared.ptype.PType.TheVariants.{U8}
 use Rattle.vx_base.specs.declared.dtype.Nullability.TheVariants.{NonNullable}
 use Rattle.vx_base.specs.PlainType as types
+use Rattle.vx_base.specs.PlainScalar.{scalar}
 use Rattle.vx_base.specs.PlainValue.{int}
 use Rattle.vx_model.specs.Column.{Column, column}
 use Rattle.vx_model.specs.Plain.{plain}
 use Rattle.vx_model.specs.Rows.{below}
 use Rattle.vx_model.specs.Site.{fresh, down}
-use Rattle.vx_model.specs.Tree.{Tree}
+use Rattle.vx_model.specs.Tree.{Tree, constant}
+use Rattle.vx_scheme.specs.Asked.{most_rows}
+use Rattle.vx_scheme.specs.Contexts.{leaf_site}
 use Rattle.vx_scheme.specs.Excluded.{root_name}
 use Rattle.vx_scheme.specs.Meaning.{Meaning, Made, kept, finished, parts}
 use Rattle.vx_scheme.specs.declared.estimate.CompressionEstimate.{CompressionEstimate}
@@ -18,11 +21,14 @@ use Rattle.vx_scheme.specs.declared.estimate.CompressionEstimate.TheVariants.{Ve
 use Rattle.vx_scheme.specs.declared.estimate.DeferredEstimate.TheVariants.{Sample, Callback}
 use Rattle.vx_scheme.specs.declared.estimate.EstimateVerdict.{EstimateVerdict}
 use Rattle.vx_scheme.specs.declared.estimate.EstimateVerdict.TheVariants.{Skip, AlwaysUse, Ratio}
+use Rattle.vx_scheme.specs.declared.selection.ChildSelection.{ChildSelection}
+use Rattle.vx_scheme.specs.declared.selection.ChildSelection.TheVariants.{One}
 use Rattle.vx_compressor.specs.declared.choice.Score.{Score}
 use Rattle.vx_compressor.specs.declared.choice.Score.TheVariants.{Always, Finite}
-use Rattle.vx_compressor.specs.Cascade.{Setting, choice, leaf_tree, plain_parts}
+use Rattle.vx_compressor.specs.Cascade.{Setting, choice, plain_parts, leaf_tree, compressed_child}
 use Rattle.vx_compressor.specs.Choice.{choice_of}
 use Rattle.vx_compressor.specs.Distinct.{schemes_refusal}
+use Rattle.vx_compressor.specs.Reach.{most_site_rows, most_part_rows}
 use Rattle.vx_compressor.specs.Sampling.{partitions, slice_count, slices, sample}
 
 -- ---- samples
@@ -160,16 +166,84 @@ pub smaller_stands : (leaf_tree (among (telling (0 ∷ []) (Verdict AlwaysUse) S
     × (leaf_tree (among (at_once 0 AlwaysUse ∷ [])) three fresh ≡ plain three)
 smaller_stands = (refl, refl, refl)
 
-abbrev of_five : Tree
-of_five = plain (column (types.primitive U8 NonNullable) (int (pos 5) ∷ []))
-
 abbrev first_of : List Tree → Tree
 first_of [] = of_bytes 3
 first_of (t ∷ ts) = t
 
--- parts become plain trees
-pub parts_plain : leaf_tree (among (record (telling (0 ∷ []) (Verdict AlwaysUse) Skip (parts (column (types.primitive U8 NonNullable) (int (pos 5) ∷ []) ∷ []))) { joined = λ c site trees. first_of trees } ∷ [])) three fresh ≡ of_five
-parts_plain = refl
+abbrev second_of : List Tree → Tree
+second_of [] = of_bytes 3
+second_of (t ∷ ts) = first_of ts
+
+-- ---- parts, each at a site of its own
+
+abbrev bytes : List ℕ → Column
+bytes ns = column (types.primitive U8 NonNullable) (map (λ n. int (pos n)) ns)
+
+-- one that is always chosen, and becomes the tree of the one part that it makes of a column
+abbrev by_part : ℕ → (Column → Column) → Meaning
+by_part name part = record (telling (name ∷ []) (Verdict AlwaysUse) Skip kept) { splits = λ c site. parts (part c ∷ []); joined = λ c site trees. first_of trees }
+
+abbrev six : Column
+six = bytes (1 ∷ 2 ∷ 3 ∷ 4 ∷ 5 ∷ 6 ∷ [])
+
+abbrev fives : ℕ → Column
+fives n = bytes (replicate n 5)
+
+-- a part of one byte stays plain; one of three equal bytes becomes a constant, unless no scheme may follow
+pub parts_below : (leaf_tree (among (by_part 0 (λ c. fives 1) ∷ [])) six fresh ≡ plain (fives 1))
+    × (leaf_tree (among (by_part 0 (λ c. fives 3) ∷ [])) six fresh ≡ constant (scalar (types.primitive U8 NonNullable) (int (pos 5))) 3)
+    × (leaf_tree (among (by_part 0 (λ c. fives 3) ∷ [])) six (leaf_site fresh) ≡ plain (fives 3))
+parts_below = (refl, refl, refl)
+
+abbrev without_first : Column → Column
+without_first c = column c.dtype (drop 1 c.values)
+
+-- a scheme never stands below itself: two that leave out a row each leave out two, and one leaves out one
+pub each_once : (leaf_tree (among (by_part 0 without_first ∷ [])) six fresh ≡ plain (bytes (2 ∷ 3 ∷ 4 ∷ 5 ∷ 6 ∷ [])))
+    × (leaf_tree (among (by_part 0 without_first ∷ by_part 1 without_first ∷ [])) six fresh ≡ plain (bytes (3 ∷ 4 ∷ 5 ∷ 6 ∷ [])))
+each_once = (refl, refl)
+
+-- of five that leave out a row four stand on one path
+pub four_levels : leaf_tree (among (map (λ n. by_part n without_first) (0 ∷ 1 ∷ 2 ∷ 3 ∷ 4 ∷ []))) six fresh ≡ plain (bytes (5 ∷ 6 ∷ []))
+four_levels = refl
+
+-- below a budget of 2, three
+pub three_levels : leaf_tree (among (map (λ n. by_part n without_first) (0 ∷ 1 ∷ 2 ∷ 3 ∷ 4 ∷ []))) six (record fresh { budget = 2 }) ≡ plain (bytes (4 ∷ 5 ∷ 6 ∷ []))
+three_levels = refl
+
+-- one that has a rule against the scheme 1, below these of its children
+abbrev against : ChildSelection → Meaning
+against children = record (by_part 0 without_first) { descendants = record { scheme = 1 ∷ []; children = children } ∷ [] }
+
+-- its part is child 0; the rule is one for what stands below it, and none for what stands above
+pub rules_below : (leaf_tree (among (against (One 0) ∷ by_part 1 without_first ∷ [])) six fresh ≡ plain (bytes (2 ∷ 3 ∷ 4 ∷ 5 ∷ 6 ∷ [])))
+    × (leaf_tree (among (against (One 1) ∷ by_part 1 without_first ∷ [])) six fresh ≡ plain (bytes (3 ∷ 4 ∷ 5 ∷ 6 ∷ [])))
+    × (leaf_tree (among (by_part 1 without_first ∷ against (One 0) ∷ [])) six fresh ≡ plain (bytes (3 ∷ 4 ∷ 5 ∷ 6 ∷ [])))
+rules_below = (refl, refl, refl)
+
+-- the second of two parts is child 1
+abbrev by_second : Meaning
+by_second = record (against (One 1)) { splits = λ c site. parts (c ∷ without_first c ∷ []); joined = λ c site trees. second_of trees }
+
+pub second_part : leaf_tree (among (by_second ∷ by_part 1 without_first ∷ [])) six fresh ≡ plain (bytes (2 ∷ 3 ∷ 4 ∷ 5 ∷ 6 ∷ []))
+second_part = refl
+
+abbrev sevens : Tree
+sevens = plain (bytes (replicate 3 7))
+
+-- a child stays as it is below a budget of 0; else its type and rows decide, and what stands above
+pub children : (compressed_child (among []) sevens (leaf_site fresh) (0 ∷ []) 0 ≡ sevens)
+    × (compressed_child (among []) sevens fresh (0 ∷ []) 0 ≡ constant (scalar (types.primitive U8 NonNullable) (int (pos 7))) 3)
+    × (compressed_child (among (by_part 0 without_first ∷ [])) (plain six) fresh (0 ∷ []) 0 ≡ plain six)
+    × (compressed_child (among (by_part 0 without_first ∷ [])) (plain six) fresh (1 ∷ []) 0 ≡ plain (bytes (2 ∷ 3 ∷ 4 ∷ 5 ∷ 6 ∷ [])))
+children = (refl, refl, refl, refl)
+
+-- ---- rows
+
+-- the greatest column and an offset, and 1,024 more at each level; at the last, parts are as long as schemes may be asked about
+pub most_rows_by_level : (map most_site_rows (3 ∷ 2 ∷ 1 ∷ 0 ∷ []) ≡ 2_147_483_649 ∷ 2_147_484_673 ∷ 2_147_485_697 ∷ 2_147_486_721 ∷ [])
+    × (map most_part_rows (3 ∷ 2 ∷ 1 ∷ 0 ∷ []) ≡ 2_147_484_673 ∷ 2_147_485_697 ∷ 2_147_486_721 ∷ 2_147_487_745 ∷ []) × (most_part_rows 0 ≡ most_rows)
+most_rows_by_level = (refl, refl, refl)
 
 -- ---- names
 

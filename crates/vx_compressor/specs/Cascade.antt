@@ -1,9 +1,9 @@
 -- The tree of a leaf column at a site: each scheme that may stand there is scored, and the tree of the chosen one stands where it
 -- is smaller than the plain tree.
-use Rattle.std.specs.Prelude.{ℕ, zero, suc, true, false, ◌+◌, nat_le, Bool, not, ◌&&◌, List, [], ◌∷◌, ◌++◌, map, filter, Option, Some, None, option_map, if◌then◌else◌}
+use Rattle.std.specs.Prelude.{ℕ, zero, suc, true, false, ◌+◌, ◌==◌, nat_le, Bool, not, ◌&&◌, List, [], ◌∷◌, ◌++◌, map, filter, Option, Some, None, option_map, if◌then◌else◌}
 use Rattle.std.proofs.Common.{zero-lt-suc}
 use Rattle.vx_base.specs.PlainType.{PlainType}
-use Rattle.vx_model.specs.Column.{Column}
+use Rattle.vx_model.specs.Column.{Column, column_of}
 use Rattle.vx_model.specs.Plain.{plain}
 use Rattle.vx_model.specs.Site.{Site, down}
 use Rattle.vx_model.specs.Size.{size}
@@ -117,5 +117,21 @@ site_tree child set = leaf (chosen child set)
 abbrev pub plain_parts : Leaves
 plain_parts c site = plain c
 
+-- ---- the recursion, on the budget
+
+-- how the parts of a column become trees, by the budget of the column's site: their plain trees where no scheme may follow, else
+-- the trees of their own sites
+abbrev pub child_tree : Setting → ℕ → Leaves
+child_tree set zero = plain_parts
+child_tree set (suc budget) = site_tree (child_tree set budget) set
+
+-- the same, by the column's site
+abbrev pub children_of : Setting → Site → Leaves
+children_of set site = child_tree set site.budget
+
 abbrev pub leaf_tree : Setting → Leaves
-leaf_tree set = site_tree plain_parts set
+leaf_tree set c site = site_tree (children_of set site) set c site
+
+-- what a child of a site becomes: where no scheme may follow it stays as it is, else it becomes the tree of its own site
+abbrev pub compressed_child : Setting → Tree → Site → List ℕ → ℕ → Tree
+compressed_child set child parent name number = if parent.budget == 0 then child else leaf_tree set (column_of child) (down parent name number)

@@ -6,6 +6,8 @@ pub mod CascadeLaws
 pub mod Choice
 pub mod Distinct
 pub mod Judging
+pub mod Reach
+pub mod Reached
 pub mod Sampling
 pub mod SamplingLaws
 pub mod Shared

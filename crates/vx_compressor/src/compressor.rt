@@ -1,15 +1,19 @@
 //! The compressor over any lawful schemes.
 
-ghost use Rattle.std.specs.Prelude.{◌≡◌, ◌<◌, true, map};
+ghost use Rattle.std.specs.Prelude.{◌≡◌, ◌<◌, ◌≤◌, true, length, map};
 ghost use Rattle.vx_base.specs.Answers.{Answers, Decided, Makes};
+ghost use Rattle.vx_base.specs.PlainType.{is_leaf};
 ghost use Rattle.vx_model.specs.Cascade.{cascade};
 ghost use Rattle.vx_model.specs.Column.{column_of};
-ghost use Rattle.vx_model.specs.Extents.{extents_fit};
 ghost use Rattle.vx_model.specs.Refusals.{compress_refusal};
+ghost use Rattle.vx_model.specs.Rows.{rows};
+ghost use Rattle.vx_model.specs.TreeType.{tree_type};
 ghost use Rattle.vx_scheme.specs.Contexts.{site_of};
 ghost use Rattle.vx_scheme.specs.Excluded.{excluded};
-ghost use Rattle.vx_compressor.specs.Cascade.{setting, leaf_tree};
+ghost use Rattle.vx_scheme.specs.Names.{name_of};
+ghost use Rattle.vx_compressor.specs.Cascade.{setting, leaf_tree, compressed_child};
 ghost use Rattle.vx_compressor.specs.Distinct.{schemes_refusal};
+ghost use Rattle.vx_compressor.specs.Reach.{IsInReach, most_part_rows};
 
 use crate::bans::{Ban, bans_of};
 use crate::distinct::have_own_names;
@@ -19,7 +23,7 @@ use std::marker::{Brand, Model};
 use std::sync::ledger::{Blank, Ledger};
 use vx_array::ArrayRef;
 use vx_base::{ExecutionCtx, Items, Refused, Steps, VortexError, VortexResult};
-use vx_scheme::{CompressorContext, Scheme};
+use vx_scheme::{CompressorContext, Scheme, SchemeId};
 
 /// Schemes in the order in which they are judged.
 pub type Schemes<S> = Items<S>;
@@ -88,28 +92,53 @@ impl<S: Scheme> CascadingCompressor<S> {
         if !array.extents_fit() {
             return Err(VortexError::TooManyRows);
         }
-        counted::<Brand, S>(self, Blank::new(1), array, ctx)
+        array.known();
+        let site = CompressorContext::new();
+        counted::<Brand, S>(self, Blank::new(1), array, &site, ctx)
+    }
+
+    /// The tree of a child of a site, in place of its parent's scheme: a copy of the child where no scheme may follow the
+    /// parent, else the tree of its type and rows one level below. The child has a leaf type, and at most
+    /// 2^31 + 1 + 1,024 * (`MAX_CASCADE` + 1 - budget) rows, by the parent's budget. Refuses NoMemory alone. The context
+    /// stays as it was.
+    pub fn compress_child(
+        &self,
+        child: &ArrayRef,
+        parent_ctx: &CompressorContext,
+        parent_id: SchemeId,
+        child_index: usize,
+        ctx: &mut ExecutionCtx,
+    ) -> VortexResult<ArrayRef>
+        requires leaf { is_leaf (tree_type child.now) ≡ true }
+        requires few { length (rows child.now) ≤ most_part_rows (site_of parent_ctx.now).budget }
+        ensures answer { Answers result (compressed_child (setting S.meaning self.now ctx.old) child.now (site_of parent_ctx.now) (name_of parent_id) child_index) }
+        ensures ctx { ctx.new ≡ ctx.old }
+    {
+        if parent_ctx.finished_cascading() {
+            return child.copy(ctx.alloc());
+        }
+        let site = parent_ctx.descend(parent_id, child_index);
+        counted::<Brand, S>(self, Blank::new(1), child, &site, ctx)
     }
 }
 
-// The tree of the array's column, with a count of its own.
+// The tree of the array's column at a site, with a count of its own.
 fn counted<L: Ledger, S: Scheme>(
     compressor: &CascadingCompressor<S>,
     blank: Blank,
     array: &ArrayRef,
+    site: &CompressorContext,
     ctx: &mut ExecutionCtx,
 ) -> VortexResult<ArrayRef>
-    requires fits { extents_fit array.now ≡ true }
+    requires reach { IsInReach (column_of array.now) (site_of site.now).budget }
     requires name { blank.name ≡ L.name }
     requires parts { blank.parts ≡ L.parts }
     requires some { 0 < L.parts }
-    ensures answer { Answers result (cascade (leaf_tree (setting S.meaning compressor.now ctx.old)) (column_of array.now)) }
+    ensures answer { Answers result (leaf_tree (setting S.meaning compressor.now ctx.old) (column_of array.now) (site_of site.now)) }
     ensures ctx { ctx.new ≡ ctx.old }
 {
-    array.known();
     let words = ctx.words().copy(ctx.alloc())?;
     let plain = array.canonical(ctx.alloc())?;
-    let site = CompressorContext::new();
     let mut steps = Steps::<L>::new(blank);
-    compressor.site_tree(words.as_slice(), array, plain, &site, ctx, &mut steps)
+    compressor.site_tree(words.as_slice(), array, plain, site, ctx, &mut steps)
 }

@@ -1,31 +1,31 @@
-//! The tree of a leaf column at a site.
+//! The tree of a leaf column at a site. A scheme's parts are sites of their own, so the methods call one another in a
+//! circle, which ends by the budget.
 
-ghost use Rattle.std.specs.Prelude.{◌≡◌, ◌<◌, ◌≤◌, true, false, All, length, map, option_map};
+ghost use Rattle.std.specs.Prelude.{◌≡◌, ◌<◌, All, length, map, option_map};
 ghost use Rattle.vx_base.specs.Answers.{Answers, OrMemory};
 ghost use Rattle.vx_model.specs.Column.{column_of};
 ghost use Rattle.vx_model.specs.Leaf.{chosen_or_plain};
-ghost use Rattle.vx_model.specs.Plain.{plain, IsPlain};
-ghost use Rattle.vx_model.specs.Rows.{rows};
-ghost use Rattle.vx_scheme.specs.Asked.{HasValue, IsSiteTree, most_rows};
-ghost use Rattle.vx_scheme.specs.Bundle.{SameArray};
+ghost use Rattle.vx_model.specs.Plain.{plain};
+ghost use Rattle.vx_scheme.specs.Asked.{HasValue};
 ghost use Rattle.vx_scheme.specs.Contexts.{site_of, options_of};
-ghost use Rattle.vx_compressor.specs.Cascade.{setting, plain_parts, trial, deferred_score, eligible, choice, chosen, site_tree};
+ghost use Rattle.vx_compressor.specs.Cascade.{setting, deferred_score, eligible, choice, chosen, children_of, leaf_tree};
 ghost use Rattle.vx_compressor.specs.Choice.{best_of};
 ghost use Rattle.vx_compressor.specs.Judging.{Holds, IsAskable, IsReady, found, meant, meant_pair};
+ghost use Rattle.vx_compressor.specs.Reach.{IsInReach};
 
 use crate::by_value::{ByValue, by_value, smaller};
 use crate::choice::{Score, better, is_always, scheme_of};
 use crate::compressor::CascadingCompressor;
 use crate::eligible::merged_options;
-use crate::judging::{first_pass, resolve, size_score, verdict_score};
-use crate::plain_sample::sample;
+use crate::judging::{first_pass, resolve, verdict_score};
 use std::sync::ledger::Ledger;
 use vx_array::ArrayRef;
 use vx_base::{ExecutionCtx, Steps, VortexResult};
-use vx_scheme::{ArrayAndStats, CompressorContext, DeferredEstimate, Scheme, Split};
+use vx_scheme::{ArrayAndStats, CompressorContext, DeferredEstimate, Scheme};
 
 impl<S: Scheme> CascadingCompressor<S> {
     /// The tree of the array's column, whose plain tree is handed over, at a site.
+    #[cycle(site)]
     pub(crate) fn site_tree<L: Ledger>(
         &self,
         words: &[u64],
@@ -36,9 +36,9 @@ impl<S: Scheme> CascadingCompressor<S> {
         steps: &mut Steps<L>,
     ) -> VortexResult<ArrayRef>
         requires words { 0 < length words.now }
-        requires few { length (rows array.now) ≤ most_rows }
+        requires reach { IsInReach (column_of array.now) (site_of site.now).budget }
         requires canonical { canonical ≡ plain (column_of array.now) }
-        ensures answer { Answers result (site_tree plain_parts (setting S.meaning self.now words.now) (column_of array.now) (site_of site.now)) }
+        ensures answer { Answers result (leaf_tree (setting S.meaning self.now words.now) (column_of array.now) (site_of site.now)) }
         ensures ctx { ctx.new ≡ ctx.old }
     {
         match by_value(ctx.alloc(), canonical, site)? {
@@ -48,6 +48,7 @@ impl<S: Scheme> CascadingCompressor<S> {
     }
 
     // The tree of the scheme that is chosen for a column with a value, where it is smaller than the plain one.
+    #[cycle(site)]
     fn best_tree<L: Ledger>(
         &self,
         words: &[u64],
@@ -59,9 +60,10 @@ impl<S: Scheme> CascadingCompressor<S> {
     ) -> VortexResult<ArrayRef>
         requires words { 0 < length words.now }
         requires askable { IsAskable (column_of array.now) }
+        requires reach { IsInReach (column_of array.now) (site_of site.now).budget }
         requires value { HasValue (column_of array.now) }
         requires canonical { canonical ≡ plain (column_of array.now) }
-        ensures answer { Answers result (chosen_or_plain (column_of array.now) (chosen plain_parts (setting S.meaning self.now words.now) (column_of array.now) (site_of site.now))) }
+        ensures answer { Answers result (chosen_or_plain (column_of array.now) (chosen (children_of (setting S.meaning self.now words.now) (site_of site.now)) (setting S.meaning self.now words.now) (column_of array.now) (site_of site.now))) }
         ensures ctx { ctx.new ≡ ctx.old }
     {
         let schemes = self.eligible(ctx.alloc(), canonical.dtype(), site)?;
@@ -80,11 +82,12 @@ impl<S: Scheme> CascadingCompressor<S> {
         let Some(scheme) = best else {
             return Ok(column.into_array());
         };
-        let tree = self.trial(&scheme, &mut column, &site, ctx, steps)?;
+        let tree = self.trial(words, &scheme, &mut column, &site, ctx, steps)?;
         Ok(smaller(tree, column.into_array()))
     }
 
     // The scheme that is chosen at a site, among those that may stand there.
+    #[cycle(site)]
     fn choose<L: Ledger>(
         &self,
         words: &[u64],
@@ -100,8 +103,9 @@ impl<S: Scheme> CascadingCompressor<S> {
         requires ready { All (λ s. IsReady (column_of array.now) (options_of site.now) (S.meaning s)) schemes.now }
         requires holds { Holds column.old (column_of array.now) (options_of site.now) }
         requires askable { IsAskable (column_of array.now) }
+        requires reach { IsInReach (column_of array.now) (site_of site.now).budget }
         requires value { HasValue (column_of array.now) }
-        ensures answer { OrMemory result (λ scheme. option_map S.meaning scheme ≡ choice plain_parts (setting S.meaning self.now words.now) (column_of array.now) (site_of site.now)) }
+        ensures answer { OrMemory result (λ scheme. option_map S.meaning scheme ≡ choice (children_of (setting S.meaning self.now words.now) (site_of site.now)) (setting S.meaning self.now words.now) (column_of array.now) (site_of site.now)) }
         ensures holds { Holds column.new (column_of array.now) (options_of site.now) }
         ensures ctx { ctx.new ≡ ctx.old }
     {
@@ -115,6 +119,7 @@ impl<S: Scheme> CascadingCompressor<S> {
     }
 
     // The best so far, once the schemes are judged that put their verdicts off, up to the first always-use.
+    #[cycle(site)]
     fn judge<L: Ledger>(
         &self,
         words: &[u64],
@@ -130,8 +135,9 @@ impl<S: Scheme> CascadingCompressor<S> {
         requires ready { All (λ p. IsReady (column_of array.now) (options_of site.now) (S.meaning p.0)) deferred.now }
         requires holds { Holds column.old (column_of array.now) (options_of site.now) }
         requires askable { IsAskable (column_of array.now) }
+        requires reach { IsInReach (column_of array.now) (site_of site.now).budget }
         requires value { HasValue (column_of array.now) }
-        ensures answer { OrMemory result (λ r. meant S.meaning r ≡ best_of (meant S.meaning best) (found plain_parts words.now (column_of array.now) (site_of site.now) (map (meant_pair S.meaning) deferred.now))) }
+        ensures answer { OrMemory result (λ r. meant S.meaning r ≡ best_of (meant S.meaning best) (found (children_of (setting S.meaning self.now words.now) (site_of site.now)) words.now (column_of array.now) (site_of site.now) (map (meant_pair S.meaning) deferred.now))) }
         ensures holds { Holds column.new (column_of array.now) (options_of site.now) }
         ensures ctx { ctx.new ≡ ctx.old }
     {
@@ -147,6 +153,7 @@ impl<S: Scheme> CascadingCompressor<S> {
     }
 
     // The score that a scheme put off.
+    #[cycle(site)]
     fn deferred_score<L: Ledger>(
         &self,
         words: &[u64],
@@ -162,8 +169,9 @@ impl<S: Scheme> CascadingCompressor<S> {
         requires ready { IsReady (column_of array.now) (options_of site.now) (S.meaning scheme.now) }
         requires holds { Holds column.old (column_of array.now) (options_of site.now) }
         requires askable { IsAskable (column_of array.now) }
+        requires reach { IsInReach (column_of array.now) (site_of site.now).budget }
         requires value { HasValue (column_of array.now) }
-        ensures answer { Answers result (deferred_score plain_parts words.now (S.meaning scheme.now) (column_of array.now) (site_of site.now) how) }
+        ensures answer { Answers result (deferred_score (children_of (setting S.meaning self.now words.now) (site_of site.now)) words.now (S.meaning scheme.now) (column_of array.now) (site_of site.now) how) }
         ensures holds { Holds column.new (column_of array.now) (options_of site.now) }
         ensures ctx { ctx.new ≡ ctx.old }
     {
@@ -175,52 +183,6 @@ impl<S: Scheme> CascadingCompressor<S> {
             DeferredEstimate::Sample => {
                 self.sample_score(words, scheme, column.array(), site, ctx, steps)
             }
-        }
-    }
-
-    // The score of a scheme's trial on a sample of a plain tree.
-    fn sample_score<L: Ledger>(
-        &self,
-        words: &[u64],
-        scheme: &S,
-        whole: &ArrayRef,
-        site: &CompressorContext,
-        ctx: &mut ExecutionCtx,
-        steps: &mut Steps<L>,
-    ) -> VortexResult<Option<Score>>
-        requires words { 0 < length words.now }
-        requires ready { IsReady (column_of whole.now) (options_of site.now) (S.meaning scheme.now) }
-        requires askable { IsAskable (column_of whole.now) }
-        requires plain { IsPlain whole.now }
-        ensures answer { Answers result (deferred_score plain_parts words.now (S.meaning scheme.now) (column_of whole.now) (site_of site.now) DeferredEstimate.Sample) }
-        ensures ctx { ctx.new ≡ ctx.old }
-    {
-        let part = sample(ctx.alloc(), words, site.is_sample(), whole)?;
-        let mut column = ArrayAndStats::new(part, site.merged_stats_options());
-        let tree = self.trial(scheme, &mut column, &site.with_sampling(), ctx, steps)?;
-        let before = column.array();
-        Ok(size_score(before, tree))
-    }
-
-    // What a scheme makes of the column that the bundle holds. Its parts become their plain trees.
-    fn trial<L: Ledger>(
-        &self,
-        scheme: &S,
-        column: &mut ArrayAndStats,
-        site: &CompressorContext,
-        ctx: &mut ExecutionCtx,
-        steps: &mut Steps<L>,
-    ) -> VortexResult<ArrayRef>
-        requires column { IsSiteTree column.old.array }
-        requires ready { IsReady (column_of column.old.array) column.old.options (S.meaning scheme.now) }
-        ensures answer { Answers result (trial plain_parts (S.meaning scheme.now) (column_of column.old.array) (site_of site.now)) }
-        ensures column { SameArray column.old column.new }
-        ensures ctx { ctx.new ≡ ctx.old }
-    {
-        match scheme.split(column, site, ctx, steps)? {
-            Split::Kept => column.array().copy(ctx.alloc()),
-            Split::Finished(tree) => Ok(tree),
-            Split::Parts(parts) => scheme.join(column, site, parts, ctx),
         }
     }
 }

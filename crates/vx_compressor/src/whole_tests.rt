@@ -6,11 +6,13 @@ use std::sync::ledger::Ledger;
 use std::test::Fail;
 use vx_array::{ArrayRef, Arrays, Ints};
 use vx_base::{
-    ArrayId, DType, ExecutionCtx, Fraction, IdSet, IntList, Nullability, Steps, VortexResult, Words,
+    ArrayId, DType, ExecutionCtx, Fraction, IdSet, IntList, Nullability, PType, Scalar, Steps,
+    VortexResult, Words,
 };
 use vx_scheme::{
     AllowedIds, AncestorRules, ArrayAndStats, CompressionEstimate, CompressorContext,
-    DeferredEstimate, DescendantRules, EstimateVerdict, GenerateStatsOptions, Scheme, Split,
+    DeferredEstimate, DescendantRules, EstimateVerdict, GenerateStatsOptions, Scheme, SchemeId,
+    Split,
 };
 
 // A scheme that tells this of every column. Its tree is the column's own, so it never is smaller.
@@ -109,6 +111,30 @@ impl Scheme for Whole {
     }
 }
 
+// A compressor over this scheme alone.
+fn compressor(
+    rt: &impl AllocGlobal,
+    estimate: CompressionEstimate,
+) -> Result<CascadingCompressor<Whole>, Fail> {
+    let schemes = Schemes::from_vec(vec![in rt.alloc(); Whole { estimate }]?);
+    let made = CascadingCompressor::new(rt.alloc(), schemes);
+    Ok(made.ok().ok_or("refused")?)
+}
+
+fn context(rt: &impl AllocGlobal) -> Result<ExecutionCtx, Fail> {
+    let words = Words::from_vec(vec![in rt.alloc(); 0]?);
+    if words.len() == 0 {
+        return Err(Fail::from("no word"));
+    }
+    Ok(ExecutionCtx::new(rt.alloc(), words))
+}
+
+fn bytes(rt: &impl AllocGlobal, values: &[u8]) -> Result<ArrayRef, Fail> {
+    let values = Ints::U8(IntList::from_vec(Vec::from_slice(rt.alloc(), values)?));
+    let array = ArrayRef::primitive(values, None, Nullability::NonNullable);
+    Ok(array.ok().ok_or("refused")?)
+}
+
 #[test]
 fn a_tree_that_is_not_smaller_never_stands(rt: HostRuntime) -> Result<(), Fail> {
     for estimate in [
@@ -116,20 +142,57 @@ fn a_tree_that_is_not_smaller_never_stands(rt: HostRuntime) -> Result<(), Fail> 
         CompressionEstimate::Deferred(DeferredEstimate::Callback),
         CompressionEstimate::Deferred(DeferredEstimate::Sample),
     ] {
-        let schemes = Schemes::from_vec(vec![in rt.alloc(); Whole { estimate }]?);
-        let made = CascadingCompressor::new(rt.alloc(), schemes);
-        let compressor = made.ok().ok_or("refused")?;
-        let words = Words::from_vec(vec![in rt.alloc(); 0]?);
-        if words.len() == 0 {
-            return Err(Fail::from("no word"));
-        }
-        let mut ctx = ExecutionCtx::new(rt.alloc(), words);
-        let values = Ints::U8(IntList::from_vec(vec![in rt.alloc(); 7, 8, 7]?));
-        let array = ArrayRef::primitive(values, None, Nullability::NonNullable);
-        let array = array.ok().ok_or("refused")?;
-        let tree = compressor.compress(&array, &mut ctx)?;
+        let compressor = compressor(&rt, estimate)?;
+        let array = bytes(&rt, &[7, 8, 7])?;
+        let tree = compressor.compress(&array, &mut context(&rt)?)?;
         assert_eq!(rt; tree.encoding_id(), ArrayId::Primitive);
         assert_eq!(rt; tree.nbytes(), 3);
     }
+    Ok(())
+}
+
+// The encoding and the bytes of what a child of the scheme becomes.
+fn child_of(
+    rt: &impl AllocGlobal,
+    child: ArrayRef,
+    parent: CompressorContext,
+) -> Result<(ArrayId, u128), Fail> {
+    if !child.dtype().is_leaf() || child.len() > 100 {
+        return Err(Fail::from("no short leaf column"));
+    }
+    let always = CompressionEstimate::Verdict(EstimateVerdict::AlwaysUse);
+    let compressor = compressor(rt, always)?;
+    let id = SchemeId::of("test.whole");
+    let tree = compressor.compress_child(&child, &parent, id, 0, &mut context(rt)?)?;
+    Ok((tree.encoding_id(), tree.nbytes()))
+}
+
+#[test]
+fn a_child_is_compressed_while_schemes_may_follow(rt: HostRuntime) -> Result<(), Fail> {
+    let fresh = CompressorContext::new();
+    for (values, parent, tree) in [
+        (&[7, 7, 7][..], fresh, (ArrayId::Constant, 2)),
+        (&[7, 7, 7][..], fresh.as_leaf(), (ArrayId::Primitive, 3)),
+        (&[7, 8, 7][..], fresh, (ArrayId::Primitive, 3)),
+    ] {
+        let child = bytes(&rt, values)?;
+        assert!(rt; child_of(&rt, child, parent)? == tree);
+    }
+    Ok(())
+}
+
+// A 7 as a constant, which is larger than the plain tree.
+fn one_seven() -> VortexResult<ArrayRef> {
+    let seven = Scalar::primitive(7, PType::U32, Nullability::NonNullable)?;
+    Ok(ArrayRef::constant(seven, 1))
+}
+
+#[test]
+fn a_child_stays_as_it_is_where_no_scheme_may_follow(rt: HostRuntime) -> Result<(), Fail> {
+    let fresh = CompressorContext::new();
+    let tree = child_of(&rt, one_seven()?, fresh.as_leaf())?;
+    assert!(rt; tree == (ArrayId::Constant, 5));
+    let tree = child_of(&rt, one_seven()?, fresh)?;
+    assert!(rt; tree == (ArrayId::Primitive, 4));
     Ok(())
 }

@@ -1,5 +1,6 @@
 use Rattle.vx_model.proofs.LeafLemmas.{counts_within_extents}
 use Rattle.vx_compressor.proofs.CascadeLemmas.{keeps_rows_and_type, again_the_same, never_larger_by, by_the_column_alone_by}
+use Rattle.vx_compressor.proofs.ReachedLemmas.{sites_are_bounded}
 use Rattle.vx_compressor.proofs.laws.laws_of_compression.Goals as goal
 
 pub returns-clause-keeps : goal.returns-clause-keeps
@@ -16,3 +17,6 @@ returns-clause-alone c = by_the_column_alone_by
 
 pub returns-clause-counts : goal.returns-clause-counts
 returns-clause-counts c = counts_within_extents
+
+pub returns-clause-sites : goal.returns-clause-sites
+returns-clause-sites c = sites_are_bounded

@@ -1,0 +1,68 @@
+-- Trees that stand for a column, among them those that its values alone decide.
+use Rattle.std.proofs.Common.{◌≡◌, ◌≢◌, ◌∙◌, Bool, true, false, List, [], ◌∷◌, length, Option, None, Some, cond, refl, sym}
+use Rattle.std.specs.Prelude.{if◌then◌else◌, option_and_then}
+use Rattle.std.specs.List.{list_all, list_any}
+use Rattle.std.proofs.lemmas.Bool.{cond_both, and_parts}
+use Rattle.std.proofs.lemmas.List.{length-replicate}
+use Rattle.vx_base.specs.PlainScalar.{fits, scalar}
+use Rattle.vx_base.specs.PlainType.{PlainType, is_leaf, is_nullable}
+use Rattle.vx_base.specs.PlainValue.{PlainValue, null, int, is_null}
+use Rattle.vx_model.specs.Column.{Column, IsColumn, column, column_of}
+use Rattle.vx_model.specs.Leaf.{first_valid, each_null_or, one_value, one_value_tree}
+use Rattle.vx_model.specs.Plain.{plain, valid_bits}
+use Rattle.vx_model.specs.Tree.{Tree, constant, masked}
+use Rattle.vx_model.specs.WellFormed.{WellFormed}
+use Rattle.vx_model.proofs.MadeLemmas.{constant_made, masked_made}
+use Rattle.vx_model.proofs.NullLemmas.{any_null-replicate}
+use Rattle.vx_model.proofs.OneValueLemmas.{first_valid-valid, one_value-some, replicate-nulls, rows-one_value_tree, type-one_value_tree}
+use Rattle.vx_model.proofs.PlainLemmas.{column_of-plain, length-valid_bits, plain_well_formed}
+use Rattle.vx_compressor.proofs.OneValueTrees.{first_fits_in}
+
+-- a well-formed tree of the column
+abbrev pub StandsFor : Tree → Column → Type 0
+StandsFor t c = WellFormed t × (column_of t ≡ c)
+
+pub plain-stands : (c : Column) → IsColumn c → StandsFor (plain c) c
+plain-stands c fits = (plain_well_formed c fits, column_of-plain c)
+
+-- ---- nulls alone
+
+null_fits : (t : PlainType) (vs : List PlainValue) → length vs ≢ 0 → list_all is_null vs ≡ true → list_all (fits t) vs ≡ true → is_nullable t ≡ true
+null_fits t [] full e h = absurd (full refl)
+null_fits t (null ∷ vs) full e h = (and_parts (is_nullable t) (list_all (fits t) vs) h).0
+null_fits t (int z ∷ vs) full e h = absurd cc
+
+pub nulls-stand : (c : Column) → IsColumn c → length c.values ≢ 0 → list_all is_null c.values ≡ true → StandsFor (constant (scalar c.dtype null) (length c.values)) c
+nulls-stand c fit full nulls =
+    let same = replicate-nulls c.values nulls in
+    (constant_made (scalar c.dtype null) (length c.values) (null_fits c.dtype c.values full nulls fit), (λ i. column c.dtype (same i)))
+
+-- ---- one value
+
+-- it is the first valid one
+first_of : (vs : List PlainValue) (v : PlainValue) → one_value vs ≡ Some v → first_valid vs ≡ Some v
+first_of vs v = of_first (first_valid vs)
+  where
+    of_each : (w : PlainValue) (b : Bool) → cond b (Some w) None ≡ Some v → Some w ≡ Some v
+    of_each w true e = e
+    of_each w false e = absurd cc
+
+    of_first : (o : Option PlainValue) → option_and_then (λ w. if each_null_or w vs then Some w else None) o ≡ Some v → o ≡ Some v
+    of_first None e = absurd cc
+    of_first (Some w) e = of_each w (each_null_or w vs) e
+
+some_null_fits : (t : PlainType) (vs : List PlainValue) → list_all (fits t) vs ≡ true → list_any is_null vs ≡ true → is_nullable t ≡ true
+some_null_fits t [] h some = absurd cc
+some_null_fits t (null ∷ vs) h some = (and_parts (is_nullable t) (list_all (fits t) vs) h).0
+some_null_fits t (int z ∷ vs) h some = some_null_fits t vs (and_parts (fits t (int z)) (list_all (fits t) vs) h).1 some
+
+pub one-stands : (c : Column) (v : PlainValue) → IsColumn c → is_leaf c.dtype ≡ true → one_value c.values ≡ Some v → StandsFor (one_value_tree c v) c
+one-stands c v fit leaf one =
+    let first = first_of c.values v one in
+    let fitting = first_fits_in c.dtype c.values v first fit in
+    let alone : WellFormed (constant (scalar c.dtype v) (length c.values)) = constant_made (scalar c.dtype v) (length c.values) fitting in
+    let well : WellFormed (one_value_tree c v) =
+    cond_both (list_any is_null c.values) (masked (constant (scalar c.dtype v) (length c.values)) (valid_bits c.values)) (constant (scalar c.dtype v) (length c.values)) WellFormed
+    (λ some. masked_made (constant (scalar c.dtype v) (length c.values)) (valid_bits c.values) leaf (some_null_fits c.dtype c.values fit some) (length-valid_bits c.values ∙ sym (length-replicate (length c.values) v)) (any_null-replicate (length c.values) v (first_valid-valid c.values v first)) alone)
+    (λ none. alone) in
+    (well, (λ i. column (type-one_value_tree c v i) (rows-one_value_tree c v (one_value-some c.values v one) i)))

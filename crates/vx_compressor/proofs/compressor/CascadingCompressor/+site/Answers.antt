@@ -1,0 +1,326 @@
+use Rattle.std.proofs.Common.{◌≡◌, ◌<◌, ◌+◌, ◌-◌, ◌^◌, rules, false, Some, All, refl, sym, ◌∙◌, ap, subst, map, drop, option_map}
+use Rattle.std.specs.Prelude.{◌==◌}
+use Rattle.std.proofs.lemmas.Bool.{eqb-false}
+use Rattle.vx_base.specs.Answers.{Answers}
+use Rattle.vx_base.specs.TypeOf.{type_of}
+use Rattle.vx_model.specs.Column.{column_of}
+use Rattle.vx_model.specs.Leaf.{smaller_or_plain, chosen_or_plain}
+use Rattle.vx_model.specs.Plain.{plain, IsPlain}
+use Rattle.vx_model.specs.Site.{down}
+use Rattle.vx_model.specs.Size.{size}
+use Rattle.vx_scheme.specs.Asked.{HasValue, IsSiteTree, FitParts}
+use Rattle.vx_scheme.specs.Contexts.{site_of, options_of}
+use Rattle.vx_scheme.specs.Meaning.{split_of}
+use Rattle.vx_scheme.specs.Names.{name_of}
+use Rattle.vx_scheme.specs.declared.estimate.DeferredEstimate.TheVariants.{Sample}
+use Rattle.vx_scheme.specs.declared.split.Split.TheVariants.{Kept, Finished, Parts}
+use Rattle.vx_compressor.specs.Cascade.{setting, part_trees, eligible, trial, deferred_score, choice, chosen, children_of, leaf_tree}
+use Rattle.vx_compressor.specs.Judging.{IsAskable, IsReady, meant_pair}
+use Rattle.vx_compressor.specs.Reach.{IsInReach, IsPartInReach}
+use Rattle.vx_compressor.specs.Sampling.{sample}
+use Rattle.vx_compressor.proofs.ByValueLemmas.{decided-here, open-here}
+use Rattle.vx_compressor.proofs.EligibleLemmas.{merged_ready, choice_ready, chosen-some, put_off_ready}
+use Rattle.vx_compressor.proofs.HeldLemmas.{column_of-is, plain-is, column-held, site_tree-held, ready-held, answers_to}
+use Rattle.vx_compressor.proofs.JudgingLemmas.{best_found-step, best_found-always, choice_later, choice_at_once}
+use Rattle.vx_compressor.proofs.LimitLemmas.{few_in_reach}
+use Rattle.vx_compressor.proofs.OneValueTrees.{answers_along}
+use Rattle.vx_compressor.proofs.SampleSizes.{site_tree-sampled, ready-sampled, reach-sampled, size-sampled, score-sampled}
+use Rattle.vx_compressor.proofs.TrialLemmas.{trial-kept, trial-finished, parts_made, joined_answer, part_trees-step, child_tree-none, child_tree-some, reach-below}
+use Rattle.vx_compressor.proofs.compressor.CascadingCompressor.+site.Goals as goal
+
+-- ---- site_tree
+
+pub site_tree-by_value-requires : goal.site_tree-by_value-requires
+site_tree-by_value-requires g t c = plain-is c.args.canonical (column_of c.args.array.now) c.requires.canonical
+
+pub site_tree-best_tree-requires : goal.site_tree-best_tree-requires
+site_tree-best_tree-requires g t c =
+    let array = column_of c.args.array.now in
+    let here = open-here c.in_ok-tree.field-0 c.in-Open.plain (column_of c.args.canonical) array (site_of c.args.site.now) c.in_ok-tree.ensures c.in-Open.is (column_of-is c.args.canonical array c.requires.canonical) in
+    let value : HasValue array = here.value in
+    let canonical : c.in-Open.plain ≡ plain array = here.plain in
+    let askable : IsAskable array = record { some = here.some; few = few_in_reach array (site_of c.args.site.now).budget c.requires.reach } in
+    search rules
+
+pub site_tree-returns-in-Decided-clause-answer : goal.site_tree-returns-in-Decided-clause-answer
+site_tree-returns-in-Decided-clause-answer g t c =
+    let set = setting g.S.Scheme.meaning c.args.self.now c.args.words.now in
+    let site = site_of c.args.site.now in
+    decided-here c.in_ok-tree.field-0 c.in-Decided.tree (column_of c.args.canonical) (column_of c.args.array.now) site c.in_ok-tree.ensures c.in-Decided.is (column_of-is c.args.canonical (column_of c.args.array.now) c.requires.canonical)
+    (chosen (children_of set site) set)
+
+pub site_tree-returns-in-Open-clause-answer : goal.site_tree-returns-in-Open-clause-answer
+site_tree-returns-in-Open-clause-answer g t c =
+    let set = setting g.S.Scheme.meaning c.args.self.now c.args.words.now in
+    let site = site_of c.args.site.now in
+    let here = open-here c.in_ok-tree.field-0 c.in-Open.plain (column_of c.args.canonical) (column_of c.args.array.now) site c.in_ok-tree.ensures c.in-Open.is (column_of-is c.args.canonical (column_of c.args.array.now) c.requires.canonical) in
+    answers_along c.best_tree.result _ _ (here.chosen (chosen (children_of set site) set)) c.best_tree.ensures.answer
+
+-- ---- best_tree
+
+pub best_tree-new-column-requires : goal.best_tree-new-column-requires
+best_tree-new-column-requires g t c = plain-is c.args.canonical (column_of c.args.array.now) c.requires.canonical
+
+pub best_tree-choose-requires : goal.best_tree-choose-requires
+best_tree-choose-requires g t c =
+    let meaning = g.S.Scheme.meaning in
+    let here = column_of c.args.array.now in
+    let site = c.with_merged_stats_options-site.result in
+    let opts = options_of site in
+    let typed = c.dtype.ensures ∙ ap (λ col. col.dtype) (column_of-is c.args.canonical here c.requires.canonical) in
+    let budget : site.budget ≡ c.args.site.now.budget = ap (λ s. s.budget) c.with_merged_stats_options-site.ensures.site in
+    let reach : IsInReach here site.budget = subst (IsInReach here) (sym budget) c.requires.reach in
+    let ready : All (λ s. IsReady here opts (meaning s)) c.as_slice-2.result.now =
+    merged_ready meaning (map meaning c.args.self.now) here (site_of c.args.site.now).history (type_of c.dtype.result.now) c.merged_options-options.result opts
+    c.in_ok-schemes.schemes c.as_slice.result.now c.as_slice-2.result.now
+    c.in_ok-schemes.ensures typed c.as_slice.ensures c.as_slice-2.ensures c.with_merged_stats_options-site.ensures.options c.merged_options-options.ensures in
+    search rules
+
+pub best_tree-trial-requires : goal.best_tree-trial-requires
+best_tree-trial-requires g t c =
+    let meaning = g.S.Scheme.meaning in
+    let here = column_of c.args.array.now in
+    let after = c.with_merged_stats_options-site.result in
+    let opts = options_of after in
+    let set = setting meaning c.args.self.now c.args.words.now in
+    let site = site_of c.args.site.now in
+    let child = children_of set site in
+    let held = c.in_ok-best.ensures.holds in
+    let typed = c.dtype.ensures ∙ ap (λ col. col.dtype) (column_of-is c.args.canonical here c.requires.canonical) in
+    let all = merged_ready meaning (map meaning c.args.self.now) here site.history (type_of c.dtype.result.now) c.merged_options-options.result opts
+    c.in_ok-schemes.schemes c.as_slice.result.now c.in_ok-schemes.schemes
+    c.in_ok-schemes.ensures typed c.as_slice.ensures refl c.with_merged_stats_options-site.ensures.options c.merged_options-options.ensures in
+    let eligible_here = c.in_ok-schemes.ensures ∙ ap (λ t. eligible (map meaning c.args.self.now) t site.history) typed in
+    let is : Some (meaning c.in-Some.scheme) ≡ choice child set here site =
+    sym (ap (option_map meaning) c.in-Some.is) ∙ c.in_ok-best.ensures.answer ∙ ap (λ s. choice (children_of set s) set here s) c.with_merged_stats_options-site.ensures.site in
+    let budget : after.budget ≡ c.args.site.now.budget = ap (λ s. s.budget) c.with_merged_stats_options-site.ensures.site in
+    let column : IsSiteTree c.choose.new.column.array = site_tree-held c.choose.new.column here opts held c.requires.askable in
+    let ready : IsReady (column_of c.choose.new.column.array) c.choose.new.column.options (meaning c.in-Some.scheme) =
+    ready-held c.choose.new.column here opts held (meaning c.in-Some.scheme) (choice_ready meaning child set here site opts c.in_ok-schemes.schemes c.in-Some.scheme eligible_here all is) in
+    let reach : IsInReach (column_of c.choose.new.column.array) after.budget = subst (λ col. IsInReach col after.budget) (sym (column-held c.choose.new.column here opts held)) (subst (IsInReach here) (sym budget) c.requires.reach) in
+    search rules
+
+pub best_tree-returns-clause-answer : goal.best_tree-returns-clause-answer
+best_tree-returns-clause-answer g t c =
+    let meaning = g.S.Scheme.meaning in
+    let here = column_of c.args.array.now in
+    let opts = options_of c.with_merged_stats_options-site.result in
+    let set = setting meaning c.args.self.now c.args.words.now in
+    let m = meaning c.in-Some.scheme in
+    let site = site_of c.with_merged_stats_options-site.result in
+    let child = children_of set site in
+    let same = column_of-is c.into_array-2.result here (c.into_array-2.ensures.array ∙ c.in_ok-tree.ensures.column.array ∙ c.in_ok-best.ensures.holds.array) in
+    let made : c.in_ok-tree.tree ≡ trial child m here site = c.in_ok-tree.ensures.answer ∙ ap (λ col. trial child m col site) (column-held c.choose.new.column here opts c.in_ok-best.ensures.holds) in
+    let is : Some m ≡ choice child set here site = sym (ap (option_map meaning) c.in-Some.is) ∙ c.in_ok-best.ensures.answer in
+    c.smaller.ensures ∙ (λ i. smaller_or_plain (same i) (made i))
+    ∙ chosen-some meaning child set here site c.in-Some.scheme is
+    ∙ ap (λ s. chosen_or_plain here (chosen (children_of set s) set here s)) c.with_merged_stats_options-site.ensures.site
+
+-- ---- choose
+
+pub choose-returns-then-is_always-clause-answer : goal.choose-returns-then-is_always-clause-answer
+choose-returns-then-is_always-clause-answer g t c =
+    let meaning = g.S.Scheme.meaning in
+    let set = setting meaning c.args.self.now c.args.words.now in
+    let site = site_of c.args.site.now in
+    choice_at_once meaning (children_of set site) set (column_of c.args.array.now) site (map meaning c.args.schemes.now) c.in_ok-all.all.best c.scheme_of.result
+    c.requires.eligible c.in_ok-all.ensures.best (sym c.is_always.ensures ∙ c.if-is_always.true) c.scheme_of.ensures
+
+pub choose-judge-requires : goal.choose-judge-requires
+choose-judge-requires g t c =
+    let meaning = g.S.Scheme.meaning in
+    let here = column_of c.args.array.now in
+    let opts = options_of c.args.site.now in
+    let put_off = ap (map (meant_pair meaning)) c.as_slice-deferred.ensures.value ∙ c.in_ok-all.ensures.deferred (sym c.is_always.ensures ∙ c.if-is_always.false) in
+    let ready : All (λ p. IsReady here opts (meaning p.0)) c.as_slice-deferred.result.now = put_off_ready meaning here (site_of c.args.site.now) opts c.args.schemes.now c.as_slice-deferred.result.now c.requires.ready put_off in
+    search rules
+
+pub choose-returns-clause-answer : goal.choose-returns-clause-answer
+choose-returns-clause-answer g t c =
+    let meaning = g.S.Scheme.meaning in
+    let set = setting meaning c.args.self.now c.args.words.now in
+    let site = site_of c.args.site.now in
+    let put_off = ap (map (meant_pair meaning)) c.as_slice-deferred.ensures.value ∙ c.in_ok-all.ensures.deferred (sym c.is_always.ensures ∙ c.if-is_always.false) in
+    choice_later meaning (children_of set site) set (column_of c.args.array.now) site (map meaning c.args.schemes.now) c.in_ok-all.all.best c.scheme_of-2.result
+    c.in_ok-best.best (map (meant_pair meaning) c.as_slice-deferred.result.now) c.requires.eligible c.in_ok-all.ensures.best put_off c.in_ok-best.ensures.answer c.scheme_of-2.ensures
+
+-- ---- judge
+
+pub judge-returns-then-is_always-clause-answer : goal.judge-returns-then-is_always-clause-answer
+judge-returns-then-is_always-clause-answer g t c =
+    let meaning = g.S.Scheme.meaning in
+    let l = c.loop-scheme in
+    let xs = c.args.deferred.now in
+    let here = column_of c.args.array.now in
+    let site = site_of c.args.site.now in
+    let words = c.args.words.now in
+    let child = children_of (setting meaning c.args.self.now words) site in
+    sym (best_found-always meaning child words here site c.better-best.result (drop (l.scheme-index + 1) xs) (sym c.is_always.ensures ∙ c.if-is_always.true))
+    ∙ best_found-step meaning child words here site l.best c.better-best.result xs l.scheme-index c.loop-scheme-item.result c.in_ok-score.score c.loop-scheme-test.true c.loop-scheme-item.is c.in_ok-score.ensures.answer c.better-best.ensures
+    ∙ l.invariant.best
+
+pub judge-loop-scheme-preserved : goal.judge-loop-scheme-preserved
+judge-loop-scheme-preserved g t c =
+    let meaning = g.S.Scheme.meaning in
+    let l = c.loop-scheme in
+    let here = column_of c.args.array.now in
+    let site = site_of c.args.site.now in
+    let words = c.args.words.now in
+    let child = children_of (setting meaning c.args.self.now words) site in
+    record {
+      holds = c.in_ok-score.ensures.holds;
+      same_ctx = c.in_ok-score.ensures.ctx ∙ l.invariant.same_ctx;
+      best = best_found-step meaning child words here site l.best c.better-best.result c.args.deferred.now l.scheme-index c.loop-scheme-item.result c.in_ok-score.score c.loop-scheme-test.true c.loop-scheme-item.is c.in_ok-score.ensures.answer c.better-best.ensures ∙ l.invariant.best;
+    }
+
+-- ---- deferred_score
+
+pub deferred_score-returns-in-Sample-clause-answer : goal.deferred_score-returns-in-Sample-clause-answer
+deferred_score-returns-in-Sample-clause-answer g t c =
+    let m = g.S.Scheme.meaning c.args.scheme.now in
+    let here = column_of c.args.array.now in
+    let site = site_of c.args.site.now in
+    let words = c.args.words.now in
+    let child = children_of (setting g.S.Scheme.meaning c.args.self.now words) site in
+    let same = column_of-is c.array.result.now here (c.array.ensures.array ∙ c.requires.holds.array) in
+    subst (λ how. Answers c.sample_score.result (deferred_score child words m here site how)) (sym c.in-Sample.is)
+    (answers_to c.sample_score.result (λ col. deferred_score child words m col site Sample) _ _ same c.sample_score.ensures.answer)
+
+-- ---- sample_score
+
+pub sample_score-new-column-requires : goal.sample_score-new-column-requires
+sample_score-new-column-requires g t c = plain-is c.in_ok-part.part (sample c.is_sample.result c.args.words.now (column_of c.args.whole.now)) c.in_ok-part.ensures
+
+pub sample_score-trial-requires : goal.sample_score-trial-requires
+sample_score-trial-requires g t c =
+    let here = column_of c.args.whole.now in
+    let site = site_of c.args.site.now in
+    let words = c.args.words.now in
+    let m = g.S.Scheme.meaning c.args.scheme.now in
+    let part = c.new-column.result.array in
+    let e : part ≡ plain (sample site.sampled words here) = ap (λ b. b.array) c.new-column.ensures ∙ c.in_ok-part.ensures ∙ ap (λ s. plain (sample s words here)) c.is_sample.ensures in
+    let opts = ap (λ b. b.options) c.new-column.ensures ∙ c.merged_stats_options.ensures in
+    let budget : c.with_sampling-site.result.budget ≡ c.args.site.now.budget = ap (λ s. s.budget) c.with_sampling-site.ensures.site in
+    let column : IsSiteTree part = site_tree-sampled part here site.sampled words e c.requires.askable in
+    let ready : IsReady (column_of part) c.new-column.result.options m = subst (λ o. IsReady (column_of part) o m) (sym opts) (ready-sampled part here site.sampled words e _ m c.requires.ready) in
+    let reach : IsInReach (column_of part) c.with_sampling-site.result.budget = subst (IsInReach (column_of part)) (sym budget) (reach-sampled part here site.sampled words e site.budget c.requires.reach) in
+    search rules
+
+pub sample_score-size_score-requires : goal.sample_score-size_score-requires
+sample_score-size_score-requires g t c =
+    let here = column_of c.args.whole.now in
+    let site = site_of c.args.site.now in
+    let words = c.args.words.now in
+    let e : c.new-column.result.array ≡ plain (sample site.sampled words here) =
+    ap (λ b. b.array) c.new-column.ensures ∙ c.in_ok-part.ensures ∙ ap (λ s. plain (sample s words here)) c.is_sample.ensures in
+    subst (λ t. size t < 2 ^ 64) (sym (c.array-before.ensures.array ∙ c.in_ok-tree.ensures.column.array)) (size-sampled c.new-column.result.array here site.sampled words e c.requires.askable)
+
+pub sample_score-returns-clause-answer : goal.sample_score-returns-clause-answer
+sample_score-returns-clause-answer g t c =
+    let here = column_of c.args.whole.now in
+    let site = site_of c.args.site.now in
+    let words = c.args.words.now in
+    let set = setting g.S.Scheme.meaning c.args.self.now words in
+    let e : c.new-column.result.array ≡ plain (sample site.sampled words here) =
+    ap (λ b. b.array) c.new-column.ensures ∙ c.in_ok-part.ensures ∙ ap (λ s. plain (sample s words here)) c.is_sample.ensures in
+    let m = g.S.Scheme.meaning c.args.scheme.now in
+    let made = c.in_ok-tree.ensures.answer ∙ ap (λ s. trial (children_of set s) m (column_of c.new-column.result.array) s) c.with_sampling-site.ensures.site in
+    score-sampled c.new-column.result.array here site.sampled words e (children_of set site) m site c.in_ok-tree.tree c.array-before.result.now c.size_score.result made (c.array-before.ensures.array ∙ c.in_ok-tree.ensures.column.array) c.size_score.ensures
+
+-- ---- trial
+
+pub trial-returns-in-Kept-clause-answer : goal.trial-returns-in-Kept-clause-answer
+trial-returns-in-Kept-clause-answer g t c =
+    let set = setting g.S.Scheme.meaning c.args.self.now c.args.words.now in
+    let m = g.S.Scheme.meaning c.args.scheme.now in
+    let here = column_of c.args.column.now.array in
+    let site = site_of c.args.site.now in
+    let made : Kept ≡ split_of (m.splits here site) = sym c.in-Kept.is ∙ c.in_ok-split.ensures.answer c.requires.ready.taken in
+    let same = c.array-in-Kept.ensures.array ∙ c.split.ensures.column.array ∙ c.requires.column.plain in
+    answers_along c.copy.result _ _ (same ∙ trial-kept (children_of set site) m here site made) c.copy.ensures
+
+pub trial-returns-in-Finished-clause-answer : goal.trial-returns-in-Finished-clause-answer
+trial-returns-in-Finished-clause-answer g t c =
+    let set = setting g.S.Scheme.meaning c.args.self.now c.args.words.now in
+    let m = g.S.Scheme.meaning c.args.scheme.now in
+    let here = column_of c.args.column.now.array in
+    let site = site_of c.args.site.now in
+    let made : Finished c.in-Finished.tree ≡ split_of (m.splits here site) = sym c.in-Finished.is ∙ c.in_ok-split.ensures.answer c.requires.ready.taken in
+    trial-finished (children_of set site) m here site c.in-Finished.tree made
+
+pub trial-part_trees-requires : goal.trial-part_trees-requires
+trial-part_trees-requires g t c =
+    let meaning = g.S.Scheme.meaning in
+    let here = column_of c.args.column.now.array in
+    let site = site_of c.args.site.now in
+    let made : Parts c.in-Parts.parts ≡ split_of ((meaning c.args.scheme.now).splits here site) = sym c.in-Parts.is ∙ c.in_ok-split.ensures.answer c.requires.ready.taken in
+    let parts = parts_made meaning g.met.S.Scheme.lawful c.args.self.now c.args.words.now c.args.scheme.now c.args.column.now.array c.array.result.now site c.known.ensures c.array.ensures.array c.requires.column c.requires.ready.taken c.requires.reach
+    c.in-Parts.parts made in
+    let plain : All IsPlain c.as_slice-parts.result.now = subst (All IsPlain) (sym c.as_slice-parts.ensures) parts.plain in
+    let reach : All (λ part. IsPartInReach (column_of part) c.args.site.now.budget) c.as_slice-parts.result.now = subst (All (λ part. IsPartInReach (column_of part) site.budget)) (sym c.as_slice-parts.ensures) parts.reach in
+    search rules
+
+pub trial-join-requires-clause-column : goal.trial-join-requires-clause-column
+trial-join-requires-clause-column g t c = subst IsSiteTree (sym c.split.ensures.column.array) c.requires.column
+
+pub trial-join-requires-clause-trees : goal.trial-join-requires-clause-trees
+trial-join-requires-clause-trees g t c =
+    let meaning = g.S.Scheme.meaning in
+    let here = column_of c.args.column.now.array in
+    let site = site_of c.args.site.now in
+    let made : Parts c.in-Parts.parts ≡ split_of ((meaning c.args.scheme.now).splits here site) = sym c.in-Parts.is ∙ c.in_ok-split.ensures.answer c.requires.ready.taken in
+    let parts = parts_made meaning g.met.S.Scheme.lawful c.args.self.now c.args.words.now c.args.scheme.now c.args.column.now.array c.array.result.now site c.known.ensures c.array.ensures.array c.requires.column c.requires.ready.taken c.requires.reach
+    c.in-Parts.parts made in
+    let child = children_of (setting meaning c.args.self.now c.args.words.now) site in
+    let are = c.in_ok-trees-in-Parts.ensures.answer ∙ (λ i. part_trees child (c.id.ensures i) site 0 (map column_of (c.as_slice-parts.ensures i))) in
+    subst (λ array. FitParts ((meaning c.args.scheme.now).splits (column_of array) site) c.in_ok-trees-in-Parts.trees) (sym c.split.ensures.column.array) (parts.fit c.in_ok-trees-in-Parts.trees are)
+
+pub trial-returns-in_ok-trees-in-Parts-clause-answer : goal.trial-returns-in_ok-trees-in-Parts-clause-answer
+trial-returns-in_ok-trees-in-Parts-clause-answer g t c =
+    let meaning = g.S.Scheme.meaning in
+    let here = column_of c.args.column.now.array in
+    let site = site_of c.args.site.now in
+    let made : Parts c.in-Parts.parts ≡ split_of ((meaning c.args.scheme.now).splits here site) = sym c.in-Parts.is ∙ c.in_ok-split.ensures.answer c.requires.ready.taken in
+    let parts = parts_made meaning g.met.S.Scheme.lawful c.args.self.now c.args.words.now c.args.scheme.now c.args.column.now.array c.array.result.now site c.known.ensures c.array.ensures.array c.requires.column c.requires.ready.taken c.requires.reach
+    c.in-Parts.parts made in
+    let child = children_of (setting meaning c.args.self.now c.args.words.now) site in
+    let are = c.in_ok-trees-in-Parts.ensures.answer ∙ (λ i. part_trees child (c.id.ensures i) site 0 (map column_of (c.as_slice-parts.ensures i))) in
+    joined_answer (meaning c.args.scheme.now) c.join.result c.args.column.now.array c.split.new.column.array _ site c.in_ok-trees-in-Parts.trees c.split.ensures.column.array (parts.joined c.in_ok-trees-in-Parts.trees are) c.requires.ready.taken c.join.ensures.answer
+
+-- ---- part_trees
+
+pub part_trees-loop-number-preserved : goal.part_trees-loop-number-preserved
+part_trees-loop-number-preserved g t c =
+    let l = c.loop-number in
+    let site = site_of c.args.site.now in
+    let child = children_of (setting g.S.Scheme.meaning c.args.self.now c.args.words.now) site in
+    record {
+      same_ctx = c.in_ok-tree.ensures.ctx ∙ l.invariant.same_ctx;
+      trees = part_trees-step child (name_of c.args.id) site c.args.parts.now l.number c.index-parts-number.result c.in_ok-tree.tree l.trees c.in_ok-trees.trees c.loop-number-test.true c.index-parts-number.is c.in_ok-tree.ensures.answer c.in_ok-trees.ensures ∙ l.invariant.trees;
+    }
+
+-- ---- part_tree
+
+pub part_tree-returns-then-finished_cascading-clause-answer : goal.part_tree-returns-then-finished_cascading-clause-answer
+part_tree-returns-then-finished_cascading-clause-answer g t c =
+    let set = setting g.S.Scheme.meaning c.args.self.now c.args.words.now in
+    let parent = site_of c.args.parent.now in
+    c.in_ok-plain.ensures ∙ c.requires.plain ∙ child_tree-none set parent.budget (column_of c.args.part.now) (down parent (name_of c.args.id) c.args.number) (sym c.finished_cascading.ensures ∙ c.if-finished_cascading.true)
+
+pub part_tree-site_tree-requires : goal.part_tree-site_tree-requires
+part_tree-site_tree-requires g t c =
+    let part = column_of c.args.part.now in
+    let parent = site_of c.args.parent.now in
+    let more : (parent.budget == 0) ≡ false = sym c.finished_cascading.ensures ∙ c.if-finished_cascading.false in
+    let some = eqb-false _ _ more in
+    let budget : c.descend-site.result.budget ≡ c.args.parent.now.budget - 1 = ap (λ s. s.budget) c.descend-site.ensures.site in
+    let reach : IsInReach part c.descend-site.result.budget = subst (IsInReach part) (sym budget) (reach-below part parent (name_of c.args.id) c.args.number c.requires.reach more) in
+    let canonical : c.in_ok-plain.plain ≡ plain part = c.in_ok-plain.ensures ∙ c.requires.plain in
+    search rules
+
+pub part_tree-returns-clause-answer : goal.part_tree-returns-clause-answer
+part_tree-returns-clause-answer g t c =
+    let set = setting g.S.Scheme.meaning c.args.self.now c.args.words.now in
+    let part = column_of c.args.part.now in
+    let parent = site_of c.args.parent.now in
+    answers_along c.site_tree.result _ _ (ap (leaf_tree set part) c.descend-site.ensures.site ∙ child_tree-some set parent part (name_of c.args.id) c.args.number (sym c.finished_cascading.ensures ∙ c.if-finished_cascading.false)) c.site_tree.ensures.answer

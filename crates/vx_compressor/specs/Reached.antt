@@ -1,0 +1,29 @@
+-- The sites of which the tree of a column may come, and their bounds.
+use Rattle.std.specs.Prelude.{◌≡◌, ◌<◌, ◌≤◌, ℕ, ◌+◌, true, List, length, map, Contains, slice_index_or}
+use Rattle.vx_model.specs.Column.{Column}
+use Rattle.vx_model.specs.Site.{Site, fresh, down, max_cascade}
+use Rattle.vx_scheme.specs.Contexts.{sample_site}
+use Rattle.vx_scheme.specs.Meaning.{Meaning, parts}
+use Rattle.vx_compressor.specs.Cascade.{Setting, eligible}
+use Rattle.vx_compressor.specs.CascadeLaws.{IsWithin}
+use Rattle.vx_compressor.specs.Distinct.{are_distinct}
+use Rattle.vx_compressor.specs.Reach.{most_site_rows}
+use Rattle.vx_compressor.specs.Sampling.{sample}
+
+-- The column itself at the fresh site; a sample at the site of what it is taken of; and, while schemes may follow, each part that
+-- a scheme makes of a column with rows at a site where it may stand.
+pub data IsReached (set : Setting) (c : Column) : Column → Site → Type 0 where
+  begun : IsReached set c c fresh
+  by_sample : (d : Column) (site : Site) → IsReached set c d site → IsReached set c (sample site.sampled set.words d) (sample_site site)
+  by_part : (d : Column) (site : Site) (m : Meaning) (columns : List Column) (number : ℕ) → IsReached set c d site → 0 < length d.values → 0 < site.budget
+      → Contains (eligible set.schemes d.dtype site.history) m → m.splits d site ≡ parts columns → number < length columns
+      → IsReached set c (slice_index_or columns number d) (down site m.name number)
+
+-- the column has few rows, no scheme stands twice above it, and for each that stands above the budget is one less
+pub record IsBounded (d : Column) (site : Site) : Type 0 where
+  pub rows : length d.values ≤ most_site_rows site.budget
+  pub names : are_distinct (map (λ e. e.0) site.history) ≡ true
+  pub levels : length site.history + site.budget ≡ max_cascade
+
+abbrev pub SitesAreBounded : Setting → Type 0
+SitesAreBounded set = (c : Column) → IsWithin c → (d : Column) (site : Site) → IsReached set c d site → IsBounded d site
