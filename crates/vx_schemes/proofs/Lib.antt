@@ -1,3 +1,6 @@
+pub mod DictionaryLemmas
+pub mod DictionaryRatioLemmas
+pub mod DictionaryTreeLemmas
 pub mod DifferenceLemmas
 pub mod EncodingLemmas
 pub mod FrameFacts
@@ -7,7 +10,9 @@ pub mod LeastLemmas
 pub mod MadeLemmas
 pub mod NegativeLemmas
 pub mod PackingLemmas
+pub mod PlaceLemmas
 pub mod ShortLemmas
 pub mod StandardFacts
 pub mod WideLemmas
 pub mod WidthLemmas
+pub mod ZigZagLemmas

@@ -1,10 +1,16 @@
 pub mod BitPacking
 pub mod BitPackingMeaning
+pub mod Codes
 pub mod CompressedPatches
 pub mod Differences
+pub mod Dictionary
 pub mod Exclusions
 pub mod Finishing
 pub mod FrameOfReference
+pub mod IntDictMeaning
 pub mod Laws
+pub mod Pairs
 pub mod StandsFor
 pub mod Widths
+pub mod ZigZagged
+pub mod ZigZagMeaning

@@ -37,8 +37,8 @@ impl BitPackingScheme {
     }
 }
 
-// Whether some value of the column is negative.
-fn has_negative(column: &mut ArrayAndStats, ctx: &mut ExecutionCtx) -> VortexResult<bool>
+/// Whether some value of the column is negative.
+pub(crate) fn has_negative(column: &mut ArrayAndStats, ctx: &mut ExecutionCtx) -> VortexResult<bool>
     requires integer { IsTrue (is_integer (tree_type column.old.array)) }
     requires few { length (rows column.old.array) ≤ most_rows }
     ensures answer { Answers result (has_negative (column_of column.old.array)) }

@@ -89,7 +89,8 @@ fn differences(alloc: Global, array: &ArrayRef, reference: i128) -> VortexResult
     }
 }
 
-fn copied(alloc: Global, valid: &Option<Mask>) -> VortexResult<Option<Mask>>
+/// The same validity.
+pub(crate) fn copied(alloc: Global, valid: &Option<Mask>) -> VortexResult<Option<Mask>>
     ensures { Answers result valid.now }
 {
     match valid {

@@ -1,7 +1,6 @@
 //! The scheme of frames of reference.
 
 ghost use Rattle.std.specs.Prelude.{◌≡◌, ◌<◌, ◌≤ℤ◌, ◌-ℤ◌, pos};
-ghost use Rattle.vx_base.specs.Digits.{digits};
 ghost use Rattle.vx_scheme.specs.Erased.{extremes_of};
 ghost use Rattle.vx_schemes.specs.Finishing.{FinishesProduced};
 ghost use Rattle.vx_schemes.specs.FrameOfReference.{for_meaning, is_as_wide, gains_nothing, for_verdict};
@@ -9,6 +8,7 @@ ghost use Rattle.vx_schemes.specs.FrameOfReference.{for_meaning, is_as_wide, gai
 use crate::differences::frame_of_reference_tree;
 use crate::exclusions::not_in_codes;
 use crate::finishing::finished_or_kept;
+use crate::widths::digits;
 use std::alloc::Global;
 use std::sync::ledger::Ledger;
 use vx_array::{ArrayRef, Arrays};
@@ -42,13 +42,6 @@ impl Default for FoRScheme {
     fn default() -> Self {
         FoRScheme::v1()
     }
-}
-
-// How many binary digits a number has.
-fn digits(number: u64) -> u32
-    ensures { result ≡ digits number }
-{
-    64 - number.leading_zeros()
 }
 
 // Whether no value is negative, and the differences have as many digits as the greatest.

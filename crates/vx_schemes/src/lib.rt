@@ -3,16 +3,26 @@
 
 mod bit_packing;
 mod bit_packing_scheme;
+mod dictionary;
+mod dictionary_trees;
 mod differences;
+mod distinct_ints;
 mod exclusions;
 mod finishing;
 mod frame_of_reference;
+mod int_dict_scheme;
 mod least;
+mod pairs;
 mod patches;
+mod widths;
+mod zig_zag;
+mod zig_zag_scheme;
 
 pub use bit_packing_scheme::BitPackingScheme;
 pub use frame_of_reference::FoRScheme;
+pub use int_dict_scheme::IntDictScheme;
 pub use patches::compress_patches;
+pub use zig_zag_scheme::ZigZagScheme;
 
 #[cfg(test)]
 mod tests;

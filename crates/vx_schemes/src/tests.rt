@@ -1,73 +1,64 @@
-//! Each call that takes memory once, over columns worked by hand.
+//! What the schemes tell of themselves.
 
-mod frame_of_reference;
-
+use crate::{BitPackingScheme, FoRScheme, IntDictScheme};
 use std::test::Fail;
-use vx_array::{ArrayRef, Ints};
 use vx_base::Nullability::{NonNullable, Nullable};
-use vx_base::PType::{self, I8, I16, I32, I64, U8, U16, U32, U64};
-use vx_base::{ExecutionCtx, IntList, Integer, Mask, Words};
+use vx_base::PType::{I64, U8};
+use vx_base::{ArrayId, DType, IdSet};
+use vx_scheme::{AllowedIds, ChildSelection, Scheme, SchemeId};
 
-// A context with the one word 0.
-fn context(rt: &impl AllocGlobal) -> Result<ExecutionCtx, Fail> {
-    let words = Words::from_vec(vec![in rt.alloc(); 0]?);
-    if words.len() == 0 {
-        return Err(Fail::from("no word"));
-    }
-    Ok(ExecutionCtx::new(rt.alloc(), words))
+#[test]
+fn frames_tell_what_they_are(rt: HostRuntime) -> Result<(), Fail> {
+    let scheme = FoRScheme::v1().refine(&AllowedIds::all());
+    assert!(rt; scheme == FoRScheme::default() && scheme.matches(&DType::primitive(I64, Nullable)));
+    assert_eq!(rt; scheme.scheme_name(), "vortex.int.for");
+    assert!(rt; scheme.id() == SchemeId::of("vortex.int.for"));
+    assert!(rt; scheme.produced_encodings() == IdSet::empty().with(ArrayId::FoR));
+    assert!(rt; !scheme.stats_options().count_distinct_values && scheme.num_children() == 0);
+    assert!(rt; scheme.descendant_exclusions(rt.alloc())?.len() == 0);
+    Ok(())
 }
 
-// The whole numbers, 0 for a null.
-fn wholes<T: Integer>(rt: &impl AllocGlobal, rows: &[Option<i128>]) -> Result<IntList<T>, Fail> {
-    let mut items = Vec::new(rt.alloc());
-    for row in rows {
-        items.push(T::from_whole(row.unwrap_or(0)).ok_or("outside")?)?;
-    }
-    Ok(IntList::from_vec(items))
-}
-
-fn validity(rt: &impl AllocGlobal, rows: &[Option<i128>]) -> Result<Option<Mask>, Fail> {
-    let mut bits = Vec::new(rt.alloc());
-    for row in rows {
-        bits.push(row.is_some())?;
-    }
-    Ok(Some(Mask::from_bits(bits)))
-}
-
-fn integers(rt: &impl AllocGlobal, ptype: PType, rows: &[Option<i128>]) -> Result<Ints, Fail> {
-    Ok(match ptype {
-        U8 => Ints::U8(wholes(rt, rows)?),
-        U16 => Ints::U16(wholes(rt, rows)?),
-        U32 => Ints::U32(wholes(rt, rows)?),
-        U64 => Ints::U64(wholes(rt, rows)?),
-        I8 => Ints::I8(wholes(rt, rows)?),
-        I16 => Ints::I16(wholes(rt, rows)?),
-        I32 => Ints::I32(wholes(rt, rows)?),
-        I64 => Ints::I64(wholes(rt, rows)?),
-    })
-}
-
-// The plain column of these rows, nullable where one is null.
-fn column(rt: &impl AllocGlobal, ptype: PType, rows: &[Option<i128>]) -> Result<ArrayRef, Fail> {
-    let nullability = if rows.iter().any(|row| row.is_none()) {
-        Nullable
-    } else {
-        NonNullable
-    };
-    let valid = validity(rt, rows)?;
-    let made = ArrayRef::primitive(integers(rt, ptype, rows)?, valid, nullability);
-    Ok(made.ok().ok_or("refused")?)
-}
-
-// Whether these are the rows, None at a null.
-fn has_rows(array: &ArrayRef, rows: &[Option<i128>]) -> bool {
-    if !array.dtype().is_integer() || array.len() != rows.len() as u64 {
-        return false;
-    }
-    for row in 0..rows.len() {
-        if array.integer_at(row as u64) != rows[row] {
-            return false;
+#[test]
+fn frames_keep_from_the_codes_of_dictionaries(rt: HostRuntime) -> Result<(), Fail> {
+    let rules = FoRScheme::v1().ancestor_exclusions(rt.alloc())?;
+    match rules.as_slice() {
+        [ints, texts, bytes] => {
+            assert_eq!(rt; ints.ancestor.name(), "vortex.int.dict");
+            assert_eq!(rt; texts.ancestor.name(), "vortex.string.dict");
+            assert_eq!(rt; bytes.ancestor.name(), "vortex.binary.dict");
+            assert!(rt; matches!(ints.children, ChildSelection::One(1)));
+            assert!(rt; matches!(texts.children, ChildSelection::One(1)));
+            assert!(rt; matches!(bytes.children, ChildSelection::One(1)));
         }
+        _ => assert!(rt; false),
     }
-    true
+    Ok(())
+}
+
+#[test]
+fn bit_packing_tells_what_it_is(rt: HostRuntime) -> Result<(), Fail> {
+    let scheme = BitPackingScheme::v1().refine(&AllowedIds::all());
+    assert!(rt; scheme == BitPackingScheme::default());
+    assert!(rt; scheme.matches(&DType::primitive(I64, Nullable)));
+    assert_eq!(rt; scheme.scheme_name(), "vortex.int.bitpacking");
+    assert!(rt; scheme.id() == SchemeId::of("vortex.int.bitpacking"));
+    assert!(rt; scheme.produced_encodings() == IdSet::empty().with(ArrayId::BitPacked));
+    assert!(rt; !scheme.stats_options().count_distinct_values && scheme.num_children() == 0);
+    assert!(rt; scheme.descendant_exclusions(rt.alloc())?.len() == 0);
+    assert!(rt; scheme.ancestor_exclusions(rt.alloc())?.len() == 0);
+    Ok(())
+}
+
+#[test]
+fn dictionaries_tell_what_they_are(rt: HostRuntime) -> Result<(), Fail> {
+    let scheme = IntDictScheme.refine(&AllowedIds::all());
+    assert!(rt; scheme == IntDictScheme && scheme.matches(&DType::primitive(U8, NonNullable)));
+    assert_eq!(rt; scheme.scheme_name(), "vortex.int.dict");
+    assert!(rt; scheme.id() == SchemeId::of("vortex.int.dict"));
+    assert!(rt; scheme.produced_encodings() == IdSet::empty().with(ArrayId::Dict));
+    assert!(rt; scheme.stats_options().count_distinct_values && scheme.num_children() == 2);
+    assert!(rt; scheme.descendant_exclusions(rt.alloc())?.len() == 0);
+    assert!(rt; scheme.ancestor_exclusions(rt.alloc())?.len() == 0);
+    Ok(())
 }

@@ -11,4 +11,4 @@ returns c =
     let same = c.erased-erased.ensures.extremes in
     let gain = subst (λ (e : Extremes). gains_nothing e ≡ false) same (sym c.gains_nothing.ensures ∙ c.if-gains_nothing.false) in
     let spans = subst (λ (e : Extremes). pos s ≡ e.greatest -ℤ e.least) same c.max_minus_min-span.ensures in
-    verdict-ratio c.args.bits c.args.stats.now.extremes s c.new.result gain spans (c.new.ensures.num ∙ c.from.ensures) (c.new.ensures.den ∙ c.from-2.ensures ∙ c.digits.ensures)
+    verdict-ratio c.args.bits c.args.stats.now.extremes s c.new.result gain spans (c.new.ensures.num ∙ c.from.ensures) (c.new.ensures.den ∙ c.from-2.ensures ∙ c.digits.ensures.digits)

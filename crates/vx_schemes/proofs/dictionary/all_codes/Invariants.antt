@@ -1,0 +1,9 @@
+use Rattle.std.proofs.Common.{◌≡◌, ◌++◌, map, drop}
+use Rattle.vx_schemes.specs.Codes.{codes_in}
+use Rattle.vx_schemes.proofs.dictionary.all_codes.Given as goal
+
+abbrev pub invariant-loop-row : goal.invariant-loop-row
+invariant-loop-row g l =
+    let whole = g.T.Integer.whole in
+    let f = codes_in g.C.Integer.kind (map whole l.values) in
+    map g.C.Integer.whole l.codes.items ++ f (map whole (drop l.row l.items)) ≡ f (map whole l.items)

@@ -1,0 +1,29 @@
+-- What zigzag makes of a column of integers: one part, with the zigzags of its rows.
+use Rattle.std.specs.Prelude.{pos, if◌then◌else◌, List, [], ◌∷◌, map}
+use Rattle.vx_base.specs.Integers.{unsigned_of}
+use Rattle.vx_base.specs.PlainType.{integer_of, nullability_of, is_unsigned}
+use Rattle.vx_base.specs.PlainType as types
+use Rattle.vx_base.specs.PlainValue.{PlainValue, null, int}
+use Rattle.vx_base.specs.ZigZag.{zigzag}
+use Rattle.vx_model.specs.Column.{Column, column}
+use Rattle.vx_model.specs.Plain.{plain}
+use Rattle.vx_model.specs.Tree.{Tree, zig_zag}
+use Rattle.vx_scheme.specs.Meaning.{Made, kept, parts}
+
+-- the zigzag of a row; null stays
+abbrev pub zigzagged : PlainValue → PlainValue
+zigzagged null = null
+zigzagged (int z) = int (pos (zigzag z))
+
+-- the zigzags of a column's rows in the unsigned type of their width, as nullable as it is
+abbrev pub zigzags : Column → Column
+zigzags c = column (types.primitive (unsigned_of (integer_of c.dtype)) (nullability_of c.dtype)) (map zigzagged c.values)
+
+-- a column of an unsigned type stays plain
+abbrev pub zig_zag_made : Column → Made
+zig_zag_made c = if is_unsigned c.dtype then kept else parts (zigzags c ∷ [])
+
+-- zigzag over the part's tree
+abbrev pub zig_zag_over : Column → List Tree → Tree
+zig_zag_over c [] = plain c
+zig_zag_over c (tree ∷ trees) = zig_zag tree

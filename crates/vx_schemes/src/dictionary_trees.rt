@@ -1,0 +1,97 @@
+//! The values and the codes of a dictionary of integers, as plain trees.
+
+ghost use Rattle.std.specs.Prelude.{◌≡◌, ◌<◌, ◌≤◌, ◌^◌, length, map, true, None};
+ghost use Rattle.vx_array.specs.IntsOf.{ptype_of, wholes_of};
+ghost use Rattle.vx_base.specs.Answers.{Answers, OrMemory};
+ghost use Rattle.vx_base.specs.PlainType.{integer_of};
+ghost use Rattle.vx_base.specs.PlainValue.{int, whole_or_zero};
+ghost use Rattle.vx_model.specs.Column.{column_of};
+ghost use Rattle.vx_model.specs.Plain.{IsPlain, plain};
+ghost use Rattle.vx_model.specs.Refusals.{validity_length, primitive_refusal, kept};
+ghost use Rattle.vx_model.specs.Rows.{rows, valid_rows};
+ghost use Rattle.vx_model.specs.Tree.{primitive};
+ghost use Rattle.vx_model.specs.TreeType.{tree_type};
+ghost use Rattle.vx_scheme.specs.Asked.{most_rows};
+ghost use Rattle.vx_scheme.specs.Stats.{distinct_values};
+ghost use Rattle.vx_schemes.specs.Dictionary.{code_in, code_type, dictionary_values, dictionary_codes};
+
+use crate::dictionary::narrowed_codes;
+use crate::differences::copied;
+use std::alloc::Global;
+use vx_array::{ArrayRef, Ints, Node};
+use vx_base::{Mask, Nullability, VortexResult};
+
+// The arm of one type; the values are of the same.
+macro_rules! codes_of_type {
+    ($alloc:expr, $items:expr, $valid:expr, $values:expr, $kind:ident) => {
+        match $values {
+            Ints::$kind(values) => {
+                narrowed_codes($alloc, $items.as_slice(), $valid, values.as_slice())
+            }
+            _ => unreachable!(),
+        }
+    };
+}
+
+macro_rules! codes_by_type {
+    ($alloc:expr, $items:expr, $valid:expr, $values:expr; $($kind:ident),*) => {
+        match $items {
+            $(Ints::$kind(items) => codes_of_type!($alloc, items, $valid, $values, $kind),)*
+        }
+    };
+}
+
+// The code of each valid row among the distinct values, 0 where a row isn't valid, in the narrowest unsigned type.
+fn codes_of_ints(
+    alloc: Global,
+    items: &Ints,
+    valid: &Option<Mask>,
+    values: &Ints,
+) -> VortexResult<Ints>
+    requires mask { validity_length valid.now (length (wholes_of items.now)) ≡ true }
+    requires ptype { ptype_of values.now ≡ ptype_of items.now }
+    requires values { wholes_of values.now ≡ distinct_values (valid_rows valid.now (map int (wholes_of items.now))) }
+    requires few { length (wholes_of values.now) < 2 ^ 32 }
+    ensures ptype { OrMemory result (λ ints. ptype_of ints ≡ code_type (length (wholes_of values.now))) }
+    ensures codes { OrMemory result (λ ints. wholes_of ints ≡ map whole_or_zero (map (code_in (wholes_of values.now)) (valid_rows valid.now (map int (wholes_of items.now))))) }
+{
+    codes_by_type!(alloc, items, valid, values; U8, U16, U32, U64, I8, I16, I32, I64)
+}
+
+// A plain tree of integers whose validity is allowed.
+fn plain_tree(values: Ints, valid: Option<Mask>, nullability: Nullability) -> VortexResult<ArrayRef>
+    requires { primitive_refusal (length (wholes_of values)) valid nullability ≡ None }
+    ensures { Answers result (primitive (ptype_of values) (wholes_of values) (kept valid) nullability) }
+{
+    match ArrayRef::primitive(values, valid, nullability) {
+        Ok(tree) => Ok(tree),
+        Err(refused) => Err(refused.error),
+    }
+}
+
+/// The codes of a column's rows among its distinct values, null where the row is.
+pub(crate) fn codes_tree(alloc: Global, array: &ArrayRef, values: &Ints) -> VortexResult<ArrayRef>
+    requires plain { IsPlain array.now }
+    requires few { length (rows array.now) ≤ most_rows }
+    requires ptype { ptype_of values.now ≡ integer_of (tree_type array.now) }
+    requires values { wholes_of values.now ≡ distinct_values (rows array.now) }
+    ensures { Answers result (plain (dictionary_codes (column_of array.now))) }
+{
+    array.known();
+    match array.node() {
+        Node::Primitive(items, valid, nullability) => {
+            let codes = codes_of_ints(alloc, items, valid, values)?;
+            plain_tree(codes, copied(alloc, valid)?, *nullability)
+        }
+        _ => unreachable!(),
+    }
+}
+
+/// The distinct values of a column, of its type.
+pub(crate) fn values_tree(array: &ArrayRef, values: Ints) -> VortexResult<ArrayRef>
+    requires ptype { ptype_of values ≡ integer_of (tree_type array.now) }
+    requires values { wholes_of values ≡ distinct_values (rows array.now) }
+    ensures { Answers result (plain (dictionary_values (column_of array.now))) }
+{
+    plain_tree(values, None, array.dtype().nullability())
+}
