@@ -5,28 +5,38 @@ use Rattle.vx_scheme.specs.Lawful.{Lawful}
 use Rattle.vx_scheme.specs.Meaning.{Meaning}
 use Rattle.vx_schemes.specs.BitPackingMeaning.{bit_packing_meaning, bit_packing_lawful}
 use Rattle.vx_schemes.specs.FrameOfReference.{for_meaning, for_meaning_lawful}
+use Rattle.vx_schemes.specs.IntDictMeaning.{int_dict_meaning, int_dict_lawful}
+use Rattle.vx_schemes.specs.ZigZagMeaning.{zig_zag_meaning, zig_zag_lawful}
 use Rattle.vx_btrblocks.specs.declared.any_scheme.AnyScheme.{AnyScheme}
-use Rattle.vx_btrblocks.specs.declared.any_scheme.AnyScheme.TheVariants.{FoR, BitPacking, Own}
+use Rattle.vx_btrblocks.specs.declared.any_scheme.AnyScheme.TheVariants.{FoR, ZigZag, BitPacking, IntDict, Own}
 
 -- by its variant
 abbrev pub any_meaning : {X : Type 0} → (X → Meaning) → AnyScheme X → Meaning
 any_meaning own (FoR s) = for_meaning s
+any_meaning own (ZigZag s) = zig_zag_meaning s
 any_meaning own (BitPacking s) = bit_packing_meaning s
+any_meaning own (IntDict s) = int_dict_meaning s
 any_meaning own (Own x) = own x
 
 -- where only these encodings are allowed
 abbrev pub any_refined : {X : Type 0} → (X → (ArrayId → Bool) → X) → AnyScheme X → (ArrayId → Bool) → AnyScheme X
 any_refined own (FoR s) allowed = FoR s
+any_refined own (ZigZag s) allowed = ZigZag s
 any_refined own (BitPacking s) allowed = BitPacking s
+any_refined own (IntDict s) allowed = IntDict s
 any_refined own (Own x) allowed = Own (own x allowed)
 
 pub any_lawful : {X : Type 0} (own : X → Meaning) → ((x : X) → Lawful (own x)) → (s : AnyScheme X) → Lawful (any_meaning own s)
 any_lawful own law (FoR s) = for_meaning_lawful s
+any_lawful own law (ZigZag s) = zig_zag_lawful s
 any_lawful own law (BitPacking s) = bit_packing_lawful s
+any_lawful own law (IntDict s) = int_dict_lawful s
 any_lawful own law (Own x) = law x
 
 pub any_keeps_name : {X : Type 0} (own : X → Meaning) (refined : X → (ArrayId → Bool) → X) → ((x : X) (ids : ArrayId → Bool) → (own (refined x ids)).name ≡ (own x).name)
     → (s : AnyScheme X) (ids : ArrayId → Bool) → (any_meaning own (any_refined refined s ids)).name ≡ (any_meaning own s).name
 any_keeps_name own refined keeps (FoR s) ids = refl
+any_keeps_name own refined keeps (ZigZag s) ids = refl
 any_keeps_name own refined keeps (BitPacking s) ids = refl
+any_keeps_name own refined keeps (IntDict s) ids = refl
 any_keeps_name own refined keeps (Own x) ids = keeps x ids

@@ -6,11 +6,13 @@ use Rattle.vx_model.specs.Tree.{Tree}
 use Rattle.vx_scheme.specs.Meaning.{Meaning}
 use Rattle.vx_schemes.specs.BitPackingMeaning.{bit_packing_meaning}
 use Rattle.vx_schemes.specs.FrameOfReference.{for_meaning}
+use Rattle.vx_schemes.specs.IntDictMeaning.{int_dict_meaning}
+use Rattle.vx_schemes.specs.ZigZagMeaning.{zig_zag_meaning}
 use Rattle.vx_compressor.specs.Cascade.{Setting, leaf_tree}
 
 -- in the order in which they are judged
 abbrev pub shipped_schemes : List Meaning
-shipped_schemes = for_meaning (record { 0 = tt }) ∷ bit_packing_meaning (record { 0 = tt }) ∷ []
+shipped_schemes = for_meaning (record { 0 = tt }) ∷ zig_zag_meaning (record {}) ∷ bit_packing_meaning (record { 0 = tt }) ∷ int_dict_meaning (record {}) ∷ []
 
 abbrev pub shipped_setting : List ℕ → Setting
 shipped_setting words = record { schemes = shipped_schemes; words = words }

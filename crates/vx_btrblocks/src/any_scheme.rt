@@ -8,13 +8,15 @@ use vx_scheme::{
     AllowedIds, AncestorRules, ArrayAndStats, CompressionEstimate, CompressorContext,
     DescendantRules, EstimateVerdict, GenerateStatsOptions, Scheme, Split,
 };
-use vx_schemes::{BitPackingScheme, FoRScheme};
+use vx_schemes::{BitPackingScheme, FoRScheme, IntDictScheme, ZigZagScheme};
 
 /// A shipped scheme, or one of the caller's own. It does in each call what the scheme in it does.
 #[derive(Clone, Copy, Debug, PartialEq, Eq)]
 pub enum AnyScheme<X> {
     FoR(FoRScheme),
+    ZigZag(ZigZagScheme),
     BitPacking(BitPackingScheme),
+    IntDict(IntDictScheme),
     Own(X),
 }
 
@@ -23,7 +25,9 @@ macro_rules! with_scheme {
     ($any:expr, $scheme:ident => $call:expr) => {
         match $any {
             AnyScheme::FoR($scheme) => $call,
+            AnyScheme::ZigZag($scheme) => $call,
             AnyScheme::BitPacking($scheme) => $call,
+            AnyScheme::IntDict($scheme) => $call,
             AnyScheme::Own($scheme) => $call,
         }
     };
@@ -55,7 +59,9 @@ impl<X: Scheme> Scheme for AnyScheme<X> {
     fn refine(&self, allowed: &AllowedIds) -> Self {
         match self {
             AnyScheme::FoR(scheme) => AnyScheme::FoR(scheme.refine(allowed)),
+            AnyScheme::ZigZag(scheme) => AnyScheme::ZigZag(scheme.refine(allowed)),
             AnyScheme::BitPacking(scheme) => AnyScheme::BitPacking(scheme.refine(allowed)),
+            AnyScheme::IntDict(scheme) => AnyScheme::IntDict(scheme.refine(allowed)),
             AnyScheme::Own(scheme) => AnyScheme::Own(scheme.refine(allowed)),
         }
     }

@@ -15,7 +15,7 @@ use vx_array::ArrayRef;
 use vx_base::{ExecutionCtx, VortexResult};
 use vx_compressor::{CascadingCompressor, Schemes};
 use vx_scheme::Scheme;
-use vx_schemes::{BitPackingScheme, FoRScheme};
+use vx_schemes::{BitPackingScheme, FoRScheme, IntDictScheme, ZigZagScheme};
 
 /// Makes a column's tree over the shipped schemes and those of the caller.
 #[derive(Drop)]
@@ -27,12 +27,15 @@ fn shipped_schemes<X: Scheme>(alloc: Global) -> VortexResult<Schemes<AnyScheme<X
 {
     let mut schemes = Vec::new(alloc);
     schemes.push(AnyScheme::FoR(FoRScheme::v1()))?;
+    schemes.push(AnyScheme::ZigZag(ZigZagScheme))?;
     schemes.push(AnyScheme::BitPacking(BitPackingScheme::v1()))?;
+    schemes.push(AnyScheme::IntDict(IntDictScheme))?;
     Ok(Schemes::from_vec(schemes))
 }
 
 impl<X: Scheme> BtrBlocksCompressor<X> {
-    /// The compressor over the shipped schemes: frame of reference, then bit packing. Refuses NoMemory alone.
+    /// The compressor over the shipped schemes: frame of reference, zigzag, bit packing, dictionary. Refuses NoMemory
+    /// alone.
     pub fn shipped(alloc: Global) -> VortexResult<Self>
         ensures { OrMemory result (λ compressor. map (any_meaning X.meaning) compressor.0 ≡ shipped_schemes) }
     {

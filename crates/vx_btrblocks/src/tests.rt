@@ -6,7 +6,9 @@ use vx_array::{ArrayRef, Ints, Node};
 use vx_base::{
     ArrayId, ExecutionCtx, IntList, Mask, Nullability, PType, Scalar, VortexError, Words,
 };
+use vx_compressor::{CascadingCompressor, Schemes};
 use vx_scheme::NoScheme;
+use vx_schemes::BitPackingScheme;
 
 fn ctx(rt: &impl AllocGlobal) -> Result<ExecutionCtx, Fail> {
     let mut words = Vec::new(rt.alloc());
@@ -99,6 +101,41 @@ fn a_column_from_zero_is_bit_packed(rt: HostRuntime) -> Result<(), Fail> {
     let array = tens(&rt, 1000, 0)?;
     let tree = shipped(&rt)?.compress(&array, &mut ctx)?;
     assert!(rt; tree.encoding_id() == ArrayId::BitPacked && tree.nbytes() == 512);
+    Ok(())
+}
+
+// 2,047 zeros and a 1 behind them: the sample has zeros alone, and its tree no byte.
+#[test]
+fn a_sample_without_a_byte_has_no_score(rt: HostRuntime) -> Result<(), Fail> {
+    let schemes = Schemes::from_vec(vec![in rt.alloc(); BitPackingScheme::v1()]?);
+    let made = CascadingCompressor::new(rt.alloc(), schemes);
+    let compressor = made.ok().ok_or("refused")?;
+    let mut values = vec![in rt.alloc(); 0_u32; 2047]?;
+    values.push(1)?;
+    let values = Ints::U32(IntList::from_vec(values));
+    let made = ArrayRef::primitive(values, None, Nullability::NonNullable);
+    let array = made.ok().ok_or("refused")?;
+    let tree = compressor.compress(&array, &mut ctx(&rt)?)?;
+    assert!(rt; tree.encoding_id() == ArrayId::Primitive && tree.nbytes() == 8192);
+    Ok(())
+}
+
+// 0 and 2^40 in turn.
+#[test]
+fn two_values_become_packed_codes(rt: HostRuntime) -> Result<(), Fail> {
+    let mut values = vec![in rt.alloc(); 0_u64; 1000]?;
+    for row in 0..500 {
+        values[2 * row + 1] = 1099511627776;
+    }
+    let values = Ints::U64(IntList::from_vec(values));
+    let made = ArrayRef::primitive(values, None, Nullability::NonNullable);
+    let array = made.ok().ok_or("refused")?;
+    let tree = shipped(&rt)?.compress(&array, &mut ctx(&rt)?)?;
+    assert!(rt; tree.encoding_id() == ArrayId::Dict && tree.nbytes() == 144);
+    assert!(rt;
+        tree.child(0)
+            .is_some_and(|codes| codes.encoding_id() == ArrayId::BitPacked)
+    );
     Ok(())
 }
 

@@ -10,7 +10,7 @@ use std::alloc::Global;
 use vx_base::VortexResult;
 use vx_btrblocks::{AnyScheme, BtrBlocksCompressor};
 use vx_compressor::{CascadingCompressor, Schemes};
-use vx_schemes::{BitPackingScheme, FoRScheme};
+use vx_schemes::{BitPackingScheme, FoRScheme, IntDictScheme, ZigZagScheme};
 
 // The shipped schemes in their order, and then the caller's.
 fn schemes(alloc: Global) -> VortexResult<Schemes<AnyScheme<QuickPacking>>>
@@ -18,7 +18,9 @@ fn schemes(alloc: Global) -> VortexResult<Schemes<AnyScheme<QuickPacking>>>
 {
     let mut schemes = Vec::new(alloc);
     schemes.push(AnyScheme::FoR(FoRScheme::v1()))?;
+    schemes.push(AnyScheme::ZigZag(ZigZagScheme))?;
     schemes.push(AnyScheme::BitPacking(BitPackingScheme::v1()))?;
+    schemes.push(AnyScheme::IntDict(IntDictScheme))?;
     schemes.push(AnyScheme::Own(QuickPacking::new()))?;
     Ok(Schemes::from_vec(schemes))
 }

@@ -165,7 +165,7 @@ fn it_is_chosen_where_a_sample_sees_nothing_but_zeros(rt: HostRuntime) -> Result
     }
     let array = integers(&rt, values.as_slice())?;
     let [without, with] = by_both(&rt, &array)?;
-    assert!(rt; without == (ArrayId::Primitive, 8192));
+    assert!(rt; without == (ArrayId::Dict, 2080));
     assert!(rt; with == (ArrayId::BitPacked, 768));
     Ok(())
 }

@@ -16,9 +16,8 @@ use Rattle.vx_model.specs.Column.{Column, column_of}
 use Rattle.vx_model.specs.Extents.{counts, extents, extents_fit, row_limit}
 use Rattle.vx_model.specs.Plain.{plain, plain_of, IsPlain}
 use Rattle.vx_model.specs.Refusals.{compress_refusal}
-use Rattle.vx_model.proofs.LeafLemmas.{never_larger}
 use Rattle.vx_model.proofs.SizeLemmas.{small_plain}
-use Rattle.vx_compressor.specs.Cascade.{chosen, plain_parts}
+use Rattle.vx_compressor.proofs.CascadeLemmas.{never_larger_by}
 use Rattle.vx_btrblocks.specs.Shipped.{shipped_setting, shipped_tree}
 use Rattle.vx_program.specs.Answer.{refusal, report, counts_fit, of_column}
 
@@ -40,7 +39,7 @@ few_rows c e = of_type c.dtype e
     of_type (primitive p n) h = leb-true _ _ (and_parts _ _ h).0
 
 size-shipped_tree : (words : List ℕ) (c : Column) → size (shipped_tree words c) ≤ size (plain c)
-size-shipped_tree words c = never_larger (chosen plain_parts (shipped_setting words)) c
+size-shipped_tree words c = never_larger_by (shipped_setting words) c
 
 small : (c : Column) → counts_fit c ≡ true → size (plain c) < 2 ^ 80
 small c e = small_plain c (let few = few_rows c e in omega arith)

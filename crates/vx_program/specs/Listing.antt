@@ -3,7 +3,7 @@ use Rattle.std.specs.Prelude.{ℕ, List, [], ◌∷◌, ◌++◌, length, decima
 use Rattle.std.specs.List.{concat}
 use Rattle.vx_base.specs.IdName.{id_name}
 use Rattle.vx_base.specs.TypeText.{type_text, value_text}
-use Rattle.vx_model.specs.Tree.{Tree, primitive, constant, masked, bit_packed, bit_packed_with, frame_of_reference}
+use Rattle.vx_model.specs.Tree.{Tree, primitive, constant, masked, bit_packed, bit_packed_with, frame_of_reference, zig_zag, dict}
 use Rattle.vx_model.specs.Nodes.{encoding}
 use Rattle.vx_model.specs.TreeType.{tree_type}
 use Rattle.vx_model.specs.Rows.{rows}
@@ -20,6 +20,8 @@ own_numbers (masked child valid) = []
 own_numbers (bit_packed k) = packed_numbers k.width 0
 own_numbers (bit_packed_with k len offset indices values) = packed_numbers k.width (length (rows indices))
 own_numbers (frame_of_reference encoded reference) = codes " reference=" ++ value_text reference.value
+own_numbers (zig_zag encoded) = []
+own_numbers (dict places values) = []
 
 -- the root's encoding, type, rows and bytes
 unfoldable pub heading : Tree → List ℕ
@@ -43,6 +45,8 @@ listing indent (bit_packed k) = line indent (bit_packed k)
 listing indent (bit_packed_with k len offset indices values) =
     line indent (bit_packed_with k len offset indices values) ++ listing (deeper indent) indices ++ listing (deeper indent) values
 listing indent (frame_of_reference encoded reference) = line indent (frame_of_reference encoded reference) ++ listing (deeper indent) encoded
+listing indent (zig_zag encoded) = line indent (zig_zag encoded) ++ listing (deeper indent) encoded
+listing indent (dict places values) = line indent (dict places values) ++ listing (deeper indent) places ++ listing (deeper indent) values
 
 -- the bytes of the plain tree and of the compressed one
 unfoldable pub sizes_line : ℕ → ℕ → List ℕ

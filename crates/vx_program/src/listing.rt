@@ -60,7 +60,9 @@ fn push_own_numbers(text: &mut String, node: &Node) -> Result<(), AllocError>
             write!(text, " width={width} patches={count}")?;
             Ok(())
         }
-        Node::Primitive(_, _, _) | Node::Masked(_, _) => Ok(()),
+        Node::Primitive(_, _, _) | Node::Masked(_, _) | Node::ZigZag(_) | Node::Dict(_, _) => Ok(
+            (),
+        ),
     }
 }
 
@@ -111,7 +113,7 @@ pub(crate) fn push_tree(
 {
     push_line(text, indent, tree)?;
     match tree.node() {
-        Node::Masked(child, _) | Node::FoR(child, _) => {
+        Node::Masked(child, _) | Node::FoR(child, _) | Node::ZigZag(child) => {
             let next = deeper(alloc, indent)?;
             push_tree(alloc, text, next.as_str(), child)
         }
@@ -123,6 +125,11 @@ pub(crate) fn push_tree(
             }
             None => Ok(()),
         },
+        Node::Dict(codes, values) => {
+            let next = deeper(alloc, indent)?;
+            push_tree(alloc, text, next.as_str(), codes)?;
+            push_tree(alloc, text, next.as_str(), values)
+        }
         Node::Primitive(_, _, _) | Node::Constant(_, _) => Ok(()),
     }
 }

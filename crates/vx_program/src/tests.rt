@@ -1,6 +1,8 @@
 //! What no clause says: how the adapters of std meet failing calls, and that a text can go through whole. Then worked
 //! columns and refusals, whose texts are written by the rules.
 
+mod nodes;
+
 use crate::{
     Failed, Input, LIMIT, Sink, Source, StdSink, StdSource, SureSink, SureSource, deliver,
     read_all, run, run_in_memory,
