@@ -6,7 +6,7 @@ mod phases;
 
 use anyhow::Result;
 use kernels::{Setting, tell_kernels};
-use phases::tell_phases;
+use phases::{tell_phases, tell_rows};
 use std::env;
 use std::env::Env;
 use vx_base::PType;
@@ -14,6 +14,7 @@ use vx_base::PType;
 /// What the words after the program's name ask for.
 enum Form {
     Compress,
+    Parse,
     Kernels(Setting),
     Usage,
 }
@@ -39,6 +40,7 @@ fn setting_of(words: &[String]) -> Option<Setting> {
 fn form_of(words: &[String]) -> Form {
     match words {
         [form] if form.as_str() == "compress" => Form::Compress,
+        [form] if form.as_str() == "parse" => Form::Parse,
         [form, rest @ ..] if form.as_str() == "kernels" => match setting_of(rest) {
             Some(setting) => Form::Kernels(setting),
             None => Form::Usage,
@@ -54,9 +56,11 @@ fn main(rt: HostRuntime) -> Result<()> {
     }
     match form_of(words.as_slice()) {
         Form::Compress => tell_phases(&rt, rt.reader()),
+        Form::Parse => tell_rows(&rt, rt.reader()),
         Form::Kernels(setting) => tell_kernels(&rt, &setting),
         Form::Usage => {
             println!(rt; "usage: vx_bench compress < document")?;
+            println!(rt; "       vx_bench parse < document")?;
             println!(rt; "       vx_bench kernels u8|u32|u64 WIDTH ROWS REPEATS")?;
             Ok(())
         }

@@ -88,6 +88,16 @@ fn show(rt: &impl Print, phase: &str, time: Duration) -> Result<()> {
     Ok(())
 }
 
+/// Reads and parses the reader's document, and writes how many rows it has: the memory of a run that does no more.
+pub fn tell_rows<R: Read>(rt: &(impl AllocGlobal + Print), reader: R) -> Result<()>
+where
+    R: Drop,
+{
+    let document = document_of(rt.alloc(), bytes_of(rt.alloc(), reader)?)?;
+    println!(rt; "rows {}", document.array.len())?;
+    Ok(())
+}
+
 /// Compresses the reader's document, and writes a line for each phase.
 pub fn tell_phases<R: Read>(rt: &(impl AllocGlobal + Clock + Print), reader: R) -> Result<()>
 where
