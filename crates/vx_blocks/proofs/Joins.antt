@@ -1,9 +1,9 @@
-use Rattle.std.proofs.Common.{◌≡◌, ℕ, ◌+◌, ◌-◌, ◌*◌, ◌/◌, ◌%◌, ◌^◌, ◌<◌, ◌≤◌, List, [], ◌∷◌, ◌++◌, length, get_or, take, drop, refl, sym, ap, ◌∙◌, arith, replicate, length-append, suc, zero, subst, add-zero, lit<, add-one}
+use Rattle.std.proofs.Common.{◌≡◌, ℕ, ◌+◌, ◌-◌, ◌*◌, ◌/◌, ◌%◌, ◌^◌, ◌<◌, ◌≤◌, List, [], ◌∷◌, ◌++◌, length, get_or, take, drop, refl, sym, ap, ◌∙◌, arith, replicate, length-append, suc, zero, subst, add-zero, lit<}
 use Rattle.std.specs.Int.{w64, to_le_bytes}
 use Rattle.std.specs.Int.RustNames.{bit_or}
-use Rattle.std.proofs.lemmas.List.{take_more, length-take-le, take_all, drop_more}
+use Rattle.std.proofs.lemmas.List.{take_more, length-take-le, take_all}
 use Rattle.std.proofs.Math.Seq.{take-add}
-use Rattle.std.proofs.lemmas.Nat.{pow_pos, pow-add, or_comm, or_shifted, shr_high, mod_low, shr-shr, mod-pow-add, from_le_bytes-to_le_bytes_8, shr_split, shl_whole, mul-add-lt, pow_below, shr_below}
+use Rattle.std.proofs.lemmas.Nat.{pow_pos, pow-add, or_comm, or_shifted, shr_high, mod_low, shr-shr, mod-pow-add, from_le_bytes-to_le_bytes_8, shr_split, mul-add-lt, pow_below, shr_below}
 use Rattle.std.proofs.Math.Nat as nat
 use Rattle.vx_blocks.specs.Holds.{Holds}
 use Rattle.vx_base.specs.Packed.{joined}
@@ -128,18 +128,3 @@ packed-word number place bytes word after acc fill size pad h some room n whole 
 -- some rows more
 pub joined-group : (w : ℕ) (xs : List ℕ) (i k : ℕ) → i ≤ length xs → joined w (take (i + k) xs) ≡ joined w (take i xs) + 2 ^ (w * i) * joined w (take k (drop i xs))
 joined-group w xs i k h = rw (take-add, joined-append, length-take-le i xs h) refl
-
-joined-row : (w : ℕ) (xs : List ℕ) (i k : ℕ) → i < length xs → joined w (take (k + 1) (drop i xs)) ≡ get_or xs i 0 + 2 ^ w * joined w (take k (drop (i + 1) xs))
-joined-row w xs i k h = rw (drop_more xs i 0 h, add-one) refl
-
--- the rows of a group, the last first
-pub group-more : (w : ℕ) (xs : List ℕ) (word row next i k : ℕ) → word ≡ joined w (take k (drop next xs)) → row ≡ get_or xs i 0 → next ≡ i + 1 → i < length xs → row < 2 ^ w → word < 2 ^ (w * k) → w * k + w ≤ 64
-    → bit_or (word * 2 ^ w % 2 ^ 64) row ≡ joined w (take (k + 1) (drop i xs))
-group-more w xs word row next i k is at after h fits small room =
-    rw (shl_whole word (w * k) w 64 small room, joined-row w xs i k h)
-    (or_shifted word w row fits ∙ rw (is, at, after) (omega arith))
-
-pub group-small : (w word row k : ℕ) → row < 2 ^ w → word < 2 ^ (w * k) → w * k + w ≤ 64 → bit_or (word * 2 ^ w % 2 ^ 64) row < 2 ^ (w * (k + 1))
-group-small w word row k fits small room =
-    let e : w * (k + 1) ≡ w + w * k = omega arith in
-    rw (shl_whole word (w * k) w 64 small room, or_shifted word w row fits, e) (wide_lt row w word (w * k) fits small)

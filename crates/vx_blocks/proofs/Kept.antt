@@ -9,9 +9,10 @@ use Rattle.std.proofs.Math.Nat as nat
 use Rattle.vx_blocks.specs.AreKept.{AreKept}
 use Rattle.vx_blocks.proofs.Rows.{fields-get, field-fits}
 
-pub OnTrue_map : {P Q : Type 0} (b : Bool) → (P → Q) → OnTrue b P → OnTrue b Q
-OnTrue_map true f h = f h
-OnTrue_map false f h = h
+-- what a test that is true says
+pub OnTrue_holds : {P : Type 0} (b : Bool) → b ≡ true → OnTrue b P → P
+OnTrue_holds true e h = h
+OnTrue_holds false e h = absurd cc
 
 and_first : (a b : Bool) → a && b ≡ true → a ≡ true
 and_first true b h = refl
@@ -20,10 +21,6 @@ and_first false b h = h
 and_second : (a b : Bool) → a && b ≡ true → b ≡ true
 and_second true b h = h
 and_second false b h = absurd cc
-
--- fewer of them
-pub AreKept-part : (width : ℕ) (bits : List ℕ) (valid : List Bool) (start end from to : ℕ) → AreKept width bits valid start end → start ≤ from → to ≤ end → AreKept width bits valid from to
-AreKept-part width bits valid start end from to h low high = record { each = λ k first last. h.each k (omega arith) (omega arith) }
 
 -- one row more is seen
 pub seen-more : (bits : List ℕ) (valid : List Bool) (start i word x : ℕ) (all : Bool) → x ≡ get_or bits i 0 → ((k : ℕ) → start ≤ k → k < i → (get_or bits k 0 ≤ word) × (all ≡ true → get_or valid k false ≡ true))

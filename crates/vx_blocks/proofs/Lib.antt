@@ -6,4 +6,5 @@ pub mod ReadBack
 pub mod Counts
 pub mod RowsRead
 pub mod Kept
+pub mod Eights
 pub mod WideRows

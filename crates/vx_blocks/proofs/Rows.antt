@@ -1,4 +1,4 @@
-use Rattle.std.proofs.Common.{◌≡◌, ℕ, ◌+◌, ◌*◌, ◌/◌, ◌^◌, ◌<◌, ◌≤◌, ◌≢◌, Bool, true, false, List, [], ◌∷◌, length, get_or, take, drop, refl, sym, ap, ◌∙◌, arith, suc, zero, map, inl, inr}
+use Rattle.std.proofs.Common.{◌≡◌, ℕ, ◌+◌, ◌*◌, ◌/◌, ◌^◌, ◌<◌, ◌≤◌, ◌≢◌, Bool, true, false, List, [], ◌∷◌, length, get_or, take, refl, sym, ap, ◌∙◌, arith, suc, zero, map, inl, inr}
 use Rattle.std.proofs.lemmas.List.{get_or-map, length-map, take_all}
 use Rattle.std.proofs.lemmas.Bool.Decides.{nat_tests}
 use Rattle.std.proofs.Math.Nat as nat
@@ -6,7 +6,7 @@ use Rattle.std.proofs.lemmas.Bool.{cases_lt}
 use Rattle.std.proofs.lemmas.Nat.{pow_pos}
 use Rattle.vx_blocks.specs.Holds.{Holds}
 use Rattle.vx_base.specs.Packed.{field, fields, packed_size, joined}
-use Rattle.vx_blocks.proofs.Joins.{joined_more, joined-group}
+use Rattle.vx_blocks.proofs.Joins.{joined_more}
 
 pub field-lt : (width bits : ℕ) (valid : Bool) → field width bits valid < 2 ^ width
 field-lt width bits true = grind (arith, nat_tests, pow_pos width)
@@ -64,22 +64,8 @@ next-row w rows i row bytes acc fill h is holds =
     let p : w * i + w ≡ w * (i + 1) = omega arith in
     rw (e, p) at holds
 
-pub next-group : (w : ℕ) (rows : List ℕ) (g k word : ℕ) (bytes : List ℕ) (acc fill : ℕ) → g * k ≤ length rows → word ≡ joined w (take k (drop (g * k) rows))
-    → Holds (joined w (take (g * k) rows) + 2 ^ (w * (g * k)) * word) (w * (g * k) + w * k) bytes acc fill → Holds (joined w (take ((g + 1) * k) rows)) (w * ((g + 1) * k)) bytes acc fill
-next-group w rows g k word bytes acc fill h is holds =
-    let n : g * k + k ≡ (g + 1) * k = omega arith in
-    let e : joined w (take (g * k) rows) + 2 ^ (w * (g * k)) * word ≡ joined w (take ((g + 1) * k) rows) = rw (is, ← n) (sym (joined-group w rows (g * k) k h)) in
-    let p : w * (g * k) + w * k ≡ w * ((g + 1) * k) = omega arith in
-    rw (e, p) at holds
-
-pub group-fits : (g k n : ℕ) → g < n / k → 0 < k → g * k + k ≤ n
-group-fits g k n h some = let m = nat.mul-le-mul_left k h in omega arith
-
 pub place_within : (w n i size : ℕ) → i ≤ n → size ≡ packed_size w n → w * i ≤ 8 * size
 place_within w n i size h is = let m = nat.mul-le-mul_left w h in let le : n ≤ 1024 * ((n + 1023) / 1024) = omega arith in let m2 = nat.mul-le-mul_left w le in omega arith
-
-pub group-room : (w k n : ℕ) → k < n → w * n ≤ 64 → w * k + w ≤ 64
-group-room w k n h room = let m = nat.mul-le-mul_left w h in omega arith
 
 pub fields-fit : (width : ℕ) (bits : List ℕ) (valid : List Bool) (k : ℕ) → get_or (fields width bits valid) k 0 < 2 ^ width
 fields-fit width [] valid k = pow_pos width

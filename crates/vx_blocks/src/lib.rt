@@ -2,6 +2,7 @@
 #![tactic(auto)]
 
 mod filling;
+mod groups;
 mod laws;
 mod narrowing;
 mod packing;

@@ -3,7 +3,7 @@ use Rattle.std.proofs.lemmas.List.{length-map}
 use Rattle.vx_base.specs.Integers.{bits_in}
 use Rattle.vx_blocks.proofs.Kept.{seen-more, seen-all}
 use Rattle.vx_blocks.proofs.Rows.{bits-at}
-use Rattle.vx_blocks.proofs.packing.are_kept.Goals as goal
+use Rattle.vx_blocks.proofs.groups.are_kept.Goals as goal
 
 pub loop-i-preserved : goal.loop-i-preserved
 loop-i-preserved g c =
