@@ -1,7 +1,9 @@
+pub mod DenseLemmas
 pub mod DistinctLemmas
 pub mod NullLemmas
 pub mod RatioLemmas
 pub mod StandardFacts
 pub mod StatsFacts
 pub mod StatsLemmas
+pub mod TableLemmas
 pub mod TallyLemmas

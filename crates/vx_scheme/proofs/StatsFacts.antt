@@ -1,5 +1,6 @@
 -- The definitions at worked values, so that a wrong rule does not check.
-use Rattle.std.proofs.Common.{◌≡◌, ℤ, pos, negsuc, [], ◌∷◌, map, Some, None, true, refl}
+use Rattle.std.proofs.Common.{◌≡◌, ℤ, pos, negsuc, [], ◌∷◌, map, Some, None, true, refl, arith}
+use Rattle.std.proofs.lemmas.Int.{ints}
 use Rattle.std.specs.Int.Count.{count_leading_zeros}
 use Rattle.vx_base.specs.declared.ptype.PType.TheVariants.{U8, U64, I8, I32}
 use Rattle.vx_base.specs.Integers.{bits_in}
@@ -7,6 +8,7 @@ use Rattle.vx_base.specs.PlainValue.{null, int}
 use Rattle.vx_scheme.specs.Frequent.{frequent_value}
 use Rattle.vx_scheme.specs.Options.{no_options}
 use Rattle.vx_scheme.specs.Stats.{Extremes, stats_of, run_count, distinct_info, distinct_count, distinct_counts, most_frequent}
+use Rattle.vx_scheme.specs.Tables.{LiesBetween, entries, table_of}
 use Rattle.vx_scheme.specs.declared.options.GenerateStatsOptions.{GenerateStatsOptions}
 use Rattle.vx_scheme.specs.Erased.{log2_of}
 
@@ -66,3 +68,14 @@ distinct-least = (refl, refl)
 pub distinct-absent : (distinct_info asked (null ∷ null ∷ []) ≡ Some []) × (frequent_value I8 (Some []) ≡ Some (record { ptype = I8; value = pos 0 }, 0))
     × (distinct_info asked [] ≡ None) × (distinct_info no_options (int (pos 5) ∷ []) ≡ None) × (frequent_value I8 None ≡ None)
 distinct-absent = (refl, refl, refl, refl, refl)
+
+-- 3, -1, 3 in a table of the numbers from -1 to 3, and what a table tells
+pub table-threes : table_of (negsuc 0) 5 (pos 3 ∷ negsuc 0 ∷ pos 3 ∷ []) ≡ 1 ∷ 0 ∷ 0 ∷ 0 ∷ 2 ∷ []
+table-threes = refl
+
+pub entries-threes : (entries (negsuc 0) (1 ∷ 0 ∷ 0 ∷ 0 ∷ 2 ∷ []) ≡ (negsuc 0, 1) ∷ (pos 3, 2) ∷ []) × (entries (pos 7) (0 ∷ 0 ∷ []) ≡ [])
+entries-threes = (refl, refl)
+
+-- the ends of a range lie in it, and what is past them doesn't
+pub between-ends : LiesBetween (negsuc 1) (pos 3) (negsuc 1) × LiesBetween (negsuc 1) (pos 3) (pos 3) × (LiesBetween (negsuc 1) (pos 3) (pos 4) → ⊥)
+between-ends = (omega (arith, ints), omega (arith, ints), λ h. absurd (omega (arith, ints, h.0, h.1)))

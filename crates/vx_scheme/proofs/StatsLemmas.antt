@@ -1,7 +1,7 @@
 -- Statistics of rows: counts, the first valid row, and the order of the extremes.
-use Rattle.std.proofs.Common.{◌≡◌, ℕ, suc, ◌+◌, ◌<◌, ◌≤◌, ℤ, pos, negsuc, Bool, true, false, cond, List, [], ◌∷◌, length, map, get_or, refl, sym, ap, subst, ◌∙◌, arith, Some, None}
-use Rattle.std.specs.Prelude.{fold, position, nat_lt, ◌≤ℤ◌, ◌&&◌, ◌^◌}
-use Rattle.std.specs.List.{position_or_len}
+use Rattle.std.proofs.Common.{◌≡◌, ℕ, suc, ◌+◌, ◌<◌, ◌≤◌, ℤ, pos, negsuc, Bool, true, false, cond, List, [], ◌∷◌, length, map, get_or, refl, sym, ap, subst, ◌∙◌, arith, Option, Some, None}
+use Rattle.std.specs.Prelude.{◌==◌, fold, position, nat_lt, ◌≤ℤ◌, ◌&&◌, ◌^◌}
+use Rattle.std.specs.List.{All, position_or_len}
 use Rattle.std.specs.Int.{int_min, int_max}
 use Rattle.std.proofs.lemmas.Bool.Decides.{nat_tests}
 use Rattle.std.proofs.lemmas.Int.{ints, fold-int_min_bounds, fold-int_max_bounds}
@@ -9,15 +9,17 @@ use Rattle.std.proofs.lemmas.List.{length-map}
 use Rattle.vx_base.specs.declared.ptype.PType.{PType}
 use Rattle.vx_base.specs.Integers.{lies_in, least, greatest, is_signed, natural_bits, least_where}
 use Rattle.vx_base.specs.PlainValue.{PlainValue, null, int, is_null}
-use Rattle.vx_model.specs.Rows.{masked_rows}
+use Rattle.vx_model.specs.Refusals.{validity_length}
+use Rattle.vx_model.specs.Rows.{masked_rows, valid_rows}
 use Rattle.vx_scheme.specs.Stats.{valid_wholes, value_count, null_count, least_in, greatest_in, runs_after, run_count, distinct_counts, distinct_info}
 use Rattle.vx_scheme.specs.declared.options.GenerateStatsOptions.{GenerateStatsOptions}
+use Rattle.vx_scheme.specs.Tables.{LiesBetween}
 use Rattle.vx_scheme.specs.Tally.{IsTallyAfter, IsTally}
 use Rattle.vx_scheme.specs.declared.stats.tally.Tally.{Tally}
 use Rattle.vx_base.specs.Masks.{true_count}
-use Rattle.vx_model.proofs.RowLemmas.{length-masked_rows}
-use Rattle.std.proofs.lemmas.Bool.{cond_both, cond-true, and_from, lt-ltb, ltb-true, ltb-false}
-use Rattle.std.proofs.lemmas.List.Sums.{sum_by-cons}
+use Rattle.vx_model.proofs.RowLemmas.{length-masked_rows, length-cells}
+use Rattle.std.proofs.lemmas.Bool.{cond_both, cond-true, and_from, lt-ltb, ltb-true, ltb-false, eqb-false}
+use Rattle.std.proofs.lemmas.List.Sums.{sum_by-cons, count_by-le-length}
 use Rattle.vx_scheme.proofs.TallyLemmas.{same-eq, left}
 
 -- ---- counts
@@ -46,6 +48,9 @@ count-values [] zs e = refl
 count-values (bit ∷ bits) [] e = absurd (omega arith)
 count-values (true ∷ bits) (z ∷ zs) e = omega (arith, true_count-next true bits, count-values bits zs (omega arith))
 count-values (false ∷ bits) (z ∷ zs) e = omega (arith, true_count-next false bits, count-values bits zs (omega arith))
+
+pub few-values : (bits : List Bool) (zs : List ℤ) → length bits ≡ length zs → value_count (masked_rows bits (map int zs)) ≤ length zs
+few-values bits zs e = omega (arith, count-values bits zs e, count_by-le-length (λ bit. bit) bits)
 
 pub count-nulls : (bits : List Bool) (zs : List ℤ) → length bits ≡ length zs → null_count (masked_rows bits (map int zs)) + true_count bits ≡ length bits
 count-nulls bits zs e =
@@ -141,7 +146,17 @@ ordered p vs some =
     let high = (fold-int_max_bounds (least p) (valid_wholes vs) _ refl).1 0 (pos 0) some in
     omega (arith, ints, low, high)
 
+pub all-between : (p : PType) (vs : List PlainValue) → All (LiesBetween (least_in p vs) (greatest_in p vs)) (valid_wholes vs)
+all-between p vs = λ k d h. ((fold-int_min_bounds (greatest p) (valid_wholes vs) _ refl).1 k d h, (fold-int_max_bounds (least p) (valid_wholes vs) _ refl).1 k d h)
+
 -- ---- distinct values are told where they are asked for and there is a row
 
 pub distinct-told : (options : GenerateStatsOptions) (vs : List PlainValue) → options.count_distinct_values ≡ true → 0 < length vs → distinct_info options vs ≡ Some (distinct_counts vs)
 distinct-told options vs asked some = cond-true _ _ _ (and_from _ _ asked (lt-ltb 0 (length vs) some))
+
+pub counts-told : {T : Type 0} (whole : T → ℤ) (items : List T) (valid : Option (List Bool)) (options : GenerateStatsOptions) → validity_length valid (length items) ≡ true → (length items == 0) ≡ false → options.count_distinct_values ≡ true
+    → distinct_info options (valid_rows valid (map int (map whole items))) ≡ Some (distinct_counts (valid_rows valid (map int (map whole items))))
+counts-told whole items valid options fits some asked =
+    let zs = map whole items in
+    let long : length (valid_rows valid (map int zs)) ≡ length zs = length-cells valid zs (subst (λ n. validity_length valid n ≡ true) (sym (length-map items whole)) fits) in
+    distinct-told options (valid_rows valid (map int zs)) asked (omega (arith, long, length-map items whole, eqb-false (length items) 0 some))

@@ -19,4 +19,5 @@ pub mod Runs
 pub mod Scores
 pub mod Selects
 pub mod Stats
+pub mod Tables
 pub mod Tally

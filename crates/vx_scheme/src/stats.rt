@@ -15,8 +15,10 @@ ghost use Rattle.vx_scheme.specs.Stats.{stats_of, stats_refusal};
 
 mod counting;
 mod counts;
+mod dense;
 mod distinct;
 mod erased;
+mod range;
 mod tally;
 mod typed;
 mod value;

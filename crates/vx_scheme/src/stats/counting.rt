@@ -1,6 +1,7 @@
-//! Counting of distinct integers: they are sorted, and runs of equal ones are counted.
+//! Counting of distinct integers: where they lie far apart they are sorted, and runs of equal ones are counted.
 
 ghost use Rattle.std.specs.Prelude.{◌≡◌, ◌<◌, ◌≤◌, ◌^◌, length, map, true, vec_len};
+ghost use Rattle.std.specs.List.{All};
 ghost use Rattle.std.specs.List.Sorted.{IsPermutation};
 ghost use Rattle.std.specs.Ordering.{int_eq};
 ghost use Rattle.vx_base.specs.Answers.{OrMemory, Answers};
@@ -10,9 +11,12 @@ ghost use Rattle.vx_model.specs.Rows.{masked_rows, valid_rows};
 ghost use Rattle.vx_scheme.specs.Distinct.{counted};
 ghost use Rattle.vx_scheme.specs.Runs.{IsRising, runs, whole_counts};
 ghost use Rattle.vx_scheme.specs.Stats.{valid_wholes, distinct_counts, distinct_info};
+ghost use Rattle.vx_scheme.specs.Tables.{LiesBetween};
 
 use crate::options::GenerateStatsOptions;
+use crate::stats::dense::dense_info;
 use crate::stats::distinct::{Counts, DistinctInfo};
+use crate::stats::range::Range;
 use std::alloc::Global;
 use vx_base::{Integer, Mask, VortexResult};
 
@@ -94,19 +98,26 @@ fn counted<T: Integer>(alloc: Global, items: Vec<T>) -> VortexResult<DistinctInf
     Ok(DistinctInfo::new(run_lengths(alloc, sorted.as_slice())?))
 }
 
-/// The distinct integers of the valid rows, where they are asked for and there is a row.
+/// The distinct integers of the valid rows, where they are asked for and there is a row. `range` goes from the least
+/// valid integer to the greatest: where it has no more numbers than there are rows, a table counts them.
 pub(crate) fn distinct_info<T: Integer>(
     alloc: Global,
     items: &[T],
     valid: &Option<Mask>,
     opts: GenerateStatsOptions,
+    range: Range<T>,
 ) -> VortexResult<Option<DistinctInfo<T>>>
     requires mask { validity_length valid.now (length items.now) ≡ true }
     requires few { length items.now < 2 ^ 32 }
+    requires within { All (LiesBetween (T.whole range.least) (T.whole range.greatest)) (valid_wholes (valid_rows valid.now (map int (map T.whole items.now)))) }
     ensures { Answers result (distinct_info opts (valid_rows valid.now (map int (map T.whole items.now)))) }
 {
     if !opts.count_distinct_values || items.is_empty() {
         return Ok(None);
+    }
+    if let Some(len) = range.len_within(items.len()) {
+        let info = dense_info(alloc, items, valid, range, len)?;
+        return Ok(Some(info));
     }
     let info = counted(alloc, valid_items(alloc, items, valid)?)?;
     Ok(Some(info))

@@ -89,6 +89,6 @@ pub(crate) fn summary<T: Integer>(
     ensures ordered { OrMemory result (λ r. 0 < r.0.value_count → r.1.extremes.least ≤ℤ r.1.extremes.greatest) }
 {
     let (counts, extremes) = extremes_summary(items, valid);
-    let distinct = distinct_info(alloc, items, valid, opts)?;
+    let distinct = distinct_info(alloc, items, valid, opts, extremes.range())?;
     Ok((counts, extremes.with_distinct(distinct)))
 }

@@ -42,8 +42,9 @@ fn change<T: Integer>(last: T, item: T) -> u32
     if last == item { 0 } else { 1 }
 }
 
+/// The item where a bit is true, else the other one.
 #[inline(always)]
-fn item_or<T: Integer>(bit: bool, item: T, other: T) -> T
+pub(crate) fn item_or<T: Integer>(bit: bool, item: T, other: T) -> T
     ensures { T.whole result ≡ (if bit then T.whole item else T.whole other) }
 {
     if bit { item } else { other }

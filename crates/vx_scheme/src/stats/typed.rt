@@ -7,6 +7,7 @@ ghost use Rattle.vx_scheme.specs.Frequent.{frequent_value};
 ghost use Rattle.vx_scheme.specs.Stats.{extremes_alone};
 
 use crate::stats::distinct::DistinctInfo;
+use crate::stats::range::Range;
 use crate::stats::value::PValue;
 use std::marker::Model;
 use vx_base::Integer;
@@ -94,6 +95,17 @@ impl<T: Integer> TypedStats<T> {
                 Some((PValue { ptype, value }, count))
             }
             None => None,
+        }
+    }
+
+    /// The numbers from the least to the greatest.
+    pub(crate) fn range(&self) -> Range<T>
+        ensures least { T.whole result.least ≡ self.now.extremes.least }
+        ensures greatest { T.whole result.greatest ≡ self.now.extremes.greatest }
+    {
+        Range {
+            least: self.min,
+            greatest: self.max,
         }
     }
 

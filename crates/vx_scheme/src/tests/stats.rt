@@ -4,10 +4,12 @@ ghost use Rattle.std.specs.Prelude.{IfOk, IsTrue};
 ghost use Rattle.vx_base.specs.PlainType.{is_integer};
 ghost use Rattle.vx_model.specs.TreeType.{tree_type};
 
-use crate::{ArrayAndStats, ErasedStats, GenerateStatsOptions, IntegerStats};
+use crate::{ArrayAndStats, ErasedStats, GenerateStatsOptions, IntegerStats, PValue};
 use std::test::Fail;
 use vx_array::{ArrayRef, Ints};
-use vx_base::{ExecutionCtx, IntList, Mask, Nullability, PType, Scalar, VortexError, Words};
+use vx_base::{
+    ExecutionCtx, IntList, Mask, Nullability, PType, Scalar, VortexError, VortexResult, Words,
+};
 
 const PLAIN: GenerateStatsOptions = GenerateStatsOptions {
     count_distinct_values: false,
@@ -40,59 +42,126 @@ pub(crate) fn sevens(len: u64) -> Result<ArrayRef, VortexError>
     Ok(ArrayRef::constant(seven, len))
 }
 
+// What statistics tell, as plain data: a test that owns no tree and no list is proved the sooner.
+#[derive(Clone, Copy)]
+pub(crate) struct Facts {
+    pub(crate) null_count: u32,
+    pub(crate) value_count: u32,
+    pub(crate) average_run_length: u32,
+    pub(crate) distinct_count: Option<u32>,
+    pub(crate) erased_count: Option<u32>,
+    pub(crate) frequent: Option<(PValue, u32)>,
+    is_u8: bool,
+    min_is_zero: bool,
+    min_is_negative: bool,
+    max_ilog2: Option<u32>,
+    span: Option<u64>,
+}
+
+fn facts_of(stats: &IntegerStats) -> Facts {
+    let erased = stats.erased();
+    let span = if stats.value_count() == 0 {
+        None
+    } else {
+        Some(erased.max_minus_min())
+    };
+    Facts {
+        null_count: stats.null_count(),
+        value_count: stats.value_count(),
+        average_run_length: stats.average_run_length(),
+        distinct_count: stats.distinct_count(),
+        erased_count: erased.distinct_count(),
+        frequent: stats.most_frequent_value_and_count(),
+        is_u8: matches!(erased, ErasedStats::U8(_)),
+        min_is_zero: erased.min_is_zero(),
+        min_is_negative: erased.min_is_negative(),
+        max_ilog2: erased.max_ilog2(),
+        span,
+    }
+}
+
+// The statistics of a tree, with these options where there are some. The tree is given up.
+pub(crate) fn generated(
+    mut ctx: ExecutionCtx,
+    tree: ArrayRef,
+    opts: Option<GenerateStatsOptions>,
+) -> VortexResult<IntegerStats>
+    requires { IsTrue (is_integer (tree_type tree)) }
+{
+    let answer = match opts {
+        Some(opts) => IntegerStats::generate_opts(&tree, opts, &mut ctx),
+        None => IntegerStats::generate(&tree, &mut ctx),
+    };
+    drop(tree);
+    answer
+}
+
+// What they tell.
+pub(crate) fn told(
+    ctx: ExecutionCtx,
+    tree: ArrayRef,
+    opts: Option<GenerateStatsOptions>,
+) -> VortexResult<Facts>
+    requires { IsTrue (is_integer (tree_type tree)) }
+{
+    let stats = generated(ctx, tree, opts)?;
+    let facts = facts_of(&stats);
+    drop(stats);
+    Ok(facts)
+}
+
 #[test]
 fn a_null_is_no_value(rt: HostRuntime) -> Result<(), Fail> {
-    let mut ctx = ctx(&rt)?;
-    let two = column(&rt, &[9, 1, 2], &[false, true, true])?;
-    let stats = IntegerStats::generate(&two, &mut ctx)?;
-    assert_eq!(rt; stats.null_count(), 1);
-    assert_eq!(rt; stats.value_count(), 2);
-    assert_eq!(rt; stats.average_run_length(), 1);
+    let two = told(
+        ctx(&rt)?,
+        column(&rt, &[9, 1, 2], &[false, true, true])?,
+        None,
+    )?;
+    assert_eq!(rt; two.null_count, 1);
+    assert_eq!(rt; two.value_count, 2);
+    assert_eq!(rt; two.average_run_length, 1);
     Ok(())
 }
 
 #[test]
 fn without_a_value_the_extremes_are_swapped(rt: HostRuntime) -> Result<(), Fail> {
-    let mut ctx = ctx(&rt)?;
-    let stats = IntegerStats::generate(&column(&rt, &[5], &[false])?, &mut ctx)?;
-    assert!(rt; !stats.erased().min_is_zero());
-    assert!(rt; !stats.erased().min_is_negative());
-    assert_eq!(rt; stats.erased().max_ilog2(), Some(7));
+    let none = told(ctx(&rt)?, column(&rt, &[5], &[false])?, None)?;
+    assert!(rt; !none.min_is_zero);
+    assert!(rt; !none.min_is_negative);
+    assert_eq!(rt; none.max_ilog2, Some(7));
     Ok(())
 }
 
 #[test]
 fn the_span_of_a_type_fits(rt: HostRuntime) -> Result<(), Fail> {
-    let mut ctx = ctx(&rt)?;
-    let whole = column(&rt, &[-128, 127], &[true, true])?;
-    let stats = IntegerStats::generate(&whole, &mut ctx)?;
-    if stats.value_count() == 0 {
-        return Err(Fail::from("no value"));
-    }
-    assert!(rt; stats.erased().min_is_negative());
-    assert_eq!(rt; stats.erased().max_minus_min(), 255);
+    let whole = told(ctx(&rt)?, column(&rt, &[-128, 127], &[true, true])?, None)?;
+    assert!(rt; whole.min_is_negative);
+    assert_eq!(rt; whole.span, Some(255));
     Ok(())
 }
 
 #[test]
 fn too_many_rows_are_refused_at_once(rt: HostRuntime) -> Result<(), Fail> {
-    let mut ctx = ctx(&rt)?;
-    let refused = IntegerStats::generate(&sevens(4_294_967_296)?, &mut ctx);
+    let refused = told(ctx(&rt)?, sevens(4_294_967_296)?, None);
     assert_eq!(rt; refused.err(), Some(VortexError::TooManyRows));
     Ok(())
 }
 
+// Sevens with a null in row 1 of 4.
+fn masked_sevens(rt: &impl AllocGlobal) -> Result<ArrayRef, Fail>
+    ensures { IfOk result (λ array. IsTrue (is_integer (tree_type array))) }
+{
+    let bits = Mask::from_bits(Vec::from_slice(rt.alloc(), &[true, false, true, true])?);
+    let masked = ArrayRef::masked(rt.alloc(), sevens(4)?, bits);
+    Ok(masked.ok().ok_or("refused")?)
+}
+
 #[test]
 fn a_masked_constant_is_decoded(rt: HostRuntime) -> Result<(), Fail> {
-    let mut ctx = ctx(&rt)?;
-    let bits = Mask::from_bits(Vec::from_slice(rt.alloc(), &[true, false, true, true])?);
-    let masked = ArrayRef::masked(rt.alloc(), sevens(4)?, bits)
-        .ok()
-        .ok_or("refused")?;
-    let stats = IntegerStats::generate_opts(&masked, PLAIN, &mut ctx)?;
-    assert!(rt; stats.null_count() == 1 && stats.value_count() == 3);
-    assert_eq!(rt; stats.average_run_length(), 3);
-    assert!(rt; matches!(stats.erased(), ErasedStats::U8(_)));
+    let masked = told(ctx(&rt)?, masked_sevens(&rt)?, Some(PLAIN))?;
+    assert!(rt; masked.null_count == 1 && masked.value_count == 3);
+    assert_eq!(rt; masked.average_run_length, 3);
+    assert!(rt; masked.is_u8);
     Ok(())
 }
 
@@ -107,15 +176,25 @@ fn bundle(rt: &impl AllocGlobal) -> Result<ArrayAndStats, Fail>
     Ok(ArrayAndStats::new(plain, PLAIN))
 }
 
+// The run length of a bundle's statistics, and the same once more, from what is kept.
+fn run_lengths(bundle: &mut ArrayAndStats, ctx: &mut ExecutionCtx) -> VortexResult<(u32, u32)>
+    requires { IsTrue (is_integer (tree_type bundle.old.array)) }
+{
+    let first = bundle.integer_stats(ctx)?.average_run_length();
+    let again = match bundle.integer_stats(ctx) {
+        Ok(stats) => stats.average_run_length(),
+        Err(_) => unreachable!(),
+    };
+    Ok((first, again))
+}
+
 #[test]
 fn a_kept_statistic_is_answered_again(rt: HostRuntime) -> Result<(), Fail> {
     let mut ctx = ctx(&rt)?;
     let mut bundle = bundle(&rt)?;
-    let first = bundle.integer_stats(&mut ctx)?.average_run_length();
-    let again = match bundle.integer_stats(&mut ctx) {
-        Ok(stats) => stats.average_run_length(),
-        Err(_) => unreachable!(),
-    };
+    let answer = run_lengths(&mut bundle, &mut ctx);
+    drop(bundle);
+    let (first, again) = answer?;
     assert!(rt; first == 2 && again == 2);
     Ok(())
 }
