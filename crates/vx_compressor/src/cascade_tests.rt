@@ -4,9 +4,10 @@ use crate::{CascadingCompressor, Schemes};
 use std::test::Fail;
 use vx_array::{ArrayRef, Ints};
 use vx_base::{
-    ArrayId, ExecutionCtx, IntList, Mask, Nullability, PType, Scalar, VortexError, Words,
+    ArrayId, ExecutionCtx, IntList, Mask, Nullability, PType, Scalar, VortexError, VortexResult,
+    Words,
 };
-use vx_scheme::{CompressorContext, NoScheme};
+use vx_scheme::{CompressorContext, NoScheme, Scheme};
 
 fn ctx(rt: &impl AllocGlobal) -> Result<ExecutionCtx, Fail> {
     let words = Words::from_vec(vec![in rt.alloc(); 0]?);
@@ -16,11 +17,20 @@ fn ctx(rt: &impl AllocGlobal) -> Result<ExecutionCtx, Fail> {
     Ok(ExecutionCtx::new(rt.alloc(), words))
 }
 
+// A compressor over one scheme.
+pub(crate) fn over<S: Scheme>(
+    rt: &impl AllocGlobal,
+    scheme: S,
+) -> Result<CascadingCompressor<S>, Fail> {
+    let mut schemes = Vec::new(rt.alloc());
+    schemes.push(scheme)?;
+    let made = CascadingCompressor::new(rt.alloc(), Schemes::from_vec(schemes));
+    Ok(made.ok().ok_or("refused")?)
+}
+
 // A compressor over one scheme that takes nothing.
 fn compressor(rt: &impl AllocGlobal) -> Result<CascadingCompressor<NoScheme>, Fail> {
-    let schemes = Schemes::from_vec(vec![in rt.alloc(); NoScheme]?);
-    let made = CascadingCompressor::new(rt.alloc(), schemes);
-    Ok(made.ok().ok_or("refused")?)
+    over(rt, NoScheme)
 }
 
 // A column of bytes, null where the bit is false.
@@ -29,6 +39,20 @@ fn column(rt: &impl AllocGlobal, values: &[u8], bits: &[bool]) -> Result<ArrayRe
     let valid = Mask::from_bits(Vec::from_slice(rt.alloc(), bits)?);
     let made = ArrayRef::primitive(values, Some(valid), Nullability::Nullable);
     Ok(made.ok().ok_or("refused")?)
+}
+
+// The encoding and the bytes of what an array becomes. The array is given up.
+fn compressed(
+    compressor: &CascadingCompressor<NoScheme>,
+    array: ArrayRef,
+    ctx: &mut ExecutionCtx,
+) -> VortexResult<(ArrayId, u128)> {
+    let answer = compressor.compress(&array, ctx);
+    drop(array);
+    let tree = answer?;
+    let form = (tree.encoding_id(), tree.nbytes());
+    drop(tree);
+    Ok(form)
 }
 
 #[test]
@@ -57,10 +81,8 @@ fn columns_become_the_smaller_tree(rt: HostRuntime) -> Result<(), Fail> {
             3,
         ),
     ] {
-        let array = column(&rt, values, bits)?;
-        let tree = compressor.compress(&array, &mut ctx)?;
-        assert_eq!(rt; tree.encoding_id(), id);
-        assert_eq!(rt; tree.nbytes(), bytes);
+        let tree = compressed(&compressor, column(&rt, values, bits)?, &mut ctx)?;
+        assert!(rt; tree == (id, bytes));
     }
     Ok(())
 }
@@ -71,7 +93,7 @@ fn an_extent_above_the_limit_is_refused(rt: HostRuntime) -> Result<(), Fail> {
     let mut ctx = ctx(&rt)?;
     let seven = Scalar::primitive(7, PType::U8, Nullability::NonNullable)?;
     let array = ArrayRef::constant(seven, 2_147_483_649);
-    let refused = compressor.compress(&array, &mut ctx).err();
+    let refused = compressed(&compressor, array, &mut ctx).err();
     assert_eq!(rt; refused, Some(VortexError::TooManyRows));
     Ok(())
 }

@@ -1,6 +1,7 @@
 //! Compression over a scheme that is always judged: its one part is the column itself.
 
-use crate::{CascadingCompressor, Schemes};
+use crate::CascadingCompressor;
+use crate::cascade_tests::over;
 use std::alloc::Global;
 use std::sync::ledger::Ledger;
 use std::test::Fail;
@@ -116,9 +117,7 @@ fn compressor(
     rt: &impl AllocGlobal,
     estimate: CompressionEstimate,
 ) -> Result<CascadingCompressor<Whole>, Fail> {
-    let schemes = Schemes::from_vec(vec![in rt.alloc(); Whole { estimate }]?);
-    let made = CascadingCompressor::new(rt.alloc(), schemes);
-    Ok(made.ok().ok_or("refused")?)
+    over(rt, Whole { estimate })
 }
 
 fn context(rt: &impl AllocGlobal) -> Result<ExecutionCtx, Fail> {
@@ -135,6 +134,24 @@ fn bytes(rt: &impl AllocGlobal, values: &[u8]) -> Result<ArrayRef, Fail> {
     Ok(array.ok().ok_or("refused")?)
 }
 
+// The encoding and the bytes of a tree, which is given up.
+fn form_of(tree: ArrayRef) -> (ArrayId, u128) {
+    let form = (tree.encoding_id(), tree.nbytes());
+    drop(tree);
+    form
+}
+
+// Those of what an array becomes.
+fn compressed(
+    compressor: &CascadingCompressor<Whole>,
+    mut ctx: ExecutionCtx,
+    array: ArrayRef,
+) -> VortexResult<(ArrayId, u128)> {
+    let answer = compressor.compress(&array, &mut ctx);
+    drop(array);
+    Ok(form_of(answer?))
+}
+
 #[test]
 fn a_tree_that_is_not_smaller_never_stands(rt: HostRuntime) -> Result<(), Fail> {
     for estimate in [
@@ -143,40 +160,54 @@ fn a_tree_that_is_not_smaller_never_stands(rt: HostRuntime) -> Result<(), Fail> 
         CompressionEstimate::Deferred(DeferredEstimate::Sample),
     ] {
         let compressor = compressor(&rt, estimate)?;
-        let array = bytes(&rt, &[7, 8, 7])?;
-        let tree = compressor.compress(&array, &mut context(&rt)?)?;
-        assert_eq!(rt; tree.encoding_id(), ArrayId::Primitive);
-        assert_eq!(rt; tree.nbytes(), 3);
+        let tree = compressed(&compressor, context(&rt)?, bytes(&rt, &[7, 8, 7])?)?;
+        assert!(rt; tree == (ArrayId::Primitive, 3));
     }
     Ok(())
 }
 
-// The encoding and the bytes of what a child of the scheme becomes.
-fn child_of(
-    rt: &impl AllocGlobal,
-    child: ArrayRef,
+// What a child of the scheme becomes.
+fn child_tree(
+    child: &ArrayRef,
     parent: CompressorContext,
-) -> Result<(ArrayId, u128), Fail> {
+    compressor: &CascadingCompressor<Whole>,
+    ctx: &mut ExecutionCtx,
+) -> Result<ArrayRef, Fail> {
     if !child.dtype().is_leaf() || child.len() > 100 {
         return Err(Fail::from("no short leaf column"));
     }
-    let always = CompressionEstimate::Verdict(EstimateVerdict::AlwaysUse);
-    let compressor = compressor(rt, always)?;
     let id = SchemeId::of("test.whole");
-    let tree = compressor.compress_child(&child, &parent, id, 0, &mut context(rt)?)?;
-    Ok((tree.encoding_id(), tree.nbytes()))
+    Ok(compressor.compress_child(child, &parent, id, 0, ctx)?)
+}
+
+// Its encoding and its bytes. The child is given up.
+fn child_of(
+    compressor: &CascadingCompressor<Whole>,
+    mut ctx: ExecutionCtx,
+    child: ArrayRef,
+    parent: CompressorContext,
+) -> Result<(ArrayId, u128), Fail> {
+    let answer = child_tree(&child, parent, compressor, &mut ctx);
+    drop(child);
+    Ok(form_of(answer?))
+}
+
+// A compressor that always uses the scheme.
+fn always(rt: &impl AllocGlobal) -> Result<CascadingCompressor<Whole>, Fail> {
+    compressor(rt, CompressionEstimate::Verdict(EstimateVerdict::AlwaysUse))
 }
 
 #[test]
 fn a_child_is_compressed_while_schemes_may_follow(rt: HostRuntime) -> Result<(), Fail> {
     let fresh = CompressorContext::new();
+    let always = always(&rt)?;
     for (values, parent, tree) in [
         (&[7, 7, 7][..], fresh, (ArrayId::Constant, 2)),
         (&[7, 7, 7][..], fresh.as_leaf(), (ArrayId::Primitive, 3)),
         (&[7, 8, 7][..], fresh, (ArrayId::Primitive, 3)),
     ] {
-        let child = bytes(&rt, values)?;
-        assert!(rt; child_of(&rt, child, parent)? == tree);
+        let told = child_of(&always, context(&rt)?, bytes(&rt, values)?, parent)?;
+        assert!(rt; told == tree);
     }
     Ok(())
 }
@@ -190,9 +221,10 @@ fn one_seven() -> VortexResult<ArrayRef> {
 #[test]
 fn a_child_stays_as_it_is_where_no_scheme_may_follow(rt: HostRuntime) -> Result<(), Fail> {
     let fresh = CompressorContext::new();
-    let tree = child_of(&rt, one_seven()?, fresh.as_leaf())?;
+    let always = always(&rt)?;
+    let tree = child_of(&always, context(&rt)?, one_seven()?, fresh.as_leaf())?;
     assert!(rt; tree == (ArrayId::Constant, 5));
-    let tree = child_of(&rt, one_seven()?, fresh)?;
+    let tree = child_of(&always, context(&rt)?, one_seven()?, fresh)?;
     assert!(rt; tree == (ArrayId::Primitive, 4));
     Ok(())
 }
