@@ -1,24 +1,22 @@
 -- The values and the codes of a dictionary as plain trees.
-use Rattle.std.proofs.Common.{◌≡◌, ◌≤◌, ◌<◌, ◌^◌, ◌∙◌, ℕ, ℤ, pos, Bool, true, false, List, [], ◌∷◌, length, map, cond, Some, None, refl, sym, ap, subst, arith}
-use Rattle.std.specs.Prelude.{not, ◌==◌, IfSome}
-use Rattle.std.specs.List.{list_all, list_any}
+use Rattle.std.proofs.Common.{◌≡◌, ◌∙◌, ℕ, ℤ, Bool, true, false, List, [], ◌∷◌, map, cond, Some, None, refl, sym, ap}
+use Rattle.std.specs.Prelude.{not, ◌==◌}
+use Rattle.std.specs.List.{list_any}
 use Rattle.std.proofs.lemmas.Bool.{cond-true, cond-false}
-use Rattle.std.proofs.lemmas.List.{length-map}
 use Rattle.vx_base.specs.declared.ptype.PType.{PType}
 use Rattle.vx_base.specs.declared.dtype.Nullability.{Nullability}
 use Rattle.vx_base.specs.PlainType.{PlainType, integer_of, nullability_of}
 use Rattle.vx_base.specs.PlainType as types
 use Rattle.vx_base.specs.PlainValue.{PlainValue, null, int, is_null, whole_or_zero}
-use Rattle.vx_model.specs.Column.{Column, IsColumn, column, column_of}
+use Rattle.vx_model.specs.Column.{Column, column, column_of}
 use Rattle.vx_model.specs.Plain.{plain, plain_of, validity, valid_bits, IsPlain}
-use Rattle.vx_model.specs.Refusals.{primitive_refusal, dict_refusal, kept}
+use Rattle.vx_model.specs.Refusals.{dict_refusal, kept}
 use Rattle.vx_model.specs.Rows.{rows, valid_rows}
 use Rattle.vx_model.specs.Tree.{Tree, Validity, primitive}
 use Rattle.vx_model.specs.TreeType.{tree_type}
 use Rattle.vx_model.specs.WellFormed.{WellFormed}
-use Rattle.vx_model.proofs.DecodeLemmas.{plain_admitted, kept-validity}
-use Rattle.vx_model.proofs.MadeLemmas.{rows_fit}
-use Rattle.vx_scheme.specs.Asked.{most_rows, FitParts}
+use Rattle.vx_model.proofs.DecodeLemmas.{kept-validity}
+use Rattle.vx_scheme.specs.Asked.{FitParts}
 use Rattle.vx_scheme.specs.Distinct.{times}
 use Rattle.vx_scheme.specs.Meaning.{parts}
 use Rattle.vx_scheme.specs.Meaning.{kept as nothing}
@@ -26,7 +24,7 @@ use Rattle.vx_scheme.specs.Stats.{valid_wholes, value_count, distinct_values, di
 use Rattle.vx_schemes.specs.Dictionary.{code_in, code_type, dictionary_values, dictionary_codes}
 use Rattle.vx_schemes.specs.IntDictMeaning.{values_found, dictionary_parts}
 use Rattle.vx_schemes.specs.Pairs.{pair_of}
-use Rattle.vx_schemes.specs.Laws.Coded.{codes-column, distinct_count-few, dictionary-admitted}
+use Rattle.vx_schemes.specs.Laws.Coded.{dictionary-admitted}
 use Rattle.vx_schemes.proofs.PackingLemmas.{validity_is}
 
 -- ---- the distinct values without their counts
@@ -83,10 +81,7 @@ bits-codes ds (v ∷ vs) = λ i. not (is_null-code ds v i) ∷ bits-codes ds vs 
 validity-codes : (ds : List ℤ) (vs : List PlainValue) → validity (map (code_in ds) vs) ≡ validity vs
 validity-codes ds vs = rw (any_null-codes ds vs, bits-codes ds vs) refl
 
-pub distinct-short : (vs : List PlainValue) → length vs ≤ most_rows → distinct_count vs < 2 ^ 32
-distinct-short vs few = omega (arith, distinct_count-few vs, few)
-
-module _ (t : Tree) (p : PType) (xs : List ℤ) (valid : Validity) (n : Nullability) (w : WellFormed t) (at : t ≡ primitive p xs valid n) (is_plain : IsPlain t) (few : length (rows t) ≤ most_rows) where
+module _ (t : Tree) (p : PType) (xs : List ℤ) (valid : Validity) (n : Nullability) (w : WellFormed t) (at : t ≡ primitive p xs valid n) (is_plain : IsPlain t) where
   abbrev ds : List ℤ
   ds = distinct_values (rows t)
 

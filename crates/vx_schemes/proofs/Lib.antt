@@ -1,3 +1,4 @@
+pub mod DictionaryEncodingLemmas
 pub mod DictionaryLemmas
 pub mod DictionaryRatioLemmas
 pub mod DictionaryTreeLemmas

@@ -9,7 +9,7 @@ use Rattle.vx_base.specs.PlainValue.{null, int}
 use Rattle.vx_blocks.specs.Cost.{cost}
 use Rattle.vx_model.specs.Column.{column}
 use Rattle.vx_model.specs.Site.{Site}
-use Rattle.vx_model.specs.Tree.{patches, primitive, constant, packed_of, plain_packed}
+use Rattle.vx_model.specs.Tree.{patches, primitive, constant, dict, packed_of, plain_packed}
 use Rattle.vx_scheme.specs.Meaning.{kept}
 use Rattle.vx_scheme.specs.declared.estimate.CompressionEstimate.TheVariants.{Verdict, Deferred}
 use Rattle.vx_scheme.specs.declared.estimate.DeferredEstimate.TheVariants.{Sample}
@@ -17,6 +17,7 @@ use Rattle.vx_scheme.specs.declared.estimate.EstimateVerdict.TheVariants.{Skip}
 use Rattle.vx_schemes.specs.CompressedPatches.{index_type, shared_value, compressed_patches}
 use Rattle.vx_schemes.specs.BitPacking.{bit_packing_made}
 use Rattle.vx_schemes.specs.BitPackingMeaning.{bit_packing_meaning}
+use Rattle.vx_schemes.specs.Dictionary.{dictionary_of}
 use Rattle.vx_schemes.specs.Widths.{first_least, widths_of}
 use Rattle.vx_schemes.specs.declared.bit_packing_scheme.BitPackingScheme.{BitPackingScheme}
 
@@ -75,3 +76,9 @@ pub bit_packing-signs : (s : BitPackingScheme) (site : Site)
     × ((bit_packing_meaning s).splits (column (types.primitive I32 NonNullable) (int (pos 5) ∷ int (negsuc 2) ∷ [])) site ≡ kept)
     × ((bit_packing_meaning s).estimate (column (types.primitive I32 Nullable) (int (pos 5) ∷ null ∷ int (pos 3) ∷ [])) site ≡ Deferred Sample)
 bit_packing-signs s site = (refl, refl, refl)
+
+-- 100, 200, 100, null, 100: the values are 100 and 200, of the column's type, and the codes bytes, null where the row is
+pub dictionary_of-hundreds :
+    dictionary_of (column (types.primitive I32 Nullable) (int (pos 100) ∷ int (pos 200) ∷ int (pos 100) ∷ null ∷ int (pos 100) ∷ []))
+    ≡ dict (primitive U8 (pos 0 ∷ pos 1 ∷ pos 0 ∷ pos 0 ∷ pos 0 ∷ []) (Some (true ∷ true ∷ true ∷ false ∷ true ∷ [])) Nullable) (primitive I32 (pos 100 ∷ pos 200 ∷ []) None Nullable)
+dictionary_of-hundreds = refl

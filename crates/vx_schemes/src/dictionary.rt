@@ -12,41 +12,20 @@ ghost use Rattle.vx_model.specs.Rows.{valid_rows};
 ghost use Rattle.vx_array.specs.IntsOf.{ptype_of, wholes_of};
 ghost use Rattle.vx_scheme.specs.Stats.{distinct_values};
 ghost use Rattle.vx_schemes.specs.Codes.{as_code, codes_in};
-ghost use Rattle.vx_schemes.specs.Dictionary.{place_in, code_in, code_type};
+ghost use Rattle.vx_schemes.specs.Dictionary.{code_in, code_type};
 
+use crate::recent_codes::RecentCodes;
 use std::alloc::Global;
 use vx_array::Ints;
 use vx_base::{IntList, Integer, Mask, VortexResult};
 
-// The place of an integer among ascending ones; how many these are where it isn't among them.
-fn place_of<T: Integer>(values: &[T], item: T) -> usize
-    requires { IsStrictlySortedBy int_cmp (map T.whole values.now) }
-    ensures { result ≡ place_in (map T.whole values.now) (T.whole item) }
-{
-    match values.binary_search(&item) {
-        Ok(place) => place,
-        Err(_) => values.len(),
-    }
-}
-
-// The place as a code.
-fn code_of<T: Integer, C: Integer>(values: &[T], item: T) -> C
-    requires { IsStrictlySortedBy int_cmp (map T.whole values.now) }
-    ensures { C.whole result ≡ as_code C.kind (map T.whole values.now) (T.whole item) }
-{
-    C::from_low_bits(place_of(values, item) as u64)
-}
-
 // The code of an item, 0 where the bit is false.
-fn code_at<T: Integer, C: Integer>(values: &[T], item: T, bit: bool) -> C
-    requires { IsStrictlySortedBy int_cmp (map T.whole values.now) }
-    ensures { C.whole result ≡ (if bit then as_code C.kind (map T.whole values.now) (T.whole item) else pos 0) }
+#[inline(always)]
+fn code_at<T: Integer, C: Integer>(recent: &mut RecentCodes<'_, T, C>, item: T, bit: bool) -> C
+    ensures code { C.whole result ≡ (if bit then as_code C.kind recent.old (T.whole item) else pos 0) }
+    ensures values { recent.new ≡ recent.old }
 {
-    if bit {
-        code_of(values, item)
-    } else {
-        C::zero()
-    }
+    if bit { recent.code_of(item) } else { C::zero() }
 }
 
 // The code of each item.
@@ -58,9 +37,10 @@ fn all_codes<T: Integer, C: Integer>(
     requires { IsStrictlySortedBy int_cmp (map T.whole values.now) }
     ensures { OrMemory result (λ codes. map C.whole codes ≡ codes_in C.kind (map T.whole values.now) (map T.whole items.now)) }
 {
+    let mut recent = RecentCodes::new(alloc, values, items.len())?;
     let mut codes = Vec::with_capacity(alloc, items.len())?;
     for row in 0..items.len() {
-        codes.push(code_of(values, items[row]))?;
+        codes.push(recent.code_of(items[row]))?;
     }
     Ok(IntList::from_vec(codes))
 }
@@ -76,9 +56,10 @@ fn masked_codes<T: Integer, C: Integer>(
     requires values { IsStrictlySortedBy int_cmp (map T.whole values.now) }
     ensures { OrMemory result (λ codes. map C.whole codes ≡ zeroed bits.now (codes_in C.kind (map T.whole values.now) (map T.whole items.now))) }
 {
+    let mut recent = RecentCodes::new(alloc, values, items.len())?;
     let mut codes = Vec::with_capacity(alloc, items.len())?;
     for row in 0..items.len() {
-        codes.push(code_at(values, items[row], bits[row]))?;
+        codes.push(code_at(&mut recent, items[row], bits[row]))?;
     }
     Ok(IntList::from_vec(codes))
 }

@@ -1,17 +1,16 @@
-//! The values and the codes of a dictionary of integers, as plain trees.
+//! The values and the codes of a dictionary of integers, as plain trees, and the dictionary that they make.
 
-ghost use Rattle.std.specs.Prelude.{◌≡◌, ◌<◌, ◌≤◌, ◌^◌, length, map, true, None};
+ghost use Rattle.std.specs.Prelude.{◌≡◌, ◌<◌, ◌^◌, length, map, true, None};
 ghost use Rattle.vx_array.specs.IntsOf.{ptype_of, wholes_of};
 ghost use Rattle.vx_base.specs.Answers.{Answers, OrMemory};
 ghost use Rattle.vx_base.specs.PlainType.{integer_of};
 ghost use Rattle.vx_base.specs.PlainValue.{int, whole_or_zero};
 ghost use Rattle.vx_model.specs.Column.{column_of};
 ghost use Rattle.vx_model.specs.Plain.{IsPlain, plain};
-ghost use Rattle.vx_model.specs.Refusals.{validity_length, primitive_refusal, kept};
+ghost use Rattle.vx_model.specs.Refusals.{validity_length, primitive_refusal, dict_refusal, kept};
 ghost use Rattle.vx_model.specs.Rows.{rows, valid_rows};
-ghost use Rattle.vx_model.specs.Tree.{primitive};
+ghost use Rattle.vx_model.specs.Tree.{primitive, dict};
 ghost use Rattle.vx_model.specs.TreeType.{tree_type};
-ghost use Rattle.vx_scheme.specs.Asked.{most_rows};
 ghost use Rattle.vx_scheme.specs.Stats.{distinct_values};
 ghost use Rattle.vx_schemes.specs.Dictionary.{code_in, code_type, dictionary_values, dictionary_codes};
 
@@ -69,12 +68,12 @@ fn plain_tree(values: Ints, valid: Option<Mask>, nullability: Nullability) -> Vo
     }
 }
 
-/// The codes of a column's rows among its distinct values, null where the row is.
-pub(crate) fn codes_tree(alloc: Global, array: &ArrayRef, values: &Ints) -> VortexResult<ArrayRef>
+// The codes of a column's rows among its distinct values, null where the row is.
+fn codes_tree(alloc: Global, array: &ArrayRef, values: &Ints) -> VortexResult<ArrayRef>
     requires plain { IsPlain array.now }
-    requires few { length (rows array.now) ≤ most_rows }
     requires ptype { ptype_of values.now ≡ integer_of (tree_type array.now) }
     requires values { wholes_of values.now ≡ distinct_values (rows array.now) }
+    requires few { length (wholes_of values.now) < 2 ^ 32 }
     ensures { Answers result (plain (dictionary_codes (column_of array.now))) }
 {
     array.known();
@@ -87,11 +86,39 @@ pub(crate) fn codes_tree(alloc: Global, array: &ArrayRef, values: &Ints) -> Vort
     }
 }
 
-/// The distinct values of a column, of its type.
-pub(crate) fn values_tree(array: &ArrayRef, values: Ints) -> VortexResult<ArrayRef>
+// The distinct values of a column, of its type.
+fn values_tree(array: &ArrayRef, values: Ints) -> VortexResult<ArrayRef>
     requires ptype { ptype_of values ≡ integer_of (tree_type array.now) }
     requires values { wholes_of values ≡ distinct_values (rows array.now) }
     ensures { Answers result (plain (dictionary_values (column_of array.now))) }
 {
     plain_tree(values, None, array.dtype().nullability())
+}
+
+/// The distinct values of a plain column of integers, and the codes of its rows among them.
+pub(crate) fn values_and_codes(
+    alloc: Global,
+    array: &ArrayRef,
+    values: Ints,
+) -> VortexResult<(ArrayRef, ArrayRef)>
+    requires plain { IsPlain array.now }
+    requires ptype { ptype_of values ≡ integer_of (tree_type array.now) }
+    requires values { wholes_of values ≡ distinct_values (rows array.now) }
+    requires few { length (wholes_of values) < 2 ^ 32 }
+    ensures { Answers result (plain (dictionary_values (column_of array.now)), plain (dictionary_codes (column_of array.now))) }
+{
+    let codes = codes_tree(alloc, array, &values)?;
+    let values = values_tree(array, values)?;
+    Ok((values, codes))
+}
+
+/// The codes over the values, each code null or a place of a value.
+pub(crate) fn dictionary(alloc: Global, codes: ArrayRef, values: ArrayRef) -> VortexResult<ArrayRef>
+    requires { dict_refusal codes values ≡ None }
+    ensures { Answers result (dict codes values) }
+{
+    match ArrayRef::dict(alloc, codes, values) {
+        Ok(tree) => Ok(tree),
+        Err(refused) => Err(refused.error),
+    }
 }

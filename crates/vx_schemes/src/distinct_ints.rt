@@ -1,6 +1,6 @@
 //! The distinct integers of statistics, as a list.
 
-ghost use Rattle.std.specs.Prelude.{◌≡◌, IfSome, map};
+ghost use Rattle.std.specs.Prelude.{◌≡◌, ◌<◌, ◌^◌, IfSome, length, map};
 ghost use Rattle.vx_array.specs.IntsOf.{ptype_of, wholes_of};
 ghost use Rattle.vx_base.specs.Answers.{OrMemory};
 ghost use Rattle.vx_scheme.specs.Erased.{kind_of, distinct_of};
@@ -9,7 +9,7 @@ ghost use Rattle.vx_scheme.specs.Runs.{whole_counts};
 use std::alloc::Global;
 use vx_array::Ints;
 use vx_base::{IntList, Integer, VortexResult};
-use vx_scheme::{ErasedStats, TypedStats};
+use vx_scheme::{ErasedStats, IntegerStats, TypedStats};
 
 // Values without their counts.
 fn uncounted<T: Integer>(alloc: Global, counts: &[(T, u32)]) -> VortexResult<IntList<T>>
@@ -41,10 +41,20 @@ macro_rules! distinct_by_type {
     };
 }
 
-/// The distinct values, ascending, where they are told.
-pub(crate) fn distinct_ints(alloc: Global, stats: &ErasedStats) -> VortexResult<Ints>
+// The same of statistics of any type.
+fn erased_ints(alloc: Global, stats: &ErasedStats) -> VortexResult<Ints>
     ensures ptype { OrMemory result (λ ints. ptype_of ints ≡ kind_of stats.now) }
     ensures values { OrMemory result (λ ints. IfSome (distinct_of stats.now) (λ counts. wholes_of ints ≡ map (λ c. c.0) counts)) }
 {
     distinct_by_type!(alloc, stats; U8, U16, U32, U64, I8, I16, I32, I64)
+}
+
+/// The distinct values, ascending, where they are told: fewer than 2^32.
+pub(crate) fn distinct_ints(alloc: Global, stats: &IntegerStats) -> VortexResult<Ints>
+    ensures ptype { OrMemory result (λ ints. ptype_of ints ≡ stats.now.ptype) }
+    ensures values { OrMemory result (λ ints. IfSome stats.now.distinct (λ counts. wholes_of ints ≡ map (λ c. c.0) counts)) }
+    ensures few { OrMemory result (λ ints. IfSome stats.now.distinct (λ counts. length (wholes_of ints) < 2 ^ 32)) }
+{
+    let _count = stats.distinct_count();
+    erased_ints(alloc, stats.erased())
 }

@@ -6,9 +6,7 @@ ghost use Rattle.vx_base.specs.Answers.{Answers, OrMemory};
 ghost use Rattle.vx_base.specs.PlainType.{is_integer, integer_of};
 ghost use Rattle.vx_model.specs.Column.{column_of};
 ghost use Rattle.vx_model.specs.Plain.{IsPlain, plain};
-ghost use Rattle.vx_model.specs.Refusals.{dict_refusal};
 ghost use Rattle.vx_model.specs.Rows.{rows};
-ghost use Rattle.vx_model.specs.Tree.{dict};
 ghost use Rattle.vx_model.specs.TreeType.{tree_type};
 ghost use Rattle.vx_scheme.specs.Asked.{most_rows};
 ghost use Rattle.vx_scheme.specs.Bundle.{SameArray};
@@ -17,7 +15,7 @@ ghost use Rattle.vx_scheme.specs.declared.split.Split.TheVariants.{Parts};
 ghost use Rattle.vx_schemes.specs.Dictionary.{dictionary_values, dictionary_codes};
 ghost use Rattle.vx_schemes.specs.IntDictMeaning.{code_bits, dictionary_verdict, values_found};
 
-use crate::dictionary_trees::{codes_tree, values_tree};
+use crate::dictionary_trees::{dictionary, values_and_codes};
 use crate::distinct_ints::distinct_ints;
 use crate::pairs::{pair_of, two_parts};
 use crate::widths::digits;
@@ -84,17 +82,6 @@ fn verdict_by(stats: &IntegerStats, bits: u32) -> EstimateVerdict
     }
 }
 
-// The codes over the values, each code null or a place of a value.
-fn dictionary(alloc: Global, codes: ArrayRef, values: ArrayRef) -> VortexResult<ArrayRef>
-    requires { dict_refusal codes values ≡ None }
-    ensures { Answers result (dict codes values) }
-{
-    match ArrayRef::dict(alloc, codes, values) {
-        Ok(tree) => Ok(tree),
-        Err(refused) => Err(refused.error),
-    }
-}
-
 // The distinct values of a column, ascending. None where there is no value.
 fn distinct_of(column: &mut ArrayAndStats, ctx: &mut ExecutionCtx) -> VortexResult<Option<Ints>>
     requires integer { IsTrue (is_integer (tree_type column.old.array)) }
@@ -103,6 +90,7 @@ fn distinct_of(column: &mut ArrayAndStats, ctx: &mut ExecutionCtx) -> VortexResu
     requires options { column.old.options.count_distinct_values ≡ true }
     ensures values { OrMemory result (λ found. option_map wholes_of found ≡ values_found (rows column.old.array)) }
     ensures ptype { OrMemory result (λ found. IfSome found (λ ints. ptype_of ints ≡ integer_of (tree_type column.old.array))) }
+    ensures few { OrMemory result (λ found. IfSome found (λ ints. length (wholes_of ints) < 2 ^ 32)) }
     ensures column { SameArray column.old column.new }
     ensures ctx { ctx.new ≡ ctx.old }
 {
@@ -111,19 +99,18 @@ fn distinct_of(column: &mut ArrayAndStats, ctx: &mut ExecutionCtx) -> VortexResu
     if stats.value_count() == 0 {
         return Ok(None);
     }
-    Ok(Some(distinct_ints(alloc, stats.erased())?))
+    Ok(Some(distinct_ints(alloc, stats)?))
 }
 
 // The values as part 0 and the codes as part 1.
 fn parts_by(alloc: Global, array: &ArrayRef, values: Ints) -> VortexResult<Split>
     requires plain { IsPlain array.now }
-    requires few { length (rows array.now) ≤ most_rows }
     requires ptype { ptype_of values ≡ integer_of (tree_type array.now) }
     requires values { wholes_of values ≡ distinct_values (rows array.now) }
+    requires few { length (wholes_of values) < 2 ^ 32 }
     ensures { Answers result (Parts (plain (dictionary_values (column_of array.now)) ∷ plain (dictionary_codes (column_of array.now)) ∷ [])) }
 {
-    let codes = codes_tree(alloc, array, &values)?;
-    let values = values_tree(array, values)?;
+    let (values, codes) = values_and_codes(alloc, array, values)?;
     two_parts(alloc, values, codes)
 }
 

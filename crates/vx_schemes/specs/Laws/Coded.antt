@@ -1,5 +1,5 @@
 -- The codes of a column's rows are places of its distinct values, and give the rows back.
-use Rattle.std.proofs.Common.{◌≡◌, ◌<◌, ◌≤◌, ◌+◌, ◌-◌, ◌^◌, ◌∙◌, ℕ, zero, suc, ℤ, pos, Bool, true, false, cond, List, [], ◌∷◌, length, map, get_or, None, refl, sym, ap, subst, arith, inl, inr}
+use Rattle.std.proofs.Common.{◌≡◌, ◌<◌, ◌≤◌, ◌-◌, ◌∙◌, ℕ, suc, ℤ, pos, Bool, true, false, cond, List, [], ◌∷◌, length, map, None, refl, ap, arith, inl, inr}
 use Rattle.std.specs.Prelude.{◌==◌, nat_lt, int_lt, All}
 use Rattle.std.specs.List.{list_all}
 use Rattle.std.specs.Ordering.{int_eq}
@@ -122,7 +122,7 @@ distinct-few : (zs : List ℤ) → length (distinct zs) ≤ length zs
 distinct-few [] = omega arith
 distinct-few (z ∷ zs) = omega (arith, with-few z (distinct zs), distinct-few zs)
 
-valid-few : (vs : List PlainValue) → length (valid_wholes vs) ≤ length vs
+pub valid-few : (vs : List PlainValue) → length (valid_wholes vs) ≤ length vs
 valid-few [] = omega arith
 valid-few (null ∷ vs) = omega (arith, valid-few vs)
 valid-few (int z ∷ vs) = omega (arith, valid-few vs)
@@ -186,8 +186,9 @@ dictionary-admitted c codes values v k =
     in
     rw (integer_type (tree_type codes), leaf_type (tree_type values), placed) refl
 
-pub dictionary-stands : (c : Column) (codes values : Tree) → WellFormed codes → WellFormed values → column_of values ≡ dictionary_values c → column_of codes ≡ dictionary_codes c → StandsFor (dict codes values) c
-dictionary-stands c codes values wc wv v k =
+-- the codes over the values have the column's type and rows
+pub dictionary-column : (c : Column) (codes values : Tree) → column_of values ≡ dictionary_values c → column_of codes ≡ dictionary_codes c → column_of (dict codes values) ≡ c
+dictionary-column c codes values v k =
     let ds = distinct_values c.values in
     let value_type : tree_type values ≡ c.dtype = ap (λ d. d.dtype) v in
     let value_rows : rows values ≡ map int ds = ap (λ d. d.values) v in
@@ -195,4 +196,7 @@ dictionary-stands c codes values wc wv v k =
     let code_rows : rows codes ≡ map (code_in ds) c.values = ap (λ d. d.values) k in
     let typed : tree_type (dict codes values) ≡ c.dtype = (λ i. dict_type (code_type_is i) (value_type i)) ∙ same-type c.dtype (code_type (distinct_count c.values)) in
     let back : rows (dict codes values) ≡ c.values = (λ i. map (looked_up (value_rows i)) (code_rows i)) ∙ codes-back ds c.values (distinct-holds (valid_wholes c.values)) in
-    (dict_accepted codes values (dictionary-admitted c codes values v k) wc wv, λ i. column (typed i) (back i))
+    λ i. column (typed i) (back i)
+
+pub dictionary-stands : (c : Column) (codes values : Tree) → WellFormed codes → WellFormed values → column_of values ≡ dictionary_values c → column_of codes ≡ dictionary_codes c → StandsFor (dict codes values) c
+dictionary-stands c codes values wc wv v k = (dict_accepted codes values (dictionary-admitted c codes values v k) wc wv, dictionary-column c codes values v k)

@@ -6,4 +6,7 @@ abbrev pub invariant-loop-row : goal.invariant-loop-row
 invariant-loop-row g l =
     let whole = g.T.Integer.whole in
     let f = codes_in g.C.Integer.kind (map whole l.values) in
-    map g.C.Integer.whole l.codes.items ++ f (map whole (drop l.row l.items)) ≡ f (map whole l.items)
+    record {
+      values : l.recent ≡ map whole l.values;
+      codes : map g.C.Integer.whole l.codes.items ++ f (map whole (drop l.row l.items)) ≡ f (map whole l.items);
+    }

@@ -7,4 +7,7 @@ abbrev pub invariant-loop-row : goal.invariant-loop-row
 invariant-loop-row g l =
     let whole = g.T.Integer.whole in
     let f = as_code g.C.Integer.kind (map whole l.values) in
-    map g.C.Integer.whole l.codes.items ++ codes_left whole f l.bits l.items l.row ≡ codes_left whole f l.bits l.items 0
+    record {
+      values : l.recent ≡ map whole l.values;
+      codes : map g.C.Integer.whole l.codes.items ++ codes_left whole f l.bits l.items l.row ≡ codes_left whole f l.bits l.items 0;
+    }

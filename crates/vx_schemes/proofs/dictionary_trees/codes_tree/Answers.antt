@@ -1,4 +1,4 @@
-use Rattle.std.proofs.Common.{◌≡◌, ◌<◌, ◌^◌, ◌∙◌, length, map, sym, ap, subst}
+use Rattle.std.proofs.Common.{◌≡◌, ◌∙◌, length, map, sym, ap, subst}
 use Rattle.vx_base.specs.Answers.{Answers}
 use Rattle.vx_base.specs.PlainValue.{whole_or_zero}
 use Rattle.vx_model.specs.Refusals.{kept}
@@ -8,11 +8,8 @@ use Rattle.vx_array.specs.IntsOf.{ptype_of, wholes_of}
 use Rattle.vx_array.specs.TreeOf.{tree_of}
 use Rattle.vx_scheme.specs.Stats.{distinct_values, distinct_count}
 use Rattle.vx_schemes.specs.Dictionary.{code_in, code_type}
-use Rattle.vx_schemes.proofs.DictionaryTreeLemmas.{distinct-short, rows-at, codes-plain}
+use Rattle.vx_schemes.proofs.DictionaryTreeLemmas.{rows-at, codes-plain}
 use Rattle.vx_schemes.proofs.dictionary_trees.codes_tree.Goals as goal
-
-pub codes_of_ints-requires-clause-few : goal.codes_of_ints-requires-clause-few
-codes_of_ints-requires-clause-few c = subst (λ zs. length zs < 2 ^ 32) (sym c.requires.values) (distinct-short (rows c.args.array.now) c.requires.few)
 
 pub returns : goal.returns
 returns c =
@@ -24,10 +21,10 @@ returns c =
     let at : t ≡ primitive p xs valid n = sym c.node.ensures.tree ∙ ap tree_of c.in-Primitive.is in
     let ints = c.in_ok-codes-in-Primitive.codes in
     let typed : ptype_of ints ≡ code_type (distinct_count (rows t)) = c.in_ok-codes-in-Primitive.ensures.ptype ∙ ap (λ zs. code_type (length zs)) c.requires.values in
-    let all = rows-at t p xs valid n c.known.ensures at c.requires.plain c.requires.few in
+    let all = rows-at t p xs valid n c.known.ensures at c.requires.plain in
     let wholes : wholes_of ints ≡ map whole_or_zero (map (code_in (distinct_values (rows t))) (rows t)) =
     c.in_ok-codes-in-Primitive.ensures.codes ∙ (λ i. map whole_or_zero (map (code_in (c.requires.values i)) (all i)))
     in
     subst (Answers c.plain_tree.result)
-    ((λ i. primitive (typed i) (wholes i) (kept (c.in_ok-copied-in-Primitive.ensures i)) n) ∙ codes-plain t p xs valid n c.known.ensures at c.requires.plain c.requires.few)
+    ((λ i. primitive (typed i) (wholes i) (kept (c.in_ok-copied-in-Primitive.ensures i)) n) ∙ codes-plain t p xs valid n c.known.ensures at c.requires.plain)
     c.plain_tree.ensures

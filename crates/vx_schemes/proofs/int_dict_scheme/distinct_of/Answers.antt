@@ -3,8 +3,7 @@ use Rattle.std.specs.Prelude.{◌==◌, IfSome}
 use Rattle.std.proofs.lemmas.Bool.{ne_eqb}
 use Rattle.vx_model.specs.Rows.{rows}
 use Rattle.vx_array.specs.IntsOf.{wholes_of}
-use Rattle.vx_scheme.specs.Erased.{distinct_of}
-use Rattle.vx_scheme.specs.Stats.{value_count, distinct_counts}
+use Rattle.vx_scheme.specs.Stats.{PlainStats, value_count, distinct_counts}
 use Rattle.vx_schemes.proofs.DictionaryRatioLemmas.{distinct-told}
 use Rattle.vx_schemes.proofs.DictionaryTreeLemmas.{uncounted-distinct, found-some}
 use Rattle.vx_schemes.proofs.KeptLemmas.{no_refusal, kept_or_decided}
@@ -15,7 +14,7 @@ returns-clause-values c =
     let vs = rows c.args.column.now.array in
     let ints = c.in_ok-distinct_ints.field-0 in
     let stats = kept_or_decided c.args.column.now.integers_kept _ _ _ (no_refusal vs c.requires.few) c.in_ok-stats.ensures.answer in
-    let told : distinct_of c.erased.result.now ≡ Some (distinct_counts vs) = c.erased.ensures.distinct ∙ ap (λ s. s.distinct) stats ∙ distinct-told c.args.column.now.options vs c.requires.options c.requires.some in
+    let told = ap (λ (s : PlainStats). s.distinct) stats ∙ distinct-told c.args.column.now.options vs c.requires.options c.requires.some in
     let wholes : wholes_of ints ≡ map (λ (d : ℤ × ℕ). d.0) (distinct_counts vs) = subst (λ o. IfSome o (λ counts. wholes_of ints ≡ map (λ (d : ℤ × ℕ). d.0) counts)) told c.in_ok-distinct_ints.ensures.values in
     let some : (value_count vs == 0) ≡ false = sym (ap (λ n. n == 0) (c.value_count.ensures ∙ ap (λ s. s.value_count) stats)) ∙ ne_eqb _ 0 c.if-value_count-eq0.false in
     ap Some (wholes ∙ uncounted-distinct vs) ∙ found-some vs some

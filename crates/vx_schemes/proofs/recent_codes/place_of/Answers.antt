@@ -1,5 +1,5 @@
 use Rattle.vx_schemes.proofs.PlaceLemmas.{place-found, place-not_found}
-use Rattle.vx_schemes.proofs.dictionary.place_of.Goals as goal
+use Rattle.vx_schemes.proofs.recent_codes.place_of.Goals as goal
 
 pub returns-in-Ok : goal.returns-in-Ok
 returns-in-Ok g c = place-found g.T.Integer.whole g.T.Ord.cmp g.met.T.Integer.ordered c.args.values.now c.args.item c.in-Ok.place c.requires c.in-Ok.ensures.bound c.in-Ok.ensures.ok
