@@ -1,1 +1,3 @@
 pub mod QuickPacking
+pub mod SpanFrame
+pub mod SpanFrameLaws

@@ -1,4 +1,4 @@
-//! What the scheme tells and makes of columns, and where it is chosen, with ample memory.
+//! What quick packing tells and makes of columns, and where it is chosen, with ample memory.
 
 ghost use Rattle.std.specs.Prelude.{◌≡◌, ◌<◌, length, IsTrue};
 ghost use Rattle.vx_base.specs.PlainType.{is_integer};
@@ -6,6 +6,8 @@ ghost use Rattle.vx_model.specs.Column.{column_of};
 ghost use Rattle.vx_model.specs.Rows.{rows};
 ghost use Rattle.vx_model.specs.TreeType.{tree_type};
 ghost use Rattle.vx_scheme.specs.Asked.{IsSiteTree, HasValue};
+
+mod span_frame;
 
 use crate::{QuickPacking, compressor};
 use std::marker::Brand;

@@ -1,0 +1,52 @@
+-- What the scheme of span frames means, and the list that it stands in.
+use Rattle.std.specs.Prelude.{ℤ, false, List, [], ◌∷◌, codes}
+use Rattle.vx_base.specs.declared.array_id.ArrayId.TheVariants.{FoR}
+use Rattle.vx_base.specs.declared.dtype.Nullability.TheVariants.{NonNullable}
+use Rattle.vx_base.specs.IdNumber.{same_id}
+use Rattle.vx_base.specs.PlainScalar.{scalar}
+use Rattle.vx_base.specs.PlainType.{is_integer, integer_of}
+use Rattle.vx_base.specs.PlainType as types
+use Rattle.vx_base.specs.PlainValue.{int}
+use Rattle.vx_model.specs.Column.{Column}
+use Rattle.vx_model.specs.Plain.{plain}
+use Rattle.vx_model.specs.Tree.{Tree, frame_of_reference}
+use Rattle.vx_scheme.specs.Meaning.{Meaning, parts}
+use Rattle.vx_scheme.specs.Stats.{least_in}
+use Rattle.vx_scheme.specs.declared.estimate.CompressionEstimate.TheVariants.{Verdict}
+use Rattle.vx_scheme.specs.declared.estimate.EstimateVerdict.TheVariants.{Skip}
+use Rattle.vx_schemes.specs.Differences.{differences}
+use Rattle.vx_schemes.specs.FrameOfReference.{for_estimate}
+use Rattle.vx_btrblocks.specs.Shipped.{shipped_schemes}
+
+-- the least value, or the type's greatest where every row is null
+abbrev pub reference_of : Column → ℤ
+reference_of c = least_in (integer_of c.dtype) c.values
+
+-- the rows less the least value, in the unsigned type of the width
+abbrev pub above_least : Column → Column
+above_least c = differences c (reference_of c)
+
+-- the part's tree under the least value
+abbrev pub frame_over : Column → List Tree → Tree
+frame_over c [] = plain c
+frame_over c (tree ∷ trees) = frame_of_reference tree (scalar (types.primitive (integer_of c.dtype) NonNullable) (int (reference_of c)))
+
+-- the verdict of the shipped frame; the one part is the differences
+abbrev pub span_frame : Meaning
+span_frame = record {
+  name = codes "example.int.frame";
+  takes = is_integer;
+  children = 1;
+  options = record { count_distinct_values = false };
+  produces = λ id. same_id id FoR;
+  descendants = [];
+  ancestors = [];
+  estimate = λ c site. Verdict (for_estimate c site);
+  resolve = λ c site. Skip;
+  splits = λ c site. parts (above_least c ∷ []);
+  joined = λ c site trees. frame_over c trees;
+}
+
+-- span frames, and behind them the shipped schemes
+abbrev pub with_span_frames : List Meaning
+with_span_frames = span_frame ∷ shipped_schemes
