@@ -9,7 +9,7 @@ import subprocess
 import sys
 from typing import NamedTuple
 
-SOURCE = os.path.join(os.path.dirname(os.path.abspath(__file__)), 'kernels.rs')
+HERE = os.path.dirname(os.path.abspath(__file__))
 MILLION = 1_000_000
 BITS = {'u8': 8, 'u32': 32, 'u64': 64}
 WIDTHS = (1, 4, 7, 12, 20, 31, 63)      # each in the types that have more bits
@@ -58,13 +58,13 @@ CASES = [(type_, width) for type_ in BITS for width in WIDTHS if width < BITS[ty
 # ---------------------------------------------------------------------------------------------
 # measuring
 
-def peer_of(directory):
-    """The built kernels.rs, or None where there is no rustc."""
+def built(name, directory):
+    """The program of a Rust file beside this one, or None where there is no rustc."""
     compiler = shutil.which('rustc')
     if compiler is None:
         return None
-    program = os.path.join(directory, 'kernels')
-    subprocess.run([compiler, '--edition', '2024', '-O', *PROCESSOR, '-o', program, SOURCE], check=True)
+    program, source = os.path.join(directory, name), os.path.join(HERE, name + '.rs')
+    subprocess.run([compiler, '--edition', '2024', '-O', *PROCESSOR, '-o', program, source], check=True)
     return program
 
 

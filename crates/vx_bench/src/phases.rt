@@ -5,16 +5,18 @@ use std::alloc::Global;
 use std::io::Read;
 use std::time::{Clock, Duration, Instant};
 use vx_array::ArrayRef;
-use vx_base::ExecutionCtx;
+use vx_base::{ExecutionCtx, Words};
 use vx_btrblocks::BtrBlocksCompressor;
 use vx_program::{Document, Input, StdSource, listing_text, read_all, read_document};
-use vx_scheme::NoScheme;
+use vx_scheme::{GenerateStatsOptions, IntegerStats, NoScheme};
 
-/// How long each phase took.
+/// How long each phase took, and how many distinct values the statistics tell.
 #[derive(Clone, Copy)]
 struct Phases {
     read: Duration,
     parse: Duration,
+    statistics: Duration,
+    distinct: u32,
     compress: Duration,
     list: Duration,
 }
@@ -38,6 +40,20 @@ fn document_of(alloc: Global, bytes: Vec<u8>) -> Result<Document> {
     }
 }
 
+/// How many distinct values the statistics tell that dictionaries are judged by.
+fn distinct_values(alloc: Global, array: &ArrayRef) -> Result<u32> {
+    let words = Words::from_vec(vec![in alloc; 0]?);
+    if words.len() == 0 || !array.dtype().is_integer() {
+        bail!("no integers");
+    }
+    let opts = GenerateStatsOptions {
+        count_distinct_values: true,
+    };
+    let mut ctx = ExecutionCtx::new(alloc, words);
+    let stats = IntegerStats::generate_opts(array, opts, &mut ctx)?;
+    Ok(stats.distinct_count().unwrap_or(0))
+}
+
 fn compressed(alloc: Global, document: Document) -> Result<ArrayRef> {
     let Document { array, words } = document;
     if words.len() == 0 {
@@ -56,8 +72,11 @@ fn listed(alloc: Global, tree: &ArrayRef) -> Result<usize> {
     Ok(listing_text(alloc, tree)?.len())
 }
 
-/// Runs the phases one after the other.
-fn measured<R: Read>(rt: &(impl AllocGlobal + Clock), reader: R) -> Result<Phases>
+/// The document of the reader's bytes, and how long it took to read and to parse them.
+fn parsed<R: Read>(
+    rt: &(impl AllocGlobal + Clock),
+    reader: R,
+) -> Result<(Document, Duration, Duration)>
 where
     R: Drop,
 {
@@ -67,15 +86,40 @@ where
     let start = Instant::now(rt)?;
     let document = document_of(rt.alloc(), bytes)?;
     let parse = start.elapsed(rt)?;
+    Ok((document, read, parse))
+}
+
+/// How long the statistics of the column take, once they were made before, and how many distinct values they tell.
+fn counted(rt: &(impl AllocGlobal + Clock), array: &ArrayRef) -> Result<(Duration, u32)> {
+    let _before = distinct_values(rt.alloc(), array)?;
+    let start = Instant::now(rt)?;
+    let distinct = distinct_values(rt.alloc(), array)?;
+    Ok((start.elapsed(rt)?, distinct))
+}
+
+/// How long it took to compress the column and to list its tree.
+fn packed(rt: &(impl AllocGlobal + Clock), document: Document) -> Result<(Duration, Duration)> {
     let start = Instant::now(rt)?;
     let tree = compressed(rt.alloc(), document)?;
     let compress = start.elapsed(rt)?;
     let start = Instant::now(rt)?;
     let _len = listed(rt.alloc(), &tree)?;
-    let list = start.elapsed(rt)?;
+    Ok((compress, start.elapsed(rt)?))
+}
+
+/// Runs the phases one after the other. The statistics are made once more within the compression.
+fn measured<R: Read>(rt: &(impl AllocGlobal + Clock), reader: R) -> Result<Phases>
+where
+    R: Drop,
+{
+    let (document, read, parse) = parsed(rt, reader)?;
+    let (statistics, distinct) = counted(rt, &document.array)?;
+    let (compress, list) = packed(rt, document)?;
     Ok(Phases {
         read,
         parse,
+        statistics,
+        distinct,
         compress,
         list,
     })
@@ -106,6 +150,8 @@ where
     let phases = measured(rt, reader)?;
     show(rt, "read", phases.read)?;
     show(rt, "parse", phases.parse)?;
+    show(rt, "statistics", phases.statistics)?;
+    println!(rt; "distinct {}", phases.distinct)?;
     show(rt, "compress", phases.compress)?;
     show(rt, "list", phases.list)
 }
