@@ -1,5 +1,7 @@
 //! Worked columns, with ample memory and no scheme of the caller's.
 
+mod packing_alone;
+
 use crate::BtrBlocksCompressor;
 use std::test::Fail;
 use vx_array::{ArrayRef, Ints, Node};
