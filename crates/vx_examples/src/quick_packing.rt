@@ -96,14 +96,14 @@ impl Scheme for QuickPacking {
         &self,
         column: &mut ArrayAndStats,
         _site: &CompressorContext,
-        ctx: &mut ExecutionCtx,
+        _ctx: &mut ExecutionCtx,
     ) -> VortexResult<CompressionEstimate> {
         let dtype = column.array().dtype();
         if !dtype.is_integer() {
             return Ok(CompressionEstimate::Verdict(EstimateVerdict::Skip));
         }
         let bits = dtype.ptype().bit_width();
-        let stats = column.integer_stats(ctx)?;
+        let stats = column.integer_summary()?;
         Ok(CompressionEstimate::Verdict(verdict(stats, bits)))
     }
 

@@ -43,7 +43,7 @@ lt-unequal-back x y h = grind (arith, ints)
 lt-third : (x y : ℤ) → int_lt x y ≡ false → int_eq x y ≡ false → int_lt y x ≡ true
 lt-third x y h k = grind (arith, ints)
 
-eq-same : (x y : ℤ) → int_eq x y ≡ true → x ≡ y
+pub eq-same : (x y : ℤ) → int_eq x y ≡ true → x ≡ y
 eq-same x y h = grind (arith, ints)
 
 not-below-self : (x : ℤ) → int_lt x x ≡ false
@@ -56,7 +56,7 @@ below-trans x z (d ∷ ds) h b = (lt-trans x z d h b.0, below-trans x z ds h b.1
 -- ---- one more number
 
 -- the three ways in which a number goes among others
-by-order : (z w : ℤ) (P : List ℤ → Type 0) (ws : List ℤ) → (int_lt z w ≡ true → P (z ∷ w ∷ ws)) → (z ≡ w → P (w ∷ ws)) → (int_lt w z ≡ true → P (w ∷ with_number z ws)) → P (with_number z (w ∷ ws))
+pub by-order : (z w : ℤ) (P : List ℤ → Type 0) (ws : List ℤ) → (int_lt z w ≡ true → P (z ∷ w ∷ ws)) → (z ≡ w → P (w ∷ ws)) → (int_lt w z ≡ true → P (w ∷ with_number z ws)) → P (with_number z (w ∷ ws))
 by-order z w P ws less same more =
     cond_both (int_lt z w) (z ∷ w ∷ ws) (cond (int_eq z w) (w ∷ ws) (w ∷ with_number z ws)) P less
     (λ f. cond_both (int_eq z w) (w ∷ ws) (w ∷ with_number z ws) P (λ e. same (eq-same z w e)) (λ g. more (lt-third z w f g)))

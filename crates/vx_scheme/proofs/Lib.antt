@@ -2,6 +2,7 @@ pub mod DenseLemmas
 pub mod DistinctLemmas
 pub mod NullLemmas
 pub mod RatioLemmas
+pub mod SlotLemmas
 pub mod StandardFacts
 pub mod StatsFacts
 pub mod StatsLemmas

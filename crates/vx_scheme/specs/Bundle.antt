@@ -10,14 +10,15 @@ use Rattle.vx_scheme.specs.declared.options.GenerateStatsOptions.{GenerateStatsO
 pub record Bundle : Type 0 where
   pub array : Tree
   pub options : GenerateStatsOptions
+  pub summary_kept : Bool
   pub integers_kept : Bool
 
 -- a bundle is stored as its fields
 abbrev pub bundle_code : Coded Bundle
 bundle_code =
-    code_by ((Tree × Bool) × Bool) (coded× (coded× tree_code coded_bool) coded_bool)
-    (λ b. ((b.array, b.options.count_distinct_values), b.integers_kept))
-    (λ p. record { array = p.0.0; options = record { count_distinct_values = p.0.1 }; integers_kept = p.1 })
+    code_by ((Tree × Bool) × (Bool × Bool)) (coded× (coded× tree_code coded_bool) (coded× coded_bool coded_bool))
+    (λ b. ((b.array, b.options.count_distinct_values), (b.summary_kept, b.integers_kept)))
+    (λ p. record { array = p.0.0; options = record { count_distinct_values = p.0.1 }; summary_kept = p.1.0; integers_kept = p.1.1 })
     (λ _. refl)
 
 -- the array and the options are as they were; a statistic may be kept

@@ -12,3 +12,12 @@ pub record KeepsIntegers (answered : Bool) (old new : Bundle) : Type 0 where
 
 abbrev pub LendsIntegers : MutBor Bundle → Bool → Fml
 LendsIntegers bundle answered = follows_so the_row the_row bundle.ghost_name none (λ _ _. ⊤) (λ v. KeepsIntegers answered bundle.now v)
+
+-- only the summary is kept that wasn't, where one was answered
+pub record KeepsSummary (answered : Bool) (old new : Bundle) : Type 0 where
+  pub same : SameArray old new
+  pub kept : answered ≡ true → new.summary_kept ≡ true
+  pub integers : new.integers_kept ≡ old.integers_kept
+
+abbrev pub LendsSummary : MutBor Bundle → Bool → Fml
+LendsSummary bundle answered = follows_so the_row the_row bundle.ghost_name none (λ _ _. ⊤) (λ v. KeepsSummary answered bundle.now v)

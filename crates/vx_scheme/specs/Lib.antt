@@ -18,6 +18,7 @@ pub mod Rules
 pub mod Runs
 pub mod Scores
 pub mod Selects
+pub mod Slots
 pub mod Stats
 pub mod Tables
 pub mod Tally

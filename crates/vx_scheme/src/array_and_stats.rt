@@ -1,25 +1,29 @@
 //! A plain array with what is kept of its statistics.
 
-ghost use Rattle.std.specs.Prelude.{◌≡◌, false, length, IsTrue, is_ok};
+ghost use Rattle.std.specs.Prelude.{◌≡◌, ◌<◌, ◌/◌, nat_lt, true, false, length, IsTrue, is_ok};
 ghost use Rattle.std.specs.Borrow.{sem};
+ghost use Rattle.vx_base.specs.Answers.{Decided, SurelyDecided};
 ghost use Rattle.vx_base.specs.PlainType.{is_integer, integer_of};
 ghost use Rattle.vx_model.specs.Plain.{IsPlain};
 ghost use Rattle.vx_model.specs.Rows.{rows};
 ghost use Rattle.vx_model.specs.TreeType.{tree_type};
-ghost use Rattle.vx_scheme.specs.Bundle.{KeptOrDecided};
-ghost use Rattle.vx_scheme.specs.Stats.{stats_of, stats_refusal};
+ghost use Rattle.vx_scheme.specs.Bundle.{KeptOrDecided, SameArray};
+ghost use Rattle.vx_scheme.specs.Options.{no_options};
+ghost use Rattle.vx_scheme.specs.Stats.{stats_of, stats_refusal, value_count, distinct_count};
 
 use crate::options::GenerateStatsOptions;
 use crate::stats::IntegerStats;
+use std::alloc::Global;
 use std::marker::Model;
 use vx_array::ArrayRef;
-use vx_base::{ExecutionCtx, VortexResult};
+use vx_base::{ExecutionCtx, VortexError, VortexResult};
 
 /// A plain array, and each of its statistics from the first call on that asked for it.
 #[derive(Drop)]
 pub struct ArrayAndStats {
     array: ArrayRef,
     opts: GenerateStatsOptions,
+    summary: Option<IntegerStats>,
     integers: Option<IntegerStats>,
 }
 
@@ -30,28 +34,30 @@ impl Model for ArrayAndStats {
     ghost use Rattle.vx_model.specs.Rows.{rows};
     ghost use Rattle.vx_model.specs.TreeType.{tree_type};
     ghost use Rattle.vx_scheme.specs.Bundle.{Bundle, bundle_code};
+    ghost use Rattle.vx_scheme.specs.Options.{no_options};
     ghost use Rattle.vx_scheme.specs.Stats.{stats_of};
 
     ghost Value = { Bundle };
 
     ghost coded = { bundle_code };
 
-    ghost view = { λ a. record { array = a.array; options = a.opts; integers_kept = is_some a.integers } };
+    ghost view = { λ a. record { array = a.array; options = a.opts; summary_kept = is_some a.summary; integers_kept = is_some a.integers } };
 
-    ghost invariant = { λ a. IsPlain a.array × IfSome a.integers (λ stats. stats ≡ stats_of a.opts (integer_of (tree_type a.array)) (rows a.array)) };
+    ghost invariant = { λ a. IsPlain a.array × IfSome a.summary (λ stats. stats ≡ stats_of no_options (integer_of (tree_type a.array)) (rows a.array)) × IfSome a.integers (λ stats. stats ≡ stats_of a.opts (integer_of (tree_type a.array)) (rows a.array)) };
 }
 
 impl ArrayAndStats {
-    ghost use Rattle.vx_scheme.specs.Keeping.{LendsIntegers};
+    ghost use Rattle.vx_scheme.specs.Keeping.{LendsIntegers, LendsSummary};
 
     /// Nothing is kept yet.
     pub fn new(array: ArrayRef, opts: GenerateStatsOptions) -> ArrayAndStats
         requires { IsPlain array }
-        ensures { result ≡ record { array = array; options = opts; integers_kept = false } }
+        ensures { result ≡ record { array = array; options = opts; summary_kept = false; integers_kept = false } }
     {
         ArrayAndStats {
             array,
             opts,
+            summary: None,
             integers: None,
         }
     }
@@ -84,8 +90,41 @@ impl ArrayAndStats {
         self.opts
     }
 
-    /// The statistics of an array of integers with what the options ask for, kept from now on. Where they aren't kept yet, refuses TooManyRows exactly
-    /// above 2^32 - 1 rows, and NoMemory. The context stays as it was.
+    /// The statistics of an array of integers without distinct values, made once. They take no memory. Refuses
+    /// TooManyRows exactly above 2^32 - 1 rows.
+    pub fn integer_summary(&mut self) -> VortexResult<&IntegerStats>
+        requires { IsTrue (is_integer (tree_type self.old.array)) }
+        ensures* kept { sem 𝓛 (LendsSummary self.entry (is_ok result)) }
+        ensures answer { SurelyDecided (stats_refusal (rows self.old.array)) (λ stats. stats.now ≡ stats_of no_options (integer_of (tree_type self.old.array)) (rows self.old.array)) result }
+    {
+        if self.array.len() > u64::from(u32::MAX) {
+            return Err(VortexError::TooManyRows);
+        }
+        if self.summary.is_none() {
+            self.summary = Some(IntegerStats::summary_of(&self.array));
+        }
+        match &self.summary {
+            Some(stats) => Ok(stats),
+            None => unreachable!(),
+        }
+    }
+
+    // The statistics with what the options ask for.
+    fn completed(&mut self, alloc: Global) -> VortexResult<IntegerStats>
+        requires { IsTrue (is_integer (tree_type self.old.array)) }
+        ensures answer { Decided (stats_refusal (rows self.old.array)) (λ stats. stats ≡ stats_of self.old.options (integer_of (tree_type self.old.array)) (rows self.old.array)) result }
+        ensures same { SameArray self.old self.new }
+        ensures integers { self.new.integers_kept ≡ self.old.integers_kept }
+    {
+        self.integer_summary()?;
+        match &self.summary {
+            Some(summary) => summary.completed(alloc, &self.array, self.opts),
+            None => unreachable!(),
+        }
+    }
+
+    /// The statistics of an array of integers with what the options ask for, kept from now on. Where they aren't kept
+    /// yet, refuses TooManyRows exactly above 2^32 - 1 rows, and NoMemory. The context stays as it was.
     pub fn integer_stats(&mut self, ctx: &mut ExecutionCtx) -> VortexResult<&IntegerStats>
         requires { IsTrue (is_integer (tree_type self.old.array)) }
         ensures* kept { sem 𝓛 (LendsIntegers self.entry (is_ok result)) }
@@ -93,11 +132,45 @@ impl ArrayAndStats {
         ensures ctx { ctx.new ≡ ctx.old }
     {
         if self.integers.is_none() {
-            self.integers = Some(IntegerStats::generate_opts(&self.array, self.opts, ctx)?);
+            self.integers = Some(self.completed(ctx.alloc())?);
         }
         match &self.integers {
             Some(stats) => Ok(stats),
             None => unreachable!(),
+        }
+    }
+
+    // Whether it is shown that more than half of the values are distinct. False tells nothing.
+    fn shows_mostly_distinct(&mut self, alloc: Global) -> VortexResult<bool>
+        requires { IsTrue (is_integer (tree_type self.old.array)) }
+        ensures answer { Decided (stats_refusal (rows self.old.array)) (λ shown. shown ≡ true → value_count (rows self.old.array) / 2 < distinct_count (rows self.old.array)) result }
+        ensures same { SameArray self.old self.new }
+        ensures integers { self.new.integers_kept ≡ self.old.integers_kept }
+    {
+        self.integer_summary()?;
+        match &self.summary {
+            Some(summary) => summary.shows_mostly_distinct(alloc, &self.array),
+            None => unreachable!(),
+        }
+    }
+
+    /// Whether more than half of the values of an array of integers are distinct; its options ask for distinct values.
+    /// Where nearly all are, they aren't sorted to tell so; else the statistics are kept from now on. Where they aren't
+    /// kept yet, refuses TooManyRows exactly above 2^32 - 1 rows, and NoMemory. The context stays as it was.
+    pub fn is_mostly_distinct(&mut self, ctx: &mut ExecutionCtx) -> VortexResult<bool>
+        requires integer { IsTrue (is_integer (tree_type self.old.array)) }
+        requires asked { self.old.options.count_distinct_values ≡ true }
+        ensures answer { KeptOrDecided self.old.integers_kept (stats_refusal (rows self.old.array)) (λ many. many ≡ nat_lt (value_count (rows self.old.array) / 2) (distinct_count (rows self.old.array))) result }
+        ensures same { SameArray self.old self.new }
+        ensures ctx { ctx.new ≡ ctx.old }
+    {
+        if self.integers.is_none() && self.shows_mostly_distinct(ctx.alloc())? {
+            return Ok(true);
+        }
+        let stats = self.integer_stats(ctx)?;
+        match stats.distinct_count() {
+            Some(distinct) => Ok(distinct > stats.value_count() / 2),
+            None => Ok(false),
         }
     }
 }

@@ -1,7 +1,7 @@
 //! Statistics of columns.
 
-ghost use Rattle.std.specs.Prelude.{◌≡◌, ◌<◌, ◌^◌, ◌≤ℤ◌, length, map, true, IsTrue, option_map};
-ghost use Rattle.vx_base.specs.Answers.{Decided, Answers};
+ghost use Rattle.std.specs.Prelude.{◌≡◌, ◌<◌, ◌/◌, ◌^◌, ◌≤ℤ◌, length, map, true, IsTrue, option_map};
+ghost use Rattle.vx_base.specs.Answers.{Decided, Answers, OrMemory};
 ghost use Rattle.vx_base.specs.PlainType.{is_integer, integer_of};
 ghost use Rattle.vx_base.specs.PlainValue.{int};
 ghost use Rattle.vx_model.specs.Plain.{IsPlain};
@@ -11,20 +11,23 @@ ghost use Rattle.vx_model.specs.TreeType.{tree_type};
 ghost use Rattle.vx_array.specs.IntsOf.{ptype_of, wholes_of};
 ghost use Rattle.vx_scheme.specs.Frequent.{frequent_value};
 ghost use Rattle.vx_scheme.specs.Options.{no_options};
-ghost use Rattle.vx_scheme.specs.Stats.{stats_of, stats_refusal};
+ghost use Rattle.vx_scheme.specs.Stats.{stats_of, stats_refusal, value_count, distinct_count};
 
+mod by_type;
 mod counting;
 mod counts;
 mod dense;
 mod distinct;
 mod erased;
 mod range;
+mod slots;
 mod tally;
 mod typed;
 mod value;
 
 use crate::options::GenerateStatsOptions;
-use counts::{RowCounts, summary};
+use by_type::{completed, least_distinct, summary_of};
+use counts::RowCounts;
 pub use distinct::{Counts, DistinctInfo, laws_of_distinct};
 pub use erased::ErasedStats;
 use std::alloc::Global;
@@ -90,6 +93,77 @@ impl IntegerStats {
         }
     }
 
+    /// The statistics of plain integers, without distinct values.
+    pub(crate) fn summary_of(plain: &ArrayRef) -> IntegerStats
+        requires plain { IsPlain plain.now }
+        requires few { length (rows plain.now) < 2 ^ 32 }
+        ensures { result ≡ stats_of no_options (integer_of (tree_type plain.now)) (rows plain.now) }
+    {
+        match plain.node() {
+            Node::Primitive(values, valid, _) => summary_of_ints(values, valid),
+            _ => unreachable!(),
+        }
+    }
+
+    /// These statistics, which are those of plain integers without distinct values, with what the options ask for.
+    pub(crate) fn completed(
+        &self,
+        alloc: Global,
+        plain: &ArrayRef,
+        opts: GenerateStatsOptions,
+    ) -> VortexResult<IntegerStats>
+        requires plain { IsPlain plain.now }
+        requires few { length (rows plain.now) < 2 ^ 32 }
+        requires summary { self.now ≡ stats_of no_options (integer_of (tree_type plain.now)) (rows plain.now) }
+        ensures { Answers result (stats_of opts (integer_of (tree_type plain.now)) (rows plain.now)) }
+    {
+        match plain.node() {
+            Node::Primitive(values, valid, _) => self.completed_of_ints(alloc, values, valid, opts),
+            _ => unreachable!(),
+        }
+    }
+
+    fn completed_of_ints(
+        &self,
+        alloc: Global,
+        values: &Ints,
+        valid: &Option<Mask>,
+        opts: GenerateStatsOptions,
+    ) -> VortexResult<IntegerStats>
+        requires mask { validity_length valid.now (length (wholes_of values.now)) ≡ true }
+        requires few { length (wholes_of values.now) < 2 ^ 32 }
+        requires summary { self.now ≡ stats_of no_options (ptype_of values.now) (valid_rows valid.now (map int (wholes_of values.now))) }
+        ensures { Answers result (stats_of opts (ptype_of values.now) (valid_rows valid.now (map int (wholes_of values.now)))) }
+    {
+        let erased = completed(alloc, &self.erased, values, valid, opts)?;
+        Ok(IntegerStats::new(self.counts, erased))
+    }
+
+    /// Whether more than half of the values of plain integers are distinct, shown without sorting them. These are their
+    /// statistics without distinct values. False tells nothing.
+    pub(crate) fn shows_mostly_distinct(
+        &self,
+        alloc: Global,
+        plain: &ArrayRef,
+    ) -> VortexResult<bool>
+        requires plain { IsPlain plain.now }
+        requires few { length (rows plain.now) < 2 ^ 32 }
+        requires summary { self.now ≡ stats_of no_options (integer_of (tree_type plain.now)) (rows plain.now) }
+        ensures { OrMemory result (λ shown. shown ≡ true → value_count (rows plain.now) / 2 < distinct_count (rows plain.now)) }
+    {
+        // Where they lie close together, a table counts them as fast.
+        if self.value_count() == 0 || self.erased().max_minus_min() < plain.len() {
+            return Ok(false);
+        }
+        match plain.node() {
+            Node::Primitive(values, valid, _) => {
+                let least = least_distinct(alloc, values, valid)?;
+                Ok(least > (self.value_count() / 2) as usize)
+            }
+            _ => unreachable!(),
+        }
+    }
+
     fn new(counts: RowCounts, erased: ErasedStats) -> Self
         requires { 0 < counts.value_count → (extremes_of erased).least ≤ℤ (extremes_of erased).greatest }
         ensures { result ≡ record { ptype = kind_of erased; null_count = counts.null_count; value_count = counts.value_count; average_run_length = counts.average_run_length; extremes = extremes_of erased; distinct = distinct_of erased } }
@@ -144,15 +218,14 @@ impl IntegerStats {
     }
 }
 
-macro_rules! stats_by_type {
-    ($alloc:expr, $values:expr, $valid:expr, $opts:expr; $($kind:ident),*) => {
-        match $values {
-            $(Ints::$kind(items) => {
-                let (counts, typed) = summary($alloc, items.as_slice(), $valid, $opts)?;
-                Ok(IntegerStats::new(counts, ErasedStats::from(typed)))
-            })*
-        }
-    };
+// The statistics of the valid rows, without distinct values.
+fn summary_of_ints(values: &Ints, valid: &Option<Mask>) -> IntegerStats
+    requires mask { validity_length valid.now (length (wholes_of values.now)) ≡ true }
+    requires few { length (wholes_of values.now) < 2 ^ 32 }
+    ensures { result ≡ stats_of no_options (ptype_of values.now) (valid_rows valid.now (map int (wholes_of values.now))) }
+{
+    let (counts, erased) = summary_of(values, valid);
+    IntegerStats::new(counts, erased)
 }
 
 // The statistics of the valid rows.
@@ -166,7 +239,7 @@ fn stats_of_ints(
     requires few { length (wholes_of values.now) < 2 ^ 32 }
     ensures { Answers result (stats_of opts (ptype_of values.now) (valid_rows valid.now (map int (wholes_of values.now)))) }
 {
-    stats_by_type!(alloc, values, valid, opts; U8, U16, U32, U64, I8, I16, I32, I64)
+    summary_of_ints(values, valid).completed_of_ints(alloc, values, valid, opts)
 }
 
 fn stats_of_plain(
@@ -178,8 +251,5 @@ fn stats_of_plain(
     requires few { length (rows plain.now) < 2 ^ 32 }
     ensures { Answers result (stats_of opts (integer_of (tree_type plain.now)) (rows plain.now)) }
 {
-    match plain.node() {
-        Node::Primitive(values, valid, _) => stats_of_ints(alloc, values, valid, opts),
-        _ => unreachable!(),
-    }
+    IntegerStats::summary_of(plain).completed(alloc, plain, opts)
 }

@@ -8,6 +8,7 @@ ghost use Rattle.vx_model.specs.TreeType.{tree_type};
 ghost use Rattle.vx_scheme.specs.Asked.{IsSiteTree, HasValue};
 
 mod distinct;
+mod mostly;
 mod stats;
 
 use crate::{

@@ -38,14 +38,13 @@ impl BitPackingScheme {
 }
 
 /// Whether some value of the column is negative.
-pub(crate) fn has_negative(column: &mut ArrayAndStats, ctx: &mut ExecutionCtx) -> VortexResult<bool>
+pub(crate) fn has_negative(column: &mut ArrayAndStats) -> VortexResult<bool>
     requires integer { IsTrue (is_integer (tree_type column.old.array)) }
     requires few { length (rows column.old.array) ≤ most_rows }
     ensures answer { Answers result (has_negative (column_of column.old.array)) }
     ensures column { SameArray column.old column.new }
-    ensures ctx { ctx.new ≡ ctx.old }
 {
-    Ok(column.integer_stats(ctx)?.erased().min_is_negative())
+    Ok(column.integer_summary()?.erased().min_is_negative())
 }
 
 impl Scheme for BitPackingScheme {
@@ -96,12 +95,12 @@ impl Scheme for BitPackingScheme {
         &self,
         column: &mut ArrayAndStats,
         _site: &CompressorContext,
-        ctx: &mut ExecutionCtx,
+        _ctx: &mut ExecutionCtx,
     ) -> VortexResult<CompressionEstimate> {
         if !self.matches(column.array().dtype()) {
             return Ok(CompressionEstimate::Verdict(EstimateVerdict::Skip));
         }
-        if has_negative(column, ctx)? {
+        if has_negative(column)? {
             Ok(CompressionEstimate::Verdict(EstimateVerdict::Skip))
         } else {
             Ok(CompressionEstimate::Deferred(DeferredEstimate::Sample))

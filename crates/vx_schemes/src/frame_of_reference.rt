@@ -129,14 +129,14 @@ impl Scheme for FoRScheme {
         &self,
         column: &mut ArrayAndStats,
         site: &CompressorContext,
-        ctx: &mut ExecutionCtx,
+        _ctx: &mut ExecutionCtx,
     ) -> VortexResult<CompressionEstimate> {
         let dtype = column.array().dtype();
         if site.finished_cascading() || !dtype.is_integer() {
             return Ok(CompressionEstimate::Verdict(EstimateVerdict::Skip));
         }
         let bits = dtype.ptype().bit_width();
-        let stats = column.integer_stats(ctx)?;
+        let stats = column.integer_summary()?;
         Ok(CompressionEstimate::Verdict(verdict(stats, bits)))
     }
 

@@ -172,6 +172,10 @@ impl Scheme for IntDictScheme {
             return Ok(CompressionEstimate::Verdict(EstimateVerdict::Skip));
         }
         let bits = dtype.ptype().bit_width();
+        // Most columns without many equal values are told apart at once, before all their distinct ones are counted.
+        if column.is_mostly_distinct(ctx)? {
+            return Ok(CompressionEstimate::Verdict(EstimateVerdict::Skip));
+        }
         let stats = column.integer_stats(ctx)?;
         Ok(CompressionEstimate::Verdict(verdict_by(stats, bits)))
     }

@@ -148,12 +148,12 @@ impl Scheme for ZigZagScheme {
         &self,
         column: &mut ArrayAndStats,
         site: &CompressorContext,
-        ctx: &mut ExecutionCtx,
+        _ctx: &mut ExecutionCtx,
     ) -> VortexResult<CompressionEstimate> {
         if site.finished_cascading() || !self.matches(column.array().dtype()) {
             return Ok(CompressionEstimate::Verdict(EstimateVerdict::Skip));
         }
-        if has_negative(column, ctx)? {
+        if has_negative(column)? {
             Ok(CompressionEstimate::Deferred(DeferredEstimate::Sample))
         } else {
             Ok(CompressionEstimate::Verdict(EstimateVerdict::Skip))

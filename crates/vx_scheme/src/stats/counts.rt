@@ -1,7 +1,7 @@
 //! The statistics of a list of integers.
 
 ghost use Rattle.std.specs.Prelude.{◌≡◌, ◌<◌, ◌/◌, ◌^◌, ◌≤ℤ◌, suc, ℤ, List, length, map, true};
-ghost use Rattle.vx_base.specs.Answers.{OrMemory};
+ghost use Rattle.vx_base.specs.Answers.{Answers};
 ghost use Rattle.vx_base.specs.PlainValue.{PlainValue, int};
 ghost use Rattle.vx_model.specs.Refusals.{validity_length};
 ghost use Rattle.vx_model.specs.Rows.{valid_rows};
@@ -57,8 +57,8 @@ fn shown<T: Integer>(count: u32, tally: Option<Tally<T>>) -> (u32, TypedStats<T>
     }
 }
 
-// The counts and the extremes of the valid rows.
-fn extremes_summary<T: Integer>(items: &[T], valid: &Option<Mask>) -> (RowCounts, TypedStats<T>)
+/// The counts and the extremes of the valid rows.
+pub(crate) fn summary<T: Integer>(items: &[T], valid: &Option<Mask>) -> (RowCounts, TypedStats<T>)
     requires mask { validity_length valid.now (length items.now) ≡ true }
     requires few { length items.now < 2 ^ 32 }
     ensures counts { result.0 ≡ counts_of (valid_rows valid.now (map int (map T.whole items.now))) }
@@ -75,20 +75,19 @@ fn extremes_summary<T: Integer>(items: &[T], valid: &Option<Mask>) -> (RowCounts
     (counts, extremes)
 }
 
-/// The counts, the extremes and, where they are asked for, the distinct values of the valid rows.
-pub(crate) fn summary<T: Integer>(
+/// The extremes of the valid rows, and the distinct values where they are asked for.
+pub(crate) fn with_distinct<T: Integer>(
     alloc: Global,
     items: &[T],
     valid: &Option<Mask>,
     opts: GenerateStatsOptions,
-) -> VortexResult<(RowCounts, TypedStats<T>)>
+    extremes: &TypedStats<T>,
+) -> VortexResult<TypedStats<T>>
     requires mask { validity_length valid.now (length items.now) ≡ true }
     requires few { length items.now < 2 ^ 32 }
-    ensures counts { OrMemory result (λ r. r.0 ≡ counts_of (valid_rows valid.now (map int (map T.whole items.now)))) }
-    ensures typed { OrMemory result (λ r. r.1 ≡ typed_of opts T.kind (valid_rows valid.now (map int (map T.whole items.now)))) }
-    ensures ordered { OrMemory result (λ r. 0 < r.0.value_count → r.1.extremes.least ≤ℤ r.1.extremes.greatest) }
+    requires extremes { extremes.now ≡ extremes_alone (extremes_in T.kind (valid_rows valid.now (map int (map T.whole items.now)))) }
+    ensures { Answers result (typed_of opts T.kind (valid_rows valid.now (map int (map T.whole items.now)))) }
 {
-    let (counts, extremes) = extremes_summary(items, valid);
     let distinct = distinct_info(alloc, items, valid, opts, extremes.range())?;
-    Ok((counts, extremes.with_distinct(distinct)))
+    Ok(extremes.with_distinct(distinct))
 }

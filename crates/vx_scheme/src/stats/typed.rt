@@ -59,8 +59,8 @@ impl<T: Integer> TypedStats<T> {
     }
 
     /// The same extremes with these distinct values.
-    pub(crate) fn with_distinct(self, distinct: Option<DistinctInfo<T>>) -> Self
-        ensures { result ≡ record { extremes = self.extremes; distinct = distinct } }
+    pub(crate) fn with_distinct(&self, distinct: Option<DistinctInfo<T>>) -> Self
+        ensures { result ≡ record { extremes = self.now.extremes; distinct = distinct } }
     {
         TypedStats {
             min: self.min,

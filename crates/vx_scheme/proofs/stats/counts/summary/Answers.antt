@@ -1,15 +1,16 @@
-use Rattle.std.proofs.Common.{◌≡◌, ◌∙◌, map, ap}
+use Rattle.std.proofs.Common.{◌<◌, map, sym, subst}
+use Rattle.std.specs.Prelude.{◌≤ℤ◌}
+use Rattle.std.proofs.lemmas.List.{length-map}
 use Rattle.vx_base.specs.PlainValue.{int}
 use Rattle.vx_model.specs.Rows.{valid_rows}
-use Rattle.vx_scheme.specs.Stats.{PlainTyped, least_in, greatest_in}
-use Rattle.vx_scheme.proofs.StatsLemmas.{all-between}
+use Rattle.vx_scheme.specs.Stats.{PlainTyped}
+use Rattle.vx_scheme.proofs.StatsLemmas.{ordered}
 use Rattle.vx_scheme.proofs.stats.counts.summary.Goals as goal
 
-pub distinct_info-requires-clause-within : goal.distinct_info-requires-clause-within
-distinct_info-requires-clause-within g c =
-    let kind = g.T.Integer.kind in
-    let rows = valid_rows c.args.valid.now (map int (map g.T.Integer.whole c.args.items.now)) in
-    let extremes = c.extremes_summary-extremes.ensures.extremes in
-    let least : g.T.Integer.whole c.range.result.least ≡ least_in kind rows = c.range.ensures.least ∙ ap (λ (t : PlainTyped). t.extremes.least) extremes in
-    let greatest : g.T.Integer.whole c.range.result.greatest ≡ greatest_in kind rows = c.range.ensures.greatest ∙ ap (λ (t : PlainTyped). t.extremes.greatest) extremes in
-    rw (least, greatest) (all-between kind rows)
+pub returns-clause-ordered : goal.returns-clause-ordered
+returns-clause-ordered g c =
+    let zs = map g.T.Integer.whole c.args.items.now in
+    let rows = valid_rows c.args.valid.now (map int zs) in
+    let counted = (c.count_rows-null_count.ensures zs (length-map c.args.items.now g.T.Integer.whole)).1 in
+    let extremes = (c.shown-average_run_length.ensures rows c.tally_rows.ensures counted).1 in
+    λ some. subst (λ (e : PlainTyped). e.extremes.least ≤ℤ e.extremes.greatest) (sym extremes) (ordered g.T.Integer.kind rows (subst (λ n. 0 < n) counted some))
