@@ -4,13 +4,16 @@ mod bit_packed;
 mod dict;
 mod frame_of_reference;
 mod ints;
+mod leaves;
 mod packed_rows;
 mod patches;
+mod telling;
 mod zig_zag;
 
-use crate::{ArrayRef, Arrays, Ints, Node};
+use self::telling::{accepted, beside};
+use crate::{ArrayRef, Ints};
 use std::test::Fail;
-use vx_base::{ArrayId, Bytes, IntList, Integer, Mask, Nullability, PType, Scalar, VortexError};
+use vx_base::{Bytes, IntList, Integer, Mask, Nullability, PType};
 use vx_blocks::pack;
 
 fn bits(rt: &impl AllocGlobal, values: &[bool]) -> Result<Mask, Fail> {
@@ -45,8 +48,7 @@ fn flat(
     nullability: Nullability,
     wholes: &[i128],
 ) -> Result<ArrayRef, Fail> {
-    let made = ArrayRef::primitive(integers(rt, ptype, wholes)?, None, nullability);
-    Ok(made.ok().ok_or("refused")?)
+    accepted(ArrayRef::primitive(integers(rt, ptype, wholes)?, None, nullability))
 }
 
 // A flat tree that is null where a bit is false.
@@ -56,9 +58,8 @@ fn with_nulls(
     wholes: &[i128],
     valid: &[bool],
 ) -> Result<ArrayRef, Fail> {
-    let valid = Some(bits(rt, valid)?);
-    let made = ArrayRef::primitive(integers(rt, ptype, wholes)?, valid, Nullability::Nullable);
-    Ok(made.ok().ok_or("refused")?)
+    let (values, valid) = beside(integers(rt, ptype, wholes)?, bits(rt, valid))?;
+    accepted(ArrayRef::primitive(values, Some(valid), Nullability::Nullable))
 }
 
 // The bytes of the rows, each at a width in bits.
@@ -98,127 +99,4 @@ fn has_wholes(array: &ArrayRef, wholes: &[i128]) -> bool {
 
 fn shorts(rt: &impl AllocGlobal, values: &[i16]) -> Result<Ints, Fail> {
     Ok(Ints::I16(IntList::from_vec(Vec::from_slice(rt.alloc(), values)?)))
-}
-
-// Three rows, 300, null, -7, with 9 beneath the null.
-fn three(rt: &impl AllocGlobal) -> Result<ArrayRef, Fail> {
-    let valid = bits(rt, &[true, false, true])?;
-    let made = ArrayRef::primitive(
-        shorts(rt, &[300, 9, -7])?,
-        Some(valid),
-        Nullability::Nullable,
-    );
-    Ok(made.ok().ok_or("refused")?)
-}
-
-#[test]
-fn a_list_is_copied(rt: HostRuntime) -> Result<(), Fail> {
-    match shorts(&rt, &[300, -7])?.copy(rt.alloc())? {
-        Ints::I16(copy) => assert_eq!(rt; copy.as_slice(), [300, -7].as_slice()),
-        _ => return Err(Fail::from("another type")),
-    }
-    Ok(())
-}
-
-#[test]
-fn a_primitive_is_read_and_made_plain(rt: HostRuntime) -> Result<(), Fail> {
-    let array = three(&rt)?;
-    assert!(rt; array.len() == 3 && array.nbytes() == 7 && !array.is_plain());
-    let last = if array.len() == 3 {
-        array.integer_at(2)
-    } else {
-        None
-    };
-    assert_eq!(rt; last, Some(-7));
-    let plain = array.canonical(rt.alloc())?;
-    assert!(rt;
-        plain.is_plain() && plain.nbytes() == 7 && plain.encoding_id() == ArrayId::Primitive
-    );
-    match plain.node() {
-        Node::Primitive(Ints::I16(values), Some(valid), _) => {
-            assert_eq!(rt; values.as_slice(), [300, 0, -7].as_slice());
-            assert_eq!(rt; valid.as_slice(), [true, false, true].as_slice());
-        }
-        _ => return Err(Fail::from("no plain tree")),
-    }
-    Ok(())
-}
-
-#[test]
-fn a_primitive_is_refused_by_name(rt: HostRuntime) -> Result<(), Fail> {
-    for (values, valid, nullability, error) in [
-        (
-            &[1, 2][..],
-            &[true][..],
-            Nullability::Nullable,
-            VortexError::LengthMismatch,
-        ),
-        (
-            &[1, 2][..],
-            &[true, false][..],
-            Nullability::NonNullable,
-            VortexError::MismatchedTypes,
-        ),
-    ] {
-        let made = ArrayRef::primitive(shorts(&rt, values)?, Some(bits(&rt, valid)?), nullability);
-        let refused = made.err().ok_or("made")?;
-        assert_eq!(rt; refused.error, error);
-        assert_eq!(rt; refused.inputs.0.len(), 2);
-    }
-    Ok(())
-}
-
-#[test]
-fn a_masked_constant_is_decoded_and_copied(rt: HostRuntime) -> Result<(), Fail> {
-    let five = Scalar::primitive(5, PType::U8, Nullability::Nullable)?;
-    let constant = ArrayRef::constant(five, 3);
-    assert!(rt; constant.nbytes() == 2 && constant.num_children() == 0);
-    let valid = bits(&rt, &[true, true, false])?;
-    let masked = ArrayRef::masked(rt.alloc(), constant, valid)
-        .ok()
-        .ok_or("refused")?;
-    let copy = masked.copy(rt.alloc())?;
-    assert!(rt; copy.nbytes() == 3 && copy.num_children() == 1 && copy.child(1).is_none());
-    assert!(rt;
-        copy.child(0)
-            .is_some_and(|child| child.encoding_id() == ArrayId::Constant)
-    );
-    let plain = copy.canonical(rt.alloc())?;
-    match plain.node() {
-        Node::Primitive(Ints::U8(values), Some(_), Nullability::Nullable) => {
-            assert_eq!(rt; values.as_slice(), [5, 5, 0].as_slice());
-        }
-        _ => return Err(Fail::from("no plain tree")),
-    }
-    Ok(())
-}
-
-#[test]
-fn a_masked_child_has_no_nulls(rt: HostRuntime) -> Result<(), Fail> {
-    let valid = bits(&rt, &[true, true, true])?;
-    let refused = ArrayRef::masked(rt.alloc(), three(&rt)?, valid)
-        .err()
-        .ok_or("made")?;
-    assert_eq!(rt; refused.error, VortexError::MismatchedTypes);
-    assert_eq!(rt; refused.inputs.0.len(), 3);
-    Ok(())
-}
-
-#[test]
-fn lists_of_trees_keep_their_order(rt: HostRuntime) -> Result<(), Fail> {
-    let five = Scalar::primitive(5, PType::U8, Nullability::NonNullable)?;
-    let mut trees = Arrays::new_in(rt.alloc());
-    trees.push(three(&rt)?).ok().ok_or("memory")?;
-    trees
-        .push(ArrayRef::constant(five, 8))
-        .ok()
-        .ok_or("memory")?;
-    assert!(rt; trees.len() == 2 && trees.get(2).is_none());
-    assert!(rt; trees.get(1).is_some_and(|tree| tree.len() == 8));
-    let again = Arrays::from_vec(trees.into_vec());
-    match again.as_slice() {
-        [first, second] => assert!(rt; first.len() == 3 && second.len() == 8),
-        _ => return Err(Fail::from("not two trees")),
-    }
-    Ok(())
 }

@@ -1,11 +1,12 @@
 //! Packed columns: what is refused, in which order, and that what was handed in comes back.
 
+use super::telling::{accepted, beside, refusal};
 use super::{bits, flat, has_wholes};
 use crate::{ArrayRef, Patches};
 use std::test::Fail;
 use vx_base::Nullability::{self, NonNullable, Nullable};
 use vx_base::PType::{self, I8, I64, U8, U16, U64};
-use vx_base::{Bytes, DType, Mask, Refused, VortexError};
+use vx_base::{Bytes, DType, Mask, VortexError};
 
 /// What a node of three rows is made of. The bytes are so many zeros; the patches are told by their values' type and by
 /// how many rows their array has.
@@ -38,9 +39,8 @@ fn five_at_one(
     nullability: Nullability,
 ) -> Result<Patches, Fail> {
     let indices = flat(rt, U8, NonNullable, &[1])?;
-    let values = flat(rt, ptype, nullability, &[5])?;
-    let made = Patches::new(rows, 0, indices, values);
-    Ok(made.ok().ok_or("no patches")?)
+    let (indices, values) = beside(indices, flat(rt, ptype, nullability, &[5]))?;
+    accepted(Patches::new(rows, 0, indices, values))
 }
 
 // The patches of some parts.
@@ -84,11 +84,25 @@ fn same_patches(patches: &Option<Patches>, parts: &Parts) -> bool {
     }
 }
 
-// Why the node isn't made. What comes back has to be what was handed in.
-fn refusal(rt: &impl AllocGlobal, parts: &Parts) -> Result<Option<VortexError>, Fail> {
+type Inputs = (Bytes, Option<Mask>, Option<Patches>);
+
+// The bytes, the mask and the patches of some parts.
+fn inputs_of(rt: &impl AllocGlobal, parts: &Parts) -> Result<Inputs, Fail> {
     let bytes = Bytes::from_vec(vec![in rt.alloc(); 0u8; parts.bytes]?);
-    let valid = valid_of(rt, parts)?;
-    let patches = patches_of(rt, parts)?;
+    let (bytes, valid) = beside(bytes, valid_of(rt, parts))?;
+    let ((bytes, valid), patches) = beside((bytes, valid), patches_of(rt, parts))?;
+    Ok((bytes, valid, patches))
+}
+
+fn are_inputs(inputs: &Inputs, parts: &Parts) -> bool {
+    inputs.0.len() == parts.bytes as u64
+        && same_mask(&inputs.1, parts.valid)
+        && same_patches(&inputs.2, parts)
+}
+
+// Why the node isn't made. What comes back has to be what was handed in.
+fn refusal_of(rt: &impl AllocGlobal, parts: &Parts) -> Result<Option<VortexError>, Fail> {
+    let (bytes, valid, patches) = inputs_of(rt, parts)?;
     let made = ArrayRef::bit_packed(
         rt.alloc(),
         parts.ptype,
@@ -99,20 +113,7 @@ fn refusal(rt: &impl AllocGlobal, parts: &Parts) -> Result<Option<VortexError>, 
         patches,
         parts.nullability,
     );
-    match made {
-        Ok(_) => Ok(None),
-        Err(Refused { error, inputs }) => {
-            let (bytes, valid, patches) = inputs;
-            if bytes.len() == parts.bytes as u64
-                && same_mask(&valid, parts.valid)
-                && same_patches(&patches, parts)
-            {
-                Ok(Some(error))
-            } else {
-                Err(Fail::from("other inputs"))
-            }
-        }
-    }
+    refusal(made, |inputs| are_inputs(inputs, parts))
 }
 
 const TYPES: Option<VortexError> = Some(VortexError::MismatchedTypes);
@@ -134,11 +135,16 @@ fn widths_are_at_most_the_bits_of_the_type(rt: HostRuntime) -> Result<(), Fail> 
         (I64, 63, None),
         (I64, 64, WIDTH),
     ] {
-        let got = refusal(&rt, &zeros(ptype, width, 128 * width as usize))?;
+        let got = refusal_of(&rt, &zeros(ptype, width, 128 * width as usize))?;
         assert_eq!(rt; got, error, "width {width}");
     }
+    Ok(())
+}
+
+#[test]
+fn bytes_are_those_of_whole_blocks(rt: HostRuntime) -> Result<(), Fail> {
     for (width, bytes) in [(0, 1), (2, 0), (2, 255), (2, 257), (9, 1151)] {
-        let got = refusal(&rt, &zeros(U8, width, bytes))?;
+        let got = refusal_of(&rt, &zeros(U8, width, bytes))?;
         assert_eq!(rt; got, LENGTHS, "width {width} in {bytes} bytes");
     }
     Ok(())
@@ -161,7 +167,11 @@ fn masks_have_a_bit_a_row_and_no_false_in_vain(rt: HostRuntime) -> Result<(), Fa
             nullability,
             ..zeros(U8, width, bytes)
         };
-        assert_eq!(rt; refusal(&rt, &parts)?, error, "{bits:?} at width {width}");
+        assert_eq!(rt;
+            refusal_of(&rt, &parts)?,
+            error,
+            "{bits:?} at width {width}"
+        );
     }
     Ok(())
 }
@@ -184,7 +194,7 @@ fn patches_are_of_the_type_and_the_rows(rt: HostRuntime) -> Result<(), Fail> {
             patches,
             ..zeros(U8, width, bytes)
         };
-        assert_eq!(rt; refusal(&rt, &parts)?, error, "patches of {rows} rows");
+        assert_eq!(rt; refusal_of(&rt, &parts)?, error, "patches of {rows} rows");
     }
     Ok(())
 }

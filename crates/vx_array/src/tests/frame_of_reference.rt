@@ -1,11 +1,32 @@
 //! Integers less a reference: wrapping sums in each type, the nulls of the child, and what is refused.
 
+use super::telling::{accepted, beside, refusal, tree_and_plain, tree_copy_and_plain};
 use super::{bits, flat, has_rows, has_wholes, packed};
 use crate::ArrayRef;
 use std::test::Fail;
-use vx_base::Nullability::{NonNullable, Nullable};
+use vx_base::Nullability::{self, NonNullable, Nullable};
 use vx_base::PType::{self, I8, I16, I32, I64, U8, U16, U32, U64};
-use vx_base::{ArrayId, DType, Refused, Scalar, VortexError};
+use vx_base::{ArrayId, DType, Scalar, VortexError};
+
+fn scalar(whole: i128, ptype: PType, nullability: Nullability) -> Result<Scalar, Fail> {
+    Ok(Scalar::primitive(whole, ptype, nullability)?)
+}
+
+fn null(ptype: PType) -> Result<Scalar, Fail> {
+    accepted(Scalar::null(DType::primitive(ptype, Nullable)))
+}
+
+fn copied(rt: &impl AllocGlobal, scalar: &Scalar) -> Result<Scalar, Fail> {
+    Ok(scalar.copy(rt.alloc())?)
+}
+
+fn from_reference(
+    rt: &impl AllocGlobal,
+    encoded: ArrayRef,
+    reference: Scalar,
+) -> Result<ArrayRef, Fail> {
+    accepted(ArrayRef::frame_of_reference(rt.alloc(), encoded, reference))
+}
 
 // Differences from a reference, and the type of both.
 fn sums_from(
@@ -15,9 +36,25 @@ fn sums_from(
     differences: &[i128],
 ) -> Result<ArrayRef, Fail> {
     let encoded = flat(rt, ptype.to_unsigned(), NonNullable, differences)?;
-    let scalar = Scalar::primitive(reference, ptype, NonNullable)?;
-    let made = ArrayRef::frame_of_reference(rt.alloc(), encoded, scalar);
-    Ok(made.ok().ok_or("refused")?)
+    let (encoded, reference) = beside(encoded, scalar(reference, ptype, NonNullable))?;
+    from_reference(rt, encoded, reference)
+}
+
+// Whether differences from a reference have these three sums, and whether their plain tree has.
+fn are_sums(
+    rt: &impl AllocGlobal,
+    ptype: PType,
+    reference: i128,
+    differences: &[i128],
+    sums: &[i128],
+) -> Result<(bool, bool), Fail> {
+    let nbytes = 3 * u128::from(ptype.byte_width());
+    tree_and_plain(
+        rt,
+        sums_from(rt, ptype, reference, differences)?,
+        |tree| tree.nbytes() == nbytes && has_wholes(tree, sums),
+        |plain| plain.is_plain() && has_wholes(plain, sums),
+    )
 }
 
 #[test]
@@ -35,28 +72,29 @@ fn sums_wrap_in_the_type_of_the_reference(rt: HostRuntime) -> Result<(), Fail> {
         (I32, 1000, &[0, 5, 4294967295], &[1000, 1005, 999]),
         (I64, least, &[0, 1, top], &[least, least + 1, most]),
     ] {
-        let array = sums_from(&rt, ptype, reference, differences)?;
-        assert_eq!(rt; array.nbytes(), 3 * u128::from(ptype.byte_width()));
-        assert!(rt; has_wholes(&array, sums), "{reference}");
-        let plain = array.canonical(rt.alloc())?;
-        assert!(rt; plain.is_plain() && has_wholes(&plain, sums), "{reference}");
+        let answers = are_sums(&rt, ptype, reference, differences, sums)?;
+        assert_eq!(rt; answers, (true, true), "{reference}");
     }
     Ok(())
 }
 
-// 1, null, 3 at two bits, from 1000.
-fn packed_differences(rt: &impl AllocGlobal) -> Result<ArrayRef, Fail> {
+// 1, null, 3 at two bits.
+fn packed_three(rt: &impl AllocGlobal) -> Result<ArrayRef, Fail> {
     let packed = packed(rt, &[1u32, 2, 3], 2)?;
-    let valid = Some(bits(rt, &[true, false, true])?);
-    let encoded = ArrayRef::bit_packed(rt.alloc(), U32, 2, packed, 3, valid, None, Nullable);
-    let reference = Scalar::primitive(1000, I32, NonNullable)?;
-    let encoded = encoded.ok().ok_or("not packed")?;
-    let made = ArrayRef::frame_of_reference(rt.alloc(), encoded, reference);
-    Ok(made.ok().ok_or("refused")?)
+    let (packed, valid) = beside(packed, bits(rt, &[true, false, true]))?;
+    let valid = Some(valid);
+    accepted(ArrayRef::bit_packed(rt.alloc(), U32, 2, packed, 3, valid, None, Nullable))
+}
+
+// The same from 1000.
+fn packed_differences(rt: &impl AllocGlobal) -> Result<ArrayRef, Fail> {
+    let (encoded, reference) = beside(packed_three(rt)?, scalar(1000, I32, NonNullable))?;
+    from_reference(rt, encoded, reference)
 }
 
 fn is_packed_differences(array: &ArrayRef) -> bool {
     array.encoding_id() == ArrayId::FoR
+        && *array.dtype() == DType::primitive(I32, Nullable)
         && array.nbytes() == 257
         && array.num_children() == 1
         && array
@@ -65,41 +103,46 @@ fn is_packed_differences(array: &ArrayRef) -> bool {
         && has_rows(array, &[Some(1001), None, Some(1003)])
 }
 
+fn is_plain_of_differences(array: &ArrayRef) -> bool {
+    array.is_plain() && array.nbytes() == 13 && has_rows(array, &[Some(1001), None, Some(1003)])
+}
+
 #[test]
 fn nulls_of_packed_differences_stay(rt: HostRuntime) -> Result<(), Fail> {
     let array = packed_differences(&rt)?;
-    assert!(rt; *array.dtype() == DType::primitive(I32, Nullable));
-    assert!(rt; is_packed_differences(&array));
-    let copy = array.copy(rt.alloc())?;
-    assert!(rt; is_packed_differences(&copy));
-    let plain = array.canonical(rt.alloc())?;
-    assert!(rt; plain.is_plain() && plain.nbytes() == 13);
-    assert!(rt; has_rows(&plain, &[Some(1001), None, Some(1003)]));
+    let answers = tree_copy_and_plain(&rt, array, is_packed_differences, is_plain_of_differences)?;
+    assert_eq!(rt; answers, (true, true, true));
     Ok(())
 }
 
-// Why 7 and 9 of a type aren't differences from a reference. What comes back has to be the inputs.
-fn refusal(
+// Whether these are 7 and 9 of a type, and a reference.
+fn are_inputs(inputs: &(ArrayRef, Scalar), unsigned: PType, reference: &Scalar) -> bool {
+    *inputs.0.dtype() == DType::primitive(unsigned, NonNullable)
+        && has_wholes(&inputs.0, &[7, 9])
+        && inputs.1 == *reference
+}
+
+// Why 7 and 9 of a type aren't differences from a copy of a reference. What comes back has to be the inputs.
+fn refusal_from(
+    rt: &impl AllocGlobal,
+    unsigned: PType,
+    reference: &Scalar,
+) -> Result<Option<VortexError>, Fail> {
+    let encoded = flat(rt, unsigned, NonNullable, &[7, 9])?;
+    let (encoded, copy) = beside(encoded, copied(rt, reference))?;
+    let made = ArrayRef::frame_of_reference(rt.alloc(), encoded, copy);
+    refusal(made, |inputs| are_inputs(inputs, unsigned, reference))
+}
+
+// The same by the reference itself.
+fn refusal_of(
     rt: &impl AllocGlobal,
     unsigned: PType,
     reference: Scalar,
 ) -> Result<Option<VortexError>, Fail> {
-    let encoded = flat(rt, unsigned, NonNullable, &[7, 9])?;
-    let copy = reference.copy(rt.alloc())?;
-    match ArrayRef::frame_of_reference(rt.alloc(), encoded, reference) {
-        Ok(_) => Ok(None),
-        Err(Refused { error, inputs }) => {
-            let (encoded, reference) = inputs;
-            if *encoded.dtype() == DType::primitive(unsigned, NonNullable)
-                && has_wholes(&encoded, &[7, 9])
-                && reference == copy
-            {
-                Ok(Some(error))
-            } else {
-                Err(Fail::from("other inputs"))
-            }
-        }
-    }
+    let answer = refusal_from(rt, unsigned, &reference);
+    drop(reference);
+    answer
 }
 
 #[test]
@@ -113,13 +156,16 @@ fn references_are_refused_by_their_types(rt: HostRuntime) -> Result<(), Fail> {
         (I32, I32, types),
         (U8, I8, types),
     ] {
-        let five = Scalar::primitive(5, ptype, NonNullable)?;
-        assert_eq!(rt; refusal(&rt, unsigned, five)?, error);
+        assert_eq!(rt;
+            refusal_of(&rt, unsigned, scalar(5, ptype, NonNullable)?)?,
+            error
+        );
         // A nullable type is as good as long as the reference isn't null.
-        let five = Scalar::primitive(5, ptype, Nullable)?;
-        assert_eq!(rt; refusal(&rt, unsigned, five)?, error);
-        let null = Scalar::null(DType::primitive(ptype, Nullable))?;
-        assert_eq!(rt; refusal(&rt, unsigned, null)?, types);
+        assert_eq!(rt;
+            refusal_of(&rt, unsigned, scalar(5, ptype, Nullable)?)?,
+            error
+        );
+        assert_eq!(rt; refusal_of(&rt, unsigned, null(ptype)?)?, types);
     }
     Ok(())
 }

@@ -1,5 +1,6 @@
 //! Packed columns: their rows, sizes, plain trees and copies, of values that `pack` packed.
 
+use super::telling::{accepted, beside, told, tree_and_copy, tree_and_plain};
 use super::{bits, flat, has_rows, has_wholes, packed};
 use crate::{ArrayRef, Node, Patches};
 use std::test::Fail;
@@ -13,10 +14,9 @@ fn three_bytes(rt: &impl AllocGlobal) -> Result<Bytes, Fail> {
 }
 
 fn three(rt: &impl AllocGlobal) -> Result<ArrayRef, Fail> {
-    let packed = three_bytes(rt)?;
-    let valid = Some(bits(rt, &[true, true, true])?);
-    let made = ArrayRef::bit_packed(rt.alloc(), U8, 2, packed, 3, valid, None, NonNullable);
-    Ok(made.ok().ok_or("refused")?)
+    let (packed, valid) = beside(three_bytes(rt)?, bits(rt, &[true, true, true]))?;
+    let valid = Some(valid);
+    accepted(ArrayRef::bit_packed(rt.alloc(), U8, 2, packed, 3, valid, None, NonNullable))
 }
 
 fn is_three(array: &ArrayRef) -> bool {
@@ -26,40 +26,42 @@ fn is_three(array: &ArrayRef) -> bool {
         && has_wholes(array, &[1, 2, 3])
 }
 
+fn is_three_plain(array: &ArrayRef) -> bool {
+    array.is_plain() && array.nbytes() == 3 && has_wholes(array, &[1, 2, 3])
+}
+
 #[test]
 fn a_block_begins_with_the_first_row(rt: HostRuntime) -> Result<(), Fail> {
-    let packed = three_bytes(&rt)?;
-    assert_eq!(rt; packed.len(), 256);
-    assert_eq!(rt; packed.get(0).copied(), Some(0x39));
+    let is_packed = told(three_bytes(&rt)?, |packed| {
+        packed.len() == 256 && packed.get(0).copied() == Some(0x39)
+    });
+    assert!(rt; is_packed);
     Ok(())
 }
 
 #[test]
 fn three_rows_at_two_bits(rt: HostRuntime) -> Result<(), Fail> {
-    let array = three(&rt)?;
-    assert!(rt; is_three(&array));
-    let copy = array.copy(rt.alloc())?;
-    assert!(rt; is_three(&copy));
-    let plain = array.canonical(rt.alloc())?;
-    assert!(rt; plain.is_plain() && plain.nbytes() == 3 && has_wholes(&plain, &[1, 2, 3]));
+    let answers = tree_and_copy(&rt, three(&rt)?, is_three)?;
+    assert_eq!(rt; answers, (true, true));
+    let answers = tree_and_plain(&rt, three(&rt)?, is_three, is_three_plain)?;
+    assert_eq!(rt; answers, (true, true));
     Ok(())
 }
 
 // At rows 1 to 3 of five.
 fn three_patches(rt: &impl AllocGlobal) -> Result<Patches, Fail> {
     let indices = flat(rt, U8, NonNullable, &[11, 12, 13])?;
-    let values = flat(rt, I16, NonNullable, &[300, -7, 77])?;
-    let made = Patches::new(5, 10, indices, values);
-    Ok(made.ok().ok_or("no patches")?)
+    let (indices, values) = beside(indices, flat(rt, I16, NonNullable, &[300, -7, 77]))?;
+    accepted(Patches::new(5, 10, indices, values))
 }
 
 // 5 to 9 at four bits; from row 1 on 300, -7 and 77 in their place, and row 3 is null.
 fn patched(rt: &impl AllocGlobal) -> Result<ArrayRef, Fail> {
     let packed = packed(rt, &[5i16, 6, 7, 8, 9], 4)?;
-    let valid = Some(bits(rt, &[true, true, true, false, true])?);
-    let patches = Some(three_patches(rt)?);
-    let made = ArrayRef::bit_packed(rt.alloc(), I16, 4, packed, 5, valid, patches, Nullable);
-    Ok(made.ok().ok_or("refused")?)
+    let (packed, valid) = beside(packed, bits(rt, &[true, true, true, false, true]))?;
+    let ((packed, valid), patches) = beside((packed, valid), three_patches(rt))?;
+    let (valid, patches) = (Some(valid), Some(patches));
+    accepted(ArrayRef::bit_packed(rt.alloc(), I16, 4, packed, 5, valid, patches, Nullable))
 }
 
 fn are_three_patches(patches: &Patches) -> bool {
@@ -83,14 +85,6 @@ fn has_three_patches(array: &ArrayRef) -> bool {
     }
 }
 
-// The bytes, two trees of patches and a bit a row.
-fn is_patched(array: &ArrayRef) -> bool {
-    array.encoding_id() == ArrayId::BitPacked
-        && array.nbytes() == 512 + 3 + 6 + 1
-        && has_three_patches(array)
-        && has_patched_rows(array)
-}
-
 fn has_children_of_patches(array: &ArrayRef) -> bool {
     array.num_children() == 2
         && array
@@ -102,19 +96,29 @@ fn has_children_of_patches(array: &ArrayRef) -> bool {
         && array.child(2).is_none()
 }
 
+// The bytes, two trees of patches and a bit a row.
+fn is_patched(array: &ArrayRef) -> bool {
+    array.encoding_id() == ArrayId::BitPacked
+        && array.nbytes() == 512 + 3 + 6 + 1
+        && has_three_patches(array)
+        && has_children_of_patches(array)
+        && has_patched_rows(array)
+}
+
+fn is_patched_plain(array: &ArrayRef) -> bool {
+    array.is_plain() && array.nbytes() == 11 && has_patched_rows(array)
+}
+
 #[test]
 fn patches_stand_in_place_of_rows_that_are_not_null(rt: HostRuntime) -> Result<(), Fail> {
-    let array = patched(&rt)?;
-    assert!(rt; is_patched(&array));
-    assert!(rt; has_children_of_patches(&array));
-    let copy = array.copy(rt.alloc())?;
-    assert!(rt; is_patched(&copy));
+    let answers = tree_and_copy(&rt, patched(&rt)?, is_patched)?;
+    assert_eq!(rt; answers, (true, true));
     Ok(())
 }
 
 #[test]
 fn patched_rows_are_made_plain(rt: HostRuntime) -> Result<(), Fail> {
-    let plain = patched(&rt)?.canonical(rt.alloc())?;
-    assert!(rt; plain.is_plain() && plain.nbytes() == 11 && has_patched_rows(&plain));
+    let answers = tree_and_plain(&rt, patched(&rt)?, is_patched, is_patched_plain)?;
+    assert_eq!(rt; answers, (true, true));
     Ok(())
 }

@@ -2,6 +2,7 @@
 
 ghost use Rattle.std.specs.Prelude.{◌≡◌, ◌<◌};
 
+use super::telling::{accepted, beside, refusal_or, told};
 use super::{flat, has_wholes};
 use crate::{ArrayRef, Patches};
 use std::marker::Brand;
@@ -9,7 +10,7 @@ use std::sync::ledger::{Blank, Ledger};
 use std::test::Fail;
 use vx_base::Nullability::{self, NonNullable, Nullable};
 use vx_base::PType::{self, I8, I16, I64, U8, U64};
-use vx_base::{ArrayId, DType, Refused, Scalar, Steps, VortexError};
+use vx_base::{ArrayId, DType, Scalar, Steps, VortexError};
 
 // Whether patches are those of these indices and so many values.
 fn are_patches(patches: &Patches, range: (u64, u64), wholes: &[i128], values: u64) -> bool {
@@ -20,37 +21,38 @@ fn are_patches(patches: &Patches, range: (u64, u64), wholes: &[i128], values: u6
         && patches.values().len() == values
 }
 
+// So many nines.
+fn nines(count: u64) -> Result<ArrayRef, Fail> {
+    Ok(ArrayRef::constant(Scalar::primitive(9, I16, NonNullable)?, count))
+}
+
+// Whether these are such indices and so many nines.
+fn are_inputs(
+    inputs: &(ArrayRef, ArrayRef),
+    dtype: (PType, Nullability),
+    wholes: &[i128],
+    values: u64,
+) -> bool {
+    *inputs.0.dtype() == DType::primitive(dtype.0, dtype.1)
+        && has_wholes(&inputs.0, wholes)
+        && inputs.1.encoding_id() == ArrayId::Constant
+        && inputs.1.len() == values
+}
+
 // Why patches aren't made of these indices and so many values, each 9. What comes back has to be what was handed in.
-fn refusal(
+fn refusal_of(
     rt: &impl AllocGlobal,
     range: (u64, u64),
     dtype: (PType, Nullability),
     wholes: &[i128],
     values: u64,
 ) -> Result<Option<VortexError>, Fail> {
-    let indices = flat(rt, dtype.0, dtype.1, wholes)?;
-    let nines = ArrayRef::constant(Scalar::primitive(9, I16, NonNullable)?, values);
-    match Patches::new(range.0, range.1, indices, nines) {
-        Ok(patches) => {
-            if are_patches(&patches, range, wholes, values) {
-                Ok(None)
-            } else {
-                Err(Fail::from("other patches"))
-            }
-        }
-        Err(Refused { error, inputs }) => {
-            let (indices, nines) = inputs;
-            if *indices.dtype() == DType::primitive(dtype.0, dtype.1)
-                && has_wholes(&indices, wholes)
-                && nines.encoding_id() == ArrayId::Constant
-                && nines.len() == values
-            {
-                Ok(Some(error))
-            } else {
-                Err(Fail::from("other inputs"))
-            }
-        }
-    }
+    let (indices, nines) = beside(flat(rt, dtype.0, dtype.1, wholes)?, nines(values))?;
+    refusal_or(
+        Patches::new(range.0, range.1, indices, nines),
+        |patches| are_patches(patches, range, wholes, values),
+        |inputs| are_inputs(inputs, dtype, wholes, values),
+    )
 }
 
 const OUTSIDE: Option<VortexError> = Some(VortexError::IndicesNotAscending);
@@ -77,7 +79,7 @@ fn indices_rise_within_their_range(rt: HostRuntime) -> Result<(), Fail> {
         (8, u64::MAX, U64, &[top - 1], OUTSIDE),
     ] {
         let dtype = (ptype, NonNullable);
-        let got = refusal(&rt, (array_len, offset), dtype, wholes, wholes.len() as u64)?;
+        let got = refusal_of(&rt, (array_len, offset), dtype, wholes, wholes.len() as u64)?;
         assert_eq!(rt; got, error, "{array_len} rows from {offset}");
     }
     Ok(())
@@ -96,7 +98,7 @@ fn types_are_tested_first_and_indices_last(rt: HostRuntime) -> Result<(), Fail> 
         (NonNullable, &[3, 1], 2, OUTSIDE),
         (NonNullable, &[1, 3], 2, None),
     ] {
-        let got = refusal(&rt, (8, 0), (U8, nullability), wholes, values)?;
+        let got = refusal_of(&rt, (8, 0), (U8, nullability), wholes, values)?;
         assert_eq!(rt; got, error, "{values} values");
     }
     Ok(())
@@ -113,21 +115,28 @@ fn found<L: Ledger>(patches: &Patches, row: u64, blank: Blank) -> Option<u64>
     patches.search(row, &mut steps)
 }
 
+// Patches of eight rows from 2 on, at rows 1, 3 and 7.
+fn three_nines(rt: &impl AllocGlobal) -> Result<Patches, Fail> {
+    let (indices, nines) = beside(flat(rt, U8, NonNullable, &[3, 5, 9])?, nines(3))?;
+    accepted(Patches::new(8, 2, indices, nines))
+}
+
+// Whether a row's patch is the one at this place.
+fn is_found(patches: &Patches, row: u64, place: Option<u64>) -> bool {
+    row < patches.array_len() && found::<Brand>(patches, row, Blank::new(1)) == place
+}
+
+fn are_found(patches: &Patches) -> bool {
+    is_found(patches, 0, None)
+        && is_found(patches, 1, Some(0))
+        && is_found(patches, 2, None)
+        && is_found(patches, 3, Some(1))
+        && is_found(patches, 6, None)
+        && is_found(patches, 7, Some(2))
+}
+
 #[test]
 fn a_patch_is_found_by_its_row(rt: HostRuntime) -> Result<(), Fail> {
-    let indices = flat(&rt, U8, NonNullable, &[3, 5, 9])?;
-    let nines = ArrayRef::constant(Scalar::primitive(9, I16, NonNullable)?, 3);
-    let patches = Patches::new(8, 2, indices, nines).ok().ok_or("refused")?;
-    for (row, place) in [
-        (0, None),
-        (1, Some(0)),
-        (2, None),
-        (3, Some(1)),
-        (6, None),
-        (7, Some(2)),
-    ] {
-        assert!(rt; row < patches.array_len());
-        assert_eq!(rt; found::<Brand>(&patches, row, Blank::new(1)), place);
-    }
+    assert!(rt; told(three_nines(&rt)?, are_found));
     Ok(())
 }
