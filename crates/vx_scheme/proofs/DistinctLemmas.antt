@@ -1,5 +1,5 @@
 -- The distinct numbers of a list.
-use Rattle.std.proofs.Common.{◌≡◌, ℕ, suc, ◌+◌, ◌<◌, ◌≤◌, ℤ, pos, negsuc, Bool, true, false, cond, List, [], ◌∷◌, ◌++◌, length, map, drop, get_or, Ordering, refl, sym, ap, subst, inl, inr, ◌⊎◌, append_assoc, ◌∙◌, arith}
+use Rattle.std.proofs.Common.{◌≡◌, ℕ, suc, ◌+◌, ◌<◌, ◌≤◌, ℤ, pos, Bool, true, false, cond, List, [], ◌∷◌, ◌++◌, length, map, drop, get_or, Ordering, refl, sym, ap, subst, inl, inr, ◌⊎◌, append_assoc, ◌∙◌, arith}
 use Rattle.std.specs.Prelude.{int_lt, ◌==◌, ⊤, nat_lt, fold, max}
 use Rattle.std.specs.List.{find}
 use Rattle.std.specs.Option.{unwrap_or}

@@ -1,6 +1,7 @@
 pub mod DenseLemmas
 pub mod DistinctLemmas
 pub mod NullLemmas
+pub mod PickLemmas
 pub mod RatioLemmas
 pub mod SlotLemmas
 pub mod StandardFacts

@@ -1,20 +1,18 @@
 -- Slots and the integers that take them.
-use Rattle.std.proofs.Common.{◌≡◌, ℕ, suc, ◌+◌, ◌<◌, ◌≤◌, ℤ, Bool, true, false, cond, List, [], ◌∷◌, length, map, drop, get_or, set, refl, sym, ap, subst, inl, inr, ◌∙◌, arith}
+use Rattle.std.proofs.Common.{◌≡◌, ℕ, suc, ◌+◌, ◌<◌, ◌≤◌, ℤ, Bool, true, false, cond, List, [], ◌∷◌, length, get_or, set, refl, sym, ap, subst, inl, inr, ◌∙◌, arith}
 use mir.Val.{bool_byte}
 use Rattle.std.specs.Prelude.{not, ◌==◌}
 use Rattle.std.specs.List.{AllByRecursion}
 use Rattle.std.specs.Ordering.{int_eq}
 use Rattle.std.proofs.lemmas.Bool.{cases_eq}
-use Rattle.std.proofs.lemmas.Bool.Decides.{nat_tests}
-use Rattle.std.proofs.lemmas.Int.{ints}
-use Rattle.std.proofs.lemmas.List.{get_or-set_same, get_or-set_other, get_or_past, drop_all, drop_more}
+use Rattle.std.proofs.lemmas.List.{get_or-set_same, get_or-set_other, get_or_past}
 use Rattle.vx_base.specs.declared.ptype.PType.{PType}
 use Rattle.vx_base.specs.Integers.{bits_in}
 use Rattle.vx_scheme.specs.Distinct.{times, with_number, distinct}
 use Rattle.vx_scheme.specs.Slots.{slot_of, HasSlot, TakenBy}
 use Rattle.vx_scheme.specs.declared.stats.slots.Slots.{Slots}
 use Rattle.vx_scheme.proofs.DistinctLemmas.{by-order, times-next, distinct-times, distinct-ascends, same-ascending, eq-same}
-use Rattle.vx_scheme.proofs.TallyLemmas.{same-eq, left, left-next}
+use Rattle.vx_scheme.proofs.TallyLemmas.{same-eq, left}
 
 -- ---- one more number among ascending ones
 

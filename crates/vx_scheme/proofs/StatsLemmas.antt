@@ -105,7 +105,7 @@ module _ {T : Type 0} (whole : T → ℤ) where
 
 -- ---- from a first number to all
 
-greatest-above : (p : PType) (z : ℤ) → lies_in p z ≡ true → int_min (greatest p) z ≡ z
+pub greatest-above : (p : PType) (z : ℤ) → lies_in p z ≡ true → int_min (greatest p) z ≡ z
 greatest-above p (pos n) e = grind (arith, nat_tests, ints)
 greatest-above p (negsuc n) e = refl
 

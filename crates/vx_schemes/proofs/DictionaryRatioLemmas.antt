@@ -1,19 +1,16 @@
 -- What a dictionary's estimate rests on: the statistics of the column, and that runs aren't empty.
-use Rattle.std.proofs.Common.{◌≡◌, ◌<◌, ◌≤◌, ◌+◌, ◌*◌, ◌/◌, ◌∙◌, ℕ, suc, ℤ, Bool, true, false, cond, List, [], ◌∷◌, length, map, Some, None, refl, sym, ap, subst, arith}
-use Rattle.std.specs.Prelude.{◌==◌, ◌||◌, nat_lt, IfSome}
+use Rattle.std.proofs.Common.{◌≡◌, ◌<◌, ◌≤◌, ◌+◌, ◌*◌, ◌/◌, ◌∙◌, ℕ, suc, ℤ, Bool, true, false, cond, List, [], ◌∷◌, length, Some, refl, sym, ap, subst, arith}
+use Rattle.std.specs.Prelude.{◌==◌, ◌||◌, nat_lt}
 use Rattle.std.specs.Ordering.{int_eq}
 use Rattle.std.proofs.lemmas.Bool.{cond-false, ne_eqb, lt-ltb, le-ltb}
-use Rattle.std.proofs.lemmas.List.{length-map}
 use Rattle.std.proofs.lemmas.Nat.{le-div}
 use Rattle.vx_base.specs.declared.ptype.PType.{PType}
 use Rattle.vx_base.specs.declared.fraction.Fraction.{Fraction}
 use Rattle.vx_base.specs.Digits.{digits}
 use Rattle.vx_base.specs.Fractions.{numerator, divisor}
 use Rattle.vx_base.specs.PlainValue.{PlainValue}
-use Rattle.vx_scheme.specs.Distinct.{times}
 use Rattle.vx_scheme.specs.Scores.{ratio_of}
-use Rattle.vx_scheme.specs.Stats.{PlainStats, stats_of, valid_wholes, value_count, runs_after, run_count, average_run_length, distinct_values, distinct_counts, distinct_count, distinct_info}
-use Rattle.vx_scheme.specs.declared.estimate.EstimateVerdict.{EstimateVerdict}
+use Rattle.vx_scheme.specs.Stats.{PlainStats, stats_of, valid_wholes, runs_after, run_count, distinct_counts, distinct_info}
 use Rattle.vx_scheme.specs.declared.estimate.EstimateVerdict.TheVariants.{Skip, Ratio}
 use Rattle.vx_scheme.specs.declared.options.GenerateStatsOptions.{GenerateStatsOptions}
 use Rattle.vx_scheme.proofs.RatioLemmas.{Ratio-parts}

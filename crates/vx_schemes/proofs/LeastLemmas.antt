@@ -1,34 +1,34 @@
--- The least of numbers, one more at a time.
-use Rattle.std.proofs.Common.{◌≡◌, ◌∙◌, ℤ, Bool, true, false, List, [], ◌∷◌, length, map, get_or, cond, Some, refl, sym, ap, arith}
-use Rattle.std.specs.Prelude.{◌<◌, fold}
+-- The least value of a column, as its statistics have it.
+use Rattle.std.proofs.Common.{◌≡◌, ◌<◌, ℤ, true, false, List, [], ◌∷◌, length, Some, ap, arith}
+use Rattle.std.specs.Prelude.{fold}
 use Rattle.std.specs.Int.{int_min}
 use Rattle.std.specs.List.{list_all, reduce}
-use Rattle.std.proofs.lemmas.Int.{ints}
+use Rattle.std.proofs.lemmas.Bool.{and_parts}
+use Rattle.vx_base.specs.declared.ptype.PType.{PType}
+use Rattle.vx_base.specs.Integers.{lies_in, greatest}
+use Rattle.vx_base.specs.PlainScalar.{fits}
+use Rattle.vx_base.specs.PlainType.{PlainType, integer_of}
+use Rattle.vx_base.specs.PlainType as types
 use Rattle.vx_base.specs.PlainValue.{PlainValue, null, int, is_null}
-use Rattle.vx_scheme.specs.Stats.{value_count}
-use Rattle.vx_scheme.proofs.StatsLemmas.{BeginsWith, valid_wholes-map-int}
+use Rattle.vx_model.specs.Column.{Column, IsColumn}
+use Rattle.vx_scheme.specs.Stats.{valid_wholes, value_count, least_in}
+use Rattle.vx_scheme.proofs.StatsLemmas.{greatest-above}
 use Rattle.vx_schemes.specs.Differences.{least_value}
+use Rattle.vx_schemes.specs.Laws.Least.{wholes-held}
 
--- ---- one more
+wholes-of_type : (c : Column) → IsColumn c → list_all (lies_in (integer_of c.dtype)) (valid_wholes c.values) ≡ true
+wholes-of_type c h = by_type c.dtype h
+  where
+    by_type : (s : PlainType) → list_all (fits s) c.values ≡ true → list_all (lies_in (integer_of s)) (valid_wholes c.values) ≡ true
+    by_type (types.primitive p n) k = wholes-held p n c.values k
 
-once : (z : ℤ) → int_min z z ≡ z
-once z = grind (arith, ints)
+-- statistics begin with the type's greatest, and the least value with the first
+from_first : (p : PType) (zs : List ℤ) → list_all (lies_in p) zs ≡ true → 0 < length zs → Some (fold int_min (greatest p) zs) ≡ reduce int_min zs
+from_first p [] held some = absurd (omega arith)
+from_first p (z ∷ zs) held some = ap (λ low. Some (fold int_min low zs)) (greatest-above p z (and_parts (lies_in p z) (list_all (lies_in p) zs) held).0)
 
--- a number where its bit is true, else the least again
-pub least-step : (bit : Bool) (least x item low : ℤ) (here next : List ℤ) → item ≡ cond bit x least → low ≡ int_min least item → here ≡ cond bit (x ∷ next) next → fold int_min low next ≡ fold int_min least here
-least-step true least x item low here next is lower now = rw (now, lower, is) refl
-least-step false least x item low here next is lower now = rw (now, lower, is) (ap (λ m. fold int_min m next) (once least))
-
--- from the first number on, which may be seen twice
-pub least-begins : (z : ℤ) (zs : List ℤ) → BeginsWith z zs → Some (fold int_min z zs) ≡ reduce int_min zs
-least-begins z zs begin = rw (begin.is, once z) refl
-
-begins-all : {T : Type 0} (whole : T → ℤ) (items : List T) (x : T) → 0 < length items → x ≡ get_or items 0 x → BeginsWith (whole x) (map whole items)
-begins-all whole [] x h e = absurd (omega arith)
-begins-all whole (y ∷ items) x h e = record { rest = map whole items; is = ap (λ v. whole v ∷ map whole items) (sym e) }
-
-pub least-all : {T : Type 0} (whole : T → ℤ) (items : List T) (x : T) → 0 < length items → x ≡ get_or items 0 x → Some (fold int_min (whole x) (map whole items)) ≡ least_value (map int (map whole items))
-least-all whole items x h e = least-begins (whole x) (map whole items) (begins-all whole items x h e) ∙ sym (ap (reduce int_min) (valid_wholes-map-int (map whole items)))
+pub least-told : (c : Column) → IsColumn c → 0 < value_count c.values → Some (least_in (integer_of c.dtype) c.values) ≡ least_value c.values
+least-told c h some = from_first (integer_of c.dtype) (valid_wholes c.values) (wholes-of_type c h) some
 
 -- ---- where not all rows are null there is a value
 

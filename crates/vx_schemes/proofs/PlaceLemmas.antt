@@ -1,5 +1,5 @@
 -- Places of numbers among ascending ones.
-use Rattle.std.proofs.Common.{◌≡◌, ℕ, zero, suc, ◌+◌, ◌<◌, ◌≤◌, ℤ, pos, Bool, true, false, not, cond, inl, inr, List, [], ◌∷◌, length, map, get_or, Ordering, Result, refl, sym, ap, subst, ◌∙◌, arith}
+use Rattle.std.proofs.Common.{◌≡◌, ℕ, zero, suc, ◌+◌, ◌<◌, ℤ, true, false, not, cond, inl, inr, List, [], ◌∷◌, length, map, get_or, Ordering, refl, sym, ap, subst, ◌∙◌, arith}
 use Rattle.std.specs.Ordering.{int_eq, int_cmp, is_lt, ordering_index}
 use Rattle.std.specs.declared.cmp.Ordering.TheVariants.{Less, Equal, Greater}
 use Rattle.std.specs.Cmp.{IsTotalOrder}

@@ -1,5 +1,5 @@
 -- Zigzags: their words, and their plain tree.
-use Rattle.std.proofs.Common.{◌≡◌, ◌%◌, ◌^◌, ◌∙◌, ◌-◌, ℤ, pos, negsuc, true, List, [], ◌∷◌, length, map, None, refl, sym, ap, subst, arith}
+use Rattle.std.proofs.Common.{◌≡◌, ◌%◌, ◌^◌, ◌∙◌, ℤ, pos, negsuc, true, List, [], ◌∷◌, length, map, None, refl, sym, ap, subst, arith}
 use Rattle.std.specs.Prelude.{not}
 use Rattle.std.specs.List.{list_all, list_any}
 use Rattle.std.proofs.lemmas.Bool.{lt-ltb, ltb-true}

@@ -17,24 +17,25 @@ ghost use Rattle.vx_model.specs.WellFormed.{differences_type};
 ghost use Rattle.vx_schemes.specs.Differences.{least_value, differences, packed_or_plain, for_made};
 
 use crate::bit_packing::bit_packing_tree;
-use crate::least::least_of_ints;
 use std::alloc::Global;
 use vx_array::{ArrayRef, Node};
 use vx_base::{ExecutionCtx, Mask, Nullability, PType, Scalar, VortexResult};
 
 /// A plain column of integers as differences from its least value, bit packed, or plain where bit packing makes nothing
-/// of them. None where every row is null.
+/// of them. None where there is no least value, since every row is null.
 pub(crate) fn frame_of_reference_tree(
     array: &ArrayRef,
+    least: Option<i128>,
     ctx: &mut ExecutionCtx,
 ) -> VortexResult<Option<ArrayRef>>
     requires plain { IsPlain array.now }
+    requires least { least ≡ least_value (rows array.now) }
     requires few { length (rows array.now) ≤ 2 ^ 32 }
     ensures answer { Answers result (for_made (column_of array.now)) }
     ensures ctx { ctx.new ≡ ctx.old }
 {
     array.known();
-    let Some(reference) = least_of_plain(array) else {
+    let Some(reference) = least else {
         return Ok(None);
     };
     let differences = differences(ctx.alloc(), array, reference)?;
@@ -96,17 +97,5 @@ pub(crate) fn copied(alloc: Global, valid: &Option<Mask>) -> VortexResult<Option
     match valid {
         Some(mask) => Ok(Some(mask.copy(alloc)?)),
         None => Ok(None),
-    }
-}
-
-// The least value of a plain tree of integers.
-fn least_of_plain(array: &ArrayRef) -> Option<i128>
-    requires { IsPlain array.now }
-    ensures { result ≡ least_value (rows array.now) }
-{
-    array.known();
-    match array.node() {
-        Node::Primitive(values, valid, _) => least_of_ints(values, valid),
-        _ => unreachable!(),
     }
 }

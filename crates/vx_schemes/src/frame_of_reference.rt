@@ -1,7 +1,14 @@
 //! The scheme of frames of reference.
 
-ghost use Rattle.std.specs.Prelude.{◌≡◌, ◌<◌, ◌≤ℤ◌, ◌-ℤ◌, pos};
+ghost use Rattle.std.specs.Prelude.{◌≡◌, ◌<◌, ◌≤◌, ◌≤ℤ◌, ◌-ℤ◌, pos, length, IsTrue};
+ghost use Rattle.vx_base.specs.Answers.{Answers};
+ghost use Rattle.vx_base.specs.PlainType.{is_integer};
+ghost use Rattle.vx_model.specs.Rows.{rows};
+ghost use Rattle.vx_model.specs.TreeType.{tree_type};
+ghost use Rattle.vx_scheme.specs.Asked.{most_rows};
+ghost use Rattle.vx_scheme.specs.Bundle.{SameArray};
 ghost use Rattle.vx_scheme.specs.Erased.{extremes_of};
+ghost use Rattle.vx_schemes.specs.Differences.{least_value};
 ghost use Rattle.vx_schemes.specs.Finishing.{FinishesProduced};
 ghost use Rattle.vx_schemes.specs.FrameOfReference.{for_meaning, is_as_wide, gains_nothing, for_verdict};
 
@@ -79,6 +86,21 @@ fn verdict(stats: &IntegerStats, bits: u32) -> EstimateVerdict
         return EstimateVerdict::Skip;
     }
     EstimateVerdict::Ratio(Fraction::new(u64::from(bits), u64::from(digits(span))))
+}
+
+// The least value of the column. None where every row is null.
+fn least_of(column: &mut ArrayAndStats) -> VortexResult<Option<i128>>
+    requires integer { IsTrue (is_integer (tree_type column.old.array)) }
+    requires few { length (rows column.old.array) ≤ most_rows }
+    ensures answer { Answers result (least_value (rows column.old.array)) }
+    ensures column { SameArray column.old column.new }
+{
+    column.array().known();
+    let stats = column.integer_summary()?;
+    if stats.value_count() == 0 {
+        return Ok(None);
+    }
+    Ok(Some(stats.erased().least()))
 }
 
 impl Scheme for FoRScheme {
@@ -159,7 +181,12 @@ impl Scheme for FoRScheme {
         steps: &mut Steps<L>,
     ) -> VortexResult<Split> {
         steps.tick();
-        Ok(finished_or_kept(frame_of_reference_tree(column.array(), ctx)?))
+        if !self.matches(column.array().dtype()) {
+            return Ok(Split::Kept);
+        }
+        let least = least_of(column)?;
+        let tree = frame_of_reference_tree(column.array(), least, ctx)?;
+        Ok(finished_or_kept(tree))
     }
 
     // It has no parts, so the column stays plain.

@@ -12,7 +12,6 @@ mod exclusions;
 mod finishing;
 mod frame_of_reference;
 mod int_dict_scheme;
-mod least;
 mod pairs;
 mod patches;
 mod recent_codes;

@@ -40,8 +40,8 @@ macro_rules! with_typed {
 impl ErasedStats {
     ghost use Rattle.vx_scheme.specs.Erased.{kind_of, extremes_of, distinct_of, log2_of};
 
-    // The least integer.
-    fn least(&self) -> i128
+    /// The least integer; without a valid one the type's greatest.
+    pub fn least(&self) -> i128
         ensures { result ≡ (extremes_of self.now).least }
     {
         with_typed!(self, typed => typed.least())

@@ -42,12 +42,16 @@ fn change<T: Integer>(last: T, item: T) -> u32
     if last == item { 0 } else { 1 }
 }
 
-/// The item where a bit is true, else the other one.
+/// The item where a bit is true, else the other one. A mask picks it: a choice would become a branch in a loop that
+/// carries the other one, and of nulls here and there the processor foresees none.
 #[inline(always)]
 pub(crate) fn item_or<T: Integer>(bit: bool, item: T, other: T) -> T
     ensures { T.whole result ≡ (if bit then T.whole item else T.whole other) }
 {
-    if bit { item } else { other }
+    let (_item, _other) = (item.to_whole(), other.to_whole());
+    let mask = 0u64.wrapping_sub(u64::from(bit));
+    let bits = other.to_bits();
+    T::from_low_bits(bits ^ ((bits ^ item.to_bits()) & mask))
 }
 
 /// Sees each integer, after a first one.

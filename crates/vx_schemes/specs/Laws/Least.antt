@@ -26,7 +26,7 @@ reduce-held p (x ∷ zs) z h e =
     let same : fold int_min x zs ≡ z = cc in
     subst (λ y. lies_in p y ≡ true) same (fold-held p x zs b.0 b.1)
 
-wholes-held : (p : PType) (n : Nullability) (vs : List PlainValue) → list_all (fits (types.primitive p n)) vs ≡ true → list_all (lies_in p) (valid_wholes vs) ≡ true
+pub wholes-held : (p : PType) (n : Nullability) (vs : List PlainValue) → list_all (fits (types.primitive p n)) vs ≡ true → list_all (lies_in p) (valid_wholes vs) ≡ true
 wholes-held p n [] h = refl
 wholes-held p n (null ∷ vs) h = wholes-held p n vs (and_parts (types.allows_null n) (list_all (fits (types.primitive p n)) vs) h).1
 wholes-held p n (int z ∷ vs) h = let b = and_parts (lies_in p z) (list_all (fits (types.primitive p n)) vs) h in and_from _ _ b.0 (wholes-held p n vs b.1)

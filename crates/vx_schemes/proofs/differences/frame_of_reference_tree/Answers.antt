@@ -21,7 +21,7 @@ use Rattle.vx_schemes.proofs.differences.frame_of_reference_tree.Goals as goal
 pub differences-requires-clause-held : goal.differences-requires-clause-held
 differences-requires-clause-held c =
     let fits : FitsSigned w128 c.in-Some.reference = search rules in
-    rw (to_z-of_z w128 c.in-Some.reference fits) (least-in c.args.array.now c.in-Some.reference c.known.ensures (sym c.in-Some.ensures))
+    rw (to_z-of_z w128 c.in-Some.reference fits) (least-in c.args.array.now c.in-Some.reference c.known.ensures (sym c.requires.least ∙ c.in-Some.is))
 
 pub packed_or_plain-requires-clause-plain : goal.packed_or_plain-requires-clause-plain
 packed_or_plain-requires-clause-plain c = subst IsPlain (sym c.in_ok-differences.ensures) (plain_is_plain (differences (column_of c.args.array.now) (to_z w128 (of_z w128 c.in-Some.reference))))
@@ -35,7 +35,7 @@ framed-requires-clause-held c =
     let t = c.args.array.now in
     let fits : FitsSigned w128 c.in-Some.reference = search rules in
     let ptype : c.ptype.result ≡ integer_of (tree_type t) = c.ptype.ensures ∙ ap integer_of c.dtype.ensures in
-    rw (to_z-of_z w128 c.in-Some.reference fits, ptype) (least-in t c.in-Some.reference c.known.ensures (sym c.in-Some.ensures))
+    rw (to_z-of_z w128 c.in-Some.reference fits, ptype) (least-in t c.in-Some.reference c.known.ensures (sym c.requires.least ∙ c.in-Some.is))
 
 pub framed-requires-clause-of_type : goal.framed-requires-clause-of_type
 framed-requires-clause-of_type c =
@@ -53,4 +53,4 @@ returns-clause-answer c =
     let ptype : c.ptype.result ≡ integer_of (tree_type t) = c.ptype.ensures ∙ ap integer_of c.dtype.ensures in
     let encoded : c.in_ok-encoded.encoded ≡ packed_or_plain (differences (column_of t) z) = encoded-is (column_of t) z _ _ c.in_ok-differences.ensures c.in_ok-encoded.ensures.answer in
     ap Some (c.in_ok-framed.ensures ∙ (λ i. frame_of_reference (encoded i) (scalar (types.primitive (ptype i) NonNullable) (int z))))
-    ∙ ap (λ x. Some (framed (column_of t) x)) (to_z-of_z w128 c.in-Some.reference fits) ∙ ap (option_map (framed (column_of t))) c.in-Some.ensures
+    ∙ ap (λ x. Some (framed (column_of t) x)) (to_z-of_z w128 c.in-Some.reference fits) ∙ ap (option_map (framed (column_of t))) (sym c.in-Some.is ∙ c.requires.least)

@@ -1,4 +1,4 @@
-use Rattle.std.proofs.Common.{map, sym, ap, ◌∙◌}
+use Rattle.std.proofs.Common.{map, ap}
 use Rattle.vx_scheme.proofs.StatsLemmas.{valid_wholes-map-int}
 use Rattle.vx_scheme.proofs.stats.counting.valid_items.Goals as goal
 

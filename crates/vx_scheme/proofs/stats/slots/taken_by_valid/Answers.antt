@@ -1,4 +1,4 @@
-use Rattle.std.proofs.Common.{map, drop, ap, subst, arith, ◌∷◌, ◌∙◌, ◌+◌, sym, cond, false, get_or}
+use Rattle.std.proofs.Common.{map, drop, ap, subst, arith, ◌∷◌, ◌∙◌, ◌+◌, sym, cond}
 use Rattle.std.proofs.lemmas.List.{drop_all}
 use Rattle.vx_base.specs.PlainValue.{int}
 use Rattle.vx_model.specs.Rows.{masked_rows}

@@ -8,4 +8,4 @@ use Rattle.vx_schemes.proofs.frame_of_reference.FoRSchemeScheme.split.Goals as g
 pub returns-clause-answer : goal.returns-clause-answer
 returns-clause-answer g c = λ taken.
     c.finished_or_kept.ensures
-    ∙ ap (λ made. split_of (finished_or_kept made)) (c.in_ok-frame_of_reference_tree.ensures.answer ∙ ap (λ t. for_made (column_of t)) c.array.ensures.array)
+    ∙ ap (λ made. split_of (finished_or_kept made)) (c.in_ok-tree.ensures.answer ∙ ap (λ t. for_made (column_of t)) (c.array-2.ensures.array ∙ c.in_ok-least.ensures.column.array))
