@@ -1,7 +1,10 @@
 pub mod BytesLemmas
+pub mod CellLemmas
 pub mod GatherLemmas
 pub mod IdSetLemmas
+pub mod IntegerLemmas
 pub mod MakesLemmas
+pub mod NullLemmas
 pub mod PackedLemmas
 pub mod WrapLemmas
 pub mod WrapSumLemmas

@@ -1,10 +1,10 @@
 -- Zigzag and back, and where the numbers lie.
-use Rattle.std.proofs.Common.{◌≡◌, ◌<◌, ◌+◌, ◌-◌, ◌*◌, ◌/◌, ◌%◌, ◌^◌, ◌∙◌, ℕ, ℤ, pos, negsuc, true, false, refl, ap, arith}
+use Rattle.std.proofs.Common.{◌≡◌, ◌<◌, ◌+◌, ◌-◌, ◌*◌, ◌/◌, ◌%◌, ◌^◌, ◌∙◌, ℕ, ℤ, pos, negsuc, true, false, refl, sym, ap, subst, arith}
 use Rattle.std.specs.Prelude.{◌==◌, not, unsigned_abs}
 use Rattle.std.proofs.lemmas.Bool.{cond_both, cond-true, cond-false, and_parts, eq-eqb, ne_eqb, lt-ltb, ltb-true}
 use Rattle.vx_base.specs.declared.ptype.PType.{PType}
 use Rattle.vx_base.specs.declared.ptype.PType.TheVariants.{U8, U16, U32, U64, I8, I16, I32, I64}
-use Rattle.vx_base.specs.Integers.{bits_of, natural_bits, is_signed, lies_in, bits_in, signed_of}
+use Rattle.vx_base.specs.Integers.{bits_of, natural_bits, is_signed, lies_in, bits_in, signed_of, unsigned_of}
 use Rattle.vx_base.specs.Wrapping.{low_bits, from_bits}
 use Rattle.vx_base.proofs.WrapLemmas.{wrap-same}
 use Rattle.vx_base.specs.ZigZag.{zigzag, unzigzag}
@@ -46,6 +46,21 @@ unzigzag-held p n h = cond_both (n % 2 == 0) (pos (n / 2)) (negsuc (n / 2)) (λ 
     negative I32 h = lt-ltb _ _ (omega arith)
     negative I64 h = lt-ltb _ _ (omega arith)
 
+-- the zigzag of a number of a signed type is one of the unsigned type of its width
+pub zigzag-held : (p : PType) (z : ℤ) → is_signed p ≡ true → lies_in p z ≡ true → lies_in (unsigned_of p) (pos (zigzag z)) ≡ true
+zigzag-held I8 (pos n) s h = lt-ltb _ _ (omega (arith, ltb-true _ _ h))
+zigzag-held I16 (pos n) s h = lt-ltb _ _ (omega (arith, ltb-true _ _ h))
+zigzag-held I32 (pos n) s h = lt-ltb _ _ (omega (arith, ltb-true _ _ h))
+zigzag-held I64 (pos n) s h = lt-ltb _ _ (omega (arith, ltb-true _ _ h))
+zigzag-held I8 (negsuc n) s h = lt-ltb _ _ (omega (arith, ltb-true _ _ h))
+zigzag-held I16 (negsuc n) s h = lt-ltb _ _ (omega (arith, ltb-true _ _ h))
+zigzag-held I32 (negsuc n) s h = lt-ltb _ _ (omega (arith, ltb-true _ _ h))
+zigzag-held I64 (negsuc n) s h = lt-ltb _ _ (omega (arith, ltb-true _ _ h))
+zigzag-held U8 z s h = absurd cc
+zigzag-held U16 z s h = absurd cc
+zigzag-held U32 z s h = absurd cc
+zigzag-held U64 z s h = absurd cc
+
 -- ---- the low bits of a word are those of its number
 
 low_bits-word : (p : PType) (n : ℕ) → n < 2 ^ natural_bits p → (2 ^ 64 - 1 - n) % 2 ^ bits_of p ≡ low_bits p (negsuc n)
@@ -82,4 +97,24 @@ from_bits-unzigzag p z e h =
     let b = word_bits p z e h in
     ap (λ n. from_bits (signed_of p) (bits_in I64 (unzigzag n) % 2 ^ bits_of (signed_of p))) b.0 ∙ from_bits-word (signed_of p) (unzigzag (unsigned_abs z)) (unzigzag-held p (unsigned_abs z) b.1)
 
+-- the low bits of a zigzag are the zigzag
+pub from_bits-zigzag : (p q : PType) (z : ℤ) → q ≡ unsigned_of p → is_signed p ≡ true → lies_in p z ≡ true → from_bits q (zigzag z % 2 ^ bits_of q) ≡ pos (zigzag z)
+from_bits-zigzag p q z e s h = subst (λ k. from_bits k (zigzag z % 2 ^ bits_of k) ≡ pos (zigzag z)) (sym e) (wrap-same (unsigned_of p) (pos (zigzag z)) (zigzag-held p z s h))
+
+-- a signed type holds no more than 64 bits do
+pub lies_in-wide : (p : PType) (z : ℤ) → is_signed p ≡ true → lies_in p z ≡ true → lies_in I64 z ≡ true
+lies_in-wide I8 (pos n) s h = lt-ltb _ _ (omega (arith, ltb-true _ _ h))
+lies_in-wide I16 (pos n) s h = lt-ltb _ _ (omega (arith, ltb-true _ _ h))
+lies_in-wide I32 (pos n) s h = lt-ltb _ _ (omega (arith, ltb-true _ _ h))
+lies_in-wide I8 (negsuc n) s h = lt-ltb _ _ (omega (arith, ltb-true _ _ h))
+lies_in-wide I16 (negsuc n) s h = lt-ltb _ _ (omega (arith, ltb-true _ _ h))
+lies_in-wide I32 (negsuc n) s h = lt-ltb _ _ (omega (arith, ltb-true _ _ h))
+lies_in-wide I64 z s h = h
+lies_in-wide U8 z s h = absurd cc
+lies_in-wide U16 z s h = absurd cc
+lies_in-wide U32 z s h = absurd cc
+lies_in-wide U64 z s h = absurd cc
+
 pub ruleset unzigzags = (from_bits-unzigzag)
+
+pub ruleset zigzags = (from_bits-zigzag, lies_in-wide)

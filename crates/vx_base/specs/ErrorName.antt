@@ -3,18 +3,18 @@ use Rattle.std.specs.Prelude.{ℕ, List, codes}
 use Rattle.vx_base.specs.declared.error.VortexError.{VortexError}
 use Rattle.vx_base.specs.declared.error.VortexError.TheVariants.{NoMemory, TooManyRows, MismatchedTypes, LengthMismatch, OutOfBounds, IndicesNotAscending, DayUnit, DaysOutOfRange, TimestampOutOfRange, PartsNotCanonical, CastRefused, ValueTooLong, DuplicateScheme, BadMetadata}
 
-abbrev pub name_of : VortexError → List ℕ
-name_of NoMemory = codes "NoMemory"
-name_of TooManyRows = codes "TooManyRows"
-name_of MismatchedTypes = codes "MismatchedTypes"
-name_of LengthMismatch = codes "LengthMismatch"
-name_of OutOfBounds = codes "OutOfBounds"
-name_of IndicesNotAscending = codes "IndicesNotAscending"
-name_of DayUnit = codes "DayUnit"
-name_of DaysOutOfRange = codes "DaysOutOfRange"
-name_of TimestampOutOfRange = codes "TimestampOutOfRange"
-name_of PartsNotCanonical = codes "PartsNotCanonical"
-name_of CastRefused = codes "CastRefused"
-name_of ValueTooLong = codes "ValueTooLong"
-name_of DuplicateScheme = codes "DuplicateScheme"
-name_of BadMetadata = codes "BadMetadata"
+abbrev pub error_name : VortexError → List ℕ
+error_name NoMemory = codes "NoMemory"
+error_name TooManyRows = codes "TooManyRows"
+error_name MismatchedTypes = codes "MismatchedTypes"
+error_name LengthMismatch = codes "LengthMismatch"
+error_name OutOfBounds = codes "OutOfBounds"
+error_name IndicesNotAscending = codes "IndicesNotAscending"
+error_name DayUnit = codes "DayUnit"
+error_name DaysOutOfRange = codes "DaysOutOfRange"
+error_name TimestampOutOfRange = codes "TimestampOutOfRange"
+error_name PartsNotCanonical = codes "PartsNotCanonical"
+error_name CastRefused = codes "CastRefused"
+error_name ValueTooLong = codes "ValueTooLong"
+error_name DuplicateScheme = codes "DuplicateScheme"
+error_name BadMetadata = codes "BadMetadata"

@@ -1,5 +1,7 @@
 pub mod Answers
 pub mod Casts
+pub mod CellValue
+pub mod Defaults
 pub mod Digits
 pub mod ErrorName
 pub mod FractionLaws
@@ -9,6 +11,7 @@ pub mod IdName
 pub mod IdNumber
 pub mod IdSets
 pub mod Integers
+pub mod IntegersIn
 pub mod Masks
 pub mod Narrow
 pub mod Ordered

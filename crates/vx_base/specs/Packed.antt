@@ -20,13 +20,13 @@ abbrev pub packed_row : List ℕ → ℕ → ℕ → ℕ
 packed_row bytes width row = row_in width (joined 8 bytes) row
 
 -- what is packed of a row: its bits, and 0 of a null and of a row that is wider
-abbrev pub field : ℕ → ℕ → Bool → ℕ
-field width bits valid = if valid then (if nat_lt bits (2 ^ width) then bits else 0) else 0
+abbrev pub kept_row : ℕ → ℕ → Bool → ℕ
+kept_row width bits valid = if valid then (if nat_lt bits (2 ^ width) then bits else 0) else 0
 
-abbrev pub fields : ℕ → List ℕ → List Bool → List ℕ
-fields width [] valid = []
-fields width (b ∷ bits) [] = []
-fields width (b ∷ bits) (v ∷ valid) = field width b v ∷ fields width bits valid
+abbrev pub kept_rows : ℕ → List ℕ → List Bool → List ℕ
+kept_rows width [] valid = []
+kept_rows width (b ∷ bits) [] = []
+kept_rows width (b ∷ bits) (v ∷ valid) = kept_row width b v ∷ kept_rows width bits valid
 
 -- a row that is valid and wider than the width
 abbrev pub is_wide : ℕ → ℕ → Bool → Bool

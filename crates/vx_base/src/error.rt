@@ -43,11 +43,11 @@ pub enum VortexError {
 pub type VortexResult<T> = Result<T, VortexError>;
 
 impl VortexError {
-    ghost use Rattle.vx_base.specs.ErrorName.{name_of};
+    ghost use Rattle.vx_base.specs.ErrorName.{error_name};
 
     /// The variant's name, without memory.
     pub fn name(&self) -> &'static str
-        ensures { result.now ≡ name_of self.now }
+        ensures { result.now ≡ error_name self.now }
     {
         match self {
             VortexError::NoMemory => "NoMemory",
@@ -70,9 +70,9 @@ impl VortexError {
 
 impl fmt::Display for VortexError {
     ghost use Rattle.std.specs.Prelude.{Some};
-    ghost use Rattle.vx_base.specs.ErrorName.{name_of};
+    ghost use Rattle.vx_base.specs.ErrorName.{error_name};
 
-    ghost output = { λ e. Some (name_of e) };
+    ghost output = { λ e. Some (error_name e) };
 
     fn fmt<W: fmt::Write>(&self, f: &mut fmt::Formatter<W>) -> fmt::Result {
         f.write_str(self.name())

@@ -2,6 +2,7 @@
 #![tactic(auto)]
 
 mod array_id;
+mod cell;
 mod context;
 mod dtype;
 mod error;
@@ -18,6 +19,7 @@ mod text;
 mod value;
 
 pub use array_id::ArrayId;
+pub use cell::Cell;
 pub use context::ExecutionCtx;
 pub use dtype::{DType, Nullability};
 pub use error::{Refused, VortexError, VortexResult};
@@ -31,8 +33,3 @@ pub use scalar::Scalar;
 pub use steps::Steps;
 pub use text::Text;
 pub use value::Value;
-
-#[cfg(test)]
-mod tests;
-#[cfg(test)]
-mod value_tests;

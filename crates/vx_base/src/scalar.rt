@@ -9,6 +9,7 @@ ghost use Rattle.vx_base.specs.TypeOf.{type_of, value_of};
 
 mod cast;
 
+use crate::cell::Cell;
 use crate::dtype::{DType, Nullability};
 use crate::error::{Refused, VortexError, VortexResult};
 use crate::ptype::PType;
@@ -58,9 +59,10 @@ fn fits(dtype: &DType, value: &Value) -> bool
 }
 
 impl Scalar {
+    ghost use Rattle.vx_base.specs.CellValue.{cell_value};
     ghost use Rattle.vx_base.specs.PlainValue.{null, int, is_null, cell};
     ghost use Rattle.vx_base.specs.PlainScalar.{fits, scalar};
-    ghost use Rattle.vx_base.specs.PlainType.{primitive, is_integer, is_nullable};
+    ghost use Rattle.vx_base.specs.PlainType.{primitive, is_leaf, is_integer, is_nullable};
     ghost use Rattle.vx_base.specs.TypeOf.{type_of, value_of};
     ghost use Rattle.vx_base.specs.TypeText.{value_text};
 
@@ -129,6 +131,17 @@ impl Scalar {
             dtype: DType::Primitive(ptype, nullability),
             value: Value::Int(value),
         })
+    }
+
+    /// The value of a leaf type.
+    pub fn cell(&self) -> Cell
+        requires { IsTrue (is_leaf self.now.dtype) }
+        ensures { cell_value result ≡ self.now.value }
+    {
+        match &self.value {
+            Value::Int(whole) => Cell::Int(*whole),
+            Value::Null => Cell::Null,
+        }
     }
 
     /// The integer, or none where it is null.

@@ -2,7 +2,7 @@
 
 ghost use Rattle.std.specs.Prelude.{◌≡◌};
 ghost use Rattle.vx_base.specs.Answers.{Answers, Decided};
-ghost use Rattle.vx_base.specs.Casts.{cast_refusal, default_of};
+ghost use Rattle.vx_base.specs.Casts.{cast_refusal, null_or_default};
 ghost use Rattle.vx_base.specs.PlainScalar.{scalar};
 ghost use Rattle.vx_base.specs.TypeOf.{type_of, value_of};
 
@@ -28,17 +28,17 @@ impl Scalar {
 
     /// The type's default: null where it is nullable, else zero.
     pub fn default_value(alloc: Global, dtype: &DType) -> VortexResult<Scalar>
-        ensures { Answers result (scalar (type_of dtype.now) (default_of (type_of dtype.now))) }
+        ensures { Answers result (scalar (type_of dtype.now) (null_or_default (type_of dtype.now))) }
     {
         let dtype = dtype.copy(alloc)?;
-        let value = default_of(&dtype);
+        let value = null_or_default(&dtype);
         Ok(Scalar { dtype, value })
     }
 }
 
 // The value that stands where a type's column has none.
-fn default_of(dtype: &DType) -> Value
-    ensures { value_of result ≡ default_of (type_of dtype.now) }
+fn null_or_default(dtype: &DType) -> Value
+    ensures { value_of result ≡ null_or_default (type_of dtype.now) }
 {
     match dtype {
         DType::Primitive(_, nullability) => {
