@@ -9,9 +9,9 @@ use Rattle.std.proofs.lemmas.List.{length-append, set-get_or, take-set-le, get_o
 use Rattle.std.proofs.lemmas.Nat.{leading_length, leading_le}
 use Rattle.std.specs.Int.Count.{count_leading_zeros}
 use Rattle.vx_base.specs.Digits.{digits}
-use Rattle.vx_base.specs.Packed.{field}
+use Rattle.vx_base.specs.Packed.{kept_row}
 use Rattle.vx_blocks.specs.Histogram.{AreByZeros, IsHistogram}
-use Rattle.vx_blocks.proofs.Rows.{field-fits}
+use Rattle.vx_blocks.proofs.Rows.{kept_row-fits}
 use mir.Val.{bool_byte}
 
 digits-le : (bits k : ℕ) → bits < 2 ^ 64 → bits < 2 ^ k → digits bits ≤ k
@@ -70,9 +70,9 @@ by_zeros-null width rows counts h =
     }
 
 pub by_zeros-push : (width : ℕ) (rows counts : List ℕ) (bits : ℕ) (valid : Bool) → AreByZeros width rows counts → length counts ≡ 65 → bits < 2 ^ 64 → bits < 2 ^ width
-    → AreByZeros width (rows ++ field 64 bits valid ∷ []) (set counts (count_leading_zeros 64 bits) (get_or counts (count_leading_zeros 64 bits) 0 + bool_byte valid))
+    → AreByZeros width (rows ++ kept_row 64 bits valid ∷ []) (set counts (count_leading_zeros 64 bits) (get_or counts (count_leading_zeros 64 bits) 0 + bool_byte valid))
 by_zeros-push width rows counts bits true h size held small =
-    rw (field-fits 64 bits true refl held) (by_zeros-counted width rows counts bits (count_leading_zeros 64 bits) h size refl (digits-le bits width held small))
+    rw (kept_row-fits 64 bits true refl held) (by_zeros-counted width rows counts bits (count_leading_zeros 64 bits) h size refl (digits-le bits width held small))
 by_zeros-push width rows counts bits false h size held small =
     let place = count_leading_zeros 64 bits in
     let same : set counts place (get_or counts place 0 + 0) ≡ counts = ap (set counts place) (omega arith) ∙ set-get_or counts place 0 in

@@ -7,7 +7,7 @@ use Rattle.std.proofs.lemmas.Bool.Decides.{nat_tests}
 use Rattle.std.proofs.lemmas.Nat.{pow_pos, le_or_l, le_or_r}
 use Rattle.std.proofs.Math.Nat as nat
 use Rattle.vx_blocks.specs.AreKept.{AreKept}
-use Rattle.vx_blocks.proofs.Rows.{fields-get, field-fits}
+use Rattle.vx_blocks.proofs.Rows.{kept_rows-get, kept_row-fits}
 
 -- what a test that is true says
 pub OnTrue_holds : {P : Type 0} (b : Bool) → b ≡ true → OnTrue b P → P
@@ -45,5 +45,5 @@ seen-all width bits valid start end word all same within is_all seen true e =
     record {
       each = λ k first last.
           let row = seen k first last in
-          fields-get width bits valid k same (omega arith) ∙ field-fits width (get_or bits k 0) (get_or valid k false) (row.1 is_all) (nat.lt_of_le_of_lt row.0 small);
+          kept_rows-get width bits valid k same (omega arith) ∙ kept_row-fits width (get_or bits k 0) (get_or valid k false) (row.1 is_all) (nat.lt_of_le_of_lt row.0 small);
     }

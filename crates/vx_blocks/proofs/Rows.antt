@@ -5,56 +5,56 @@ use Rattle.std.proofs.Math.Nat as nat
 use Rattle.std.proofs.lemmas.Bool.{cases_lt}
 use Rattle.std.proofs.lemmas.Nat.{pow_pos}
 use Rattle.vx_blocks.specs.Holds.{Holds}
-use Rattle.vx_base.specs.Packed.{field, fields, packed_size, joined}
+use Rattle.vx_base.specs.Packed.{kept_row, kept_rows, packed_size, joined}
 use Rattle.vx_blocks.proofs.Joins.{joined_more}
 
-pub field-lt : (width bits : ℕ) (valid : Bool) → field width bits valid < 2 ^ width
-field-lt width bits true = grind (arith, nat_tests, pow_pos width)
-field-lt width bits false = pow_pos width
+pub kept_row-lt : (width bits : ℕ) (valid : Bool) → kept_row width bits valid < 2 ^ width
+kept_row-lt width bits true = grind (arith, nat_tests, pow_pos width)
+kept_row-lt width bits false = pow_pos width
 
-pub length-fields : (width : ℕ) (bits : List ℕ) (valid : List Bool) → length valid ≡ length bits → length (fields width bits valid) ≡ length bits
-length-fields width [] valid e = refl
-length-fields width (b ∷ bits) [] e = e
-length-fields width (b ∷ bits) (v ∷ valid) e = let ih = length-fields width bits valid (omega arith) in omega arith
+pub length-kept_rows : (width : ℕ) (bits : List ℕ) (valid : List Bool) → length valid ≡ length bits → length (kept_rows width bits valid) ≡ length bits
+length-kept_rows width [] valid e = refl
+length-kept_rows width (b ∷ bits) [] e = e
+length-kept_rows width (b ∷ bits) (v ∷ valid) e = let ih = length-kept_rows width bits valid (omega arith) in omega arith
 
-pub fields-get : (width : ℕ) (bits : List ℕ) (valid : List Bool) (i : ℕ) → length valid ≡ length bits → i < length bits → get_or (fields width bits valid) i 0 ≡ field width (get_or bits i 0) (get_or valid i false)
-fields-get width [] valid i e h = absurd (omega arith)
-fields-get width (b ∷ bits) [] i e h = absurd (omega arith)
-fields-get width (b ∷ bits) (v ∷ valid) zero e h = refl
-fields-get width (b ∷ bits) (v ∷ valid) (suc i) e h = fields-get width bits valid i (omega arith) (omega arith)
+pub kept_rows-get : (width : ℕ) (bits : List ℕ) (valid : List Bool) (i : ℕ) → length valid ≡ length bits → i < length bits → get_or (kept_rows width bits valid) i 0 ≡ kept_row width (get_or bits i 0) (get_or valid i false)
+kept_rows-get width [] valid i e h = absurd (omega arith)
+kept_rows-get width (b ∷ bits) [] i e h = absurd (omega arith)
+kept_rows-get width (b ∷ bits) (v ∷ valid) zero e h = refl
+kept_rows-get width (b ∷ bits) (v ∷ valid) (suc i) e h = kept_rows-get width bits valid i (omega arith) (omega arith)
 
-pub field-fits : (width bits : ℕ) (valid : Bool) → valid ≡ true → bits < 2 ^ width → field width bits valid ≡ bits
-field-fits width bits valid is_valid fits = grind (arith, nat_tests)
+pub kept_row-fits : (width bits : ℕ) (valid : Bool) → valid ≡ true → bits < 2 ^ width → kept_row width bits valid ≡ bits
+kept_row-fits width bits valid is_valid fits = grind (arith, nat_tests)
 
-pub field-wide : (width bits : ℕ) (valid : Bool) → bits / 2 ^ width ≢ 0 → field width bits valid ≡ 0
-field-wide width bits true h = elim (cases_lt bits (2 ^ width)) [ inl lt ↦ absurd (h (nat.div-eq_of_lt lt)) | inr far ↦ grind (arith, nat_tests) ]
-field-wide width bits false h = refl
+pub kept_row-wide : (width bits : ℕ) (valid : Bool) → bits / 2 ^ width ≢ 0 → kept_row width bits valid ≡ 0
+kept_row-wide width bits true h = elim (cases_lt bits (2 ^ width)) [ inl lt ↦ absurd (h (nat.div-eq_of_lt lt)) | inr far ↦ grind (arith, nat_tests) ]
+kept_row-wide width bits false h = refl
 
 -- the rows of a slice whose items are whole numbers by g, with the bits f
-pub fields-length : {X Z : Type 0} (f : Z → ℕ) (g : X → Z) (width : ℕ) (xs : List X) (valid : List Bool) → length valid ≡ length xs → length (fields width (map f (map g xs)) valid) ≡ length xs
-fields-length f g width xs valid e =
+pub kept_rows-length : {X Z : Type 0} (f : Z → ℕ) (g : X → Z) (width : ℕ) (xs : List X) (valid : List Bool) → length valid ≡ length xs → length (kept_rows width (map f (map g xs)) valid) ≡ length xs
+kept_rows-length f g width xs valid e =
     let l : length (map f (map g xs)) ≡ length xs = length-map (map g xs) f ∙ length-map xs g in
-    length-fields width (map f (map g xs)) valid (e ∙ sym l) ∙ l
+    length-kept_rows width (map f (map g xs)) valid (e ∙ sym l) ∙ l
 
-pub fields_all : {X Z : Type 0} (f : Z → ℕ) (g : X → Z) (width : ℕ) (xs : List X) (valid : List Bool) (i : ℕ) → length valid ≡ length xs → length xs ≤ i → take i (fields width (map f (map g xs)) valid) ≡ fields width (map f (map g xs)) valid
-fields_all f g width xs valid i e h =
-    let all = fields-length f g width xs valid e in
-    take_all i (fields width (map f (map g xs)) valid) (omega (arith, all))
+pub kept_rows_all : {X Z : Type 0} (f : Z → ℕ) (g : X → Z) (width : ℕ) (xs : List X) (valid : List Bool) (i : ℕ) → length valid ≡ length xs → length xs ≤ i → take i (kept_rows width (map f (map g xs)) valid) ≡ kept_rows width (map f (map g xs)) valid
+kept_rows_all f g width xs valid i e h =
+    let all = kept_rows-length f g width xs valid e in
+    take_all i (kept_rows width (map f (map g xs)) valid) (omega (arith, all))
 
 pub bits-at : {X Z : Type 0} (f : Z → ℕ) (g : X → Z) (xs : List X) (i : ℕ) (x : X) (row : ℕ) → i < length xs → x ≡ get_or xs i x → row ≡ f (g x) → row ≡ get_or (map f (map g xs)) i 0
 bits-at f g xs i x row h at is =
     let m : length (map g xs) ≡ length xs = length-map xs g in
     is ∙ sym (get_or-map f (map g xs) i (g x) 0 (omega arith) ∙ ap f (get_or-map g xs i x (g x) h ∙ ap g (sym at)))
 
-pub fields-at : {X Z : Type 0} (f : Z → ℕ) (g : X → Z) (width : ℕ) (xs : List X) (valid : List Bool) (i : ℕ) (x : X) (row : ℕ) → length valid ≡ length xs → i < length xs
-    → x ≡ get_or xs i x → row ≡ field width (f (g x)) (get_or valid i false) → row ≡ get_or (fields width (map f (map g xs)) valid) i 0
-fields-at f g width xs valid i x row e h at is =
+pub kept_rows-at : {X Z : Type 0} (f : Z → ℕ) (g : X → Z) (width : ℕ) (xs : List X) (valid : List Bool) (i : ℕ) (x : X) (row : ℕ) → length valid ≡ length xs → i < length xs
+    → x ≡ get_or xs i x → row ≡ kept_row width (f (g x)) (get_or valid i false) → row ≡ get_or (kept_rows width (map f (map g xs)) valid) i 0
+kept_rows-at f g width xs valid i x row e h at is =
     let l : length (map f (map g xs)) ≡ length xs = length-map (map g xs) f ∙ length-map xs g in
-    is ∙ ap (λ b. field width b (get_or valid i false)) (bits-at f g xs i x (f (g x)) h at refl) ∙ sym (fields-get width (map f (map g xs)) valid i (e ∙ sym l) (omega arith))
+    is ∙ ap (λ b. kept_row width b (get_or valid i false)) (bits-at f g xs i x (f (g x)) h at refl) ∙ sym (kept_rows-get width (map f (map g xs)) valid i (e ∙ sym l) (omega arith))
 
 -- the bytes that are to come out
-pub packed_size-fields : {X Z : Type 0} (f : Z → ℕ) (g : X → Z) (width : ℕ) (xs : List X) (valid : List Bool) (size : ℕ) → length valid ≡ length xs → size ≡ packed_size width (length xs) → size ≡ packed_size width (length (fields width (map f (map g xs)) valid))
-packed_size-fields f g width xs valid size e is = rw (fields-length f g width xs valid e) is
+pub packed_size-kept_rows : {X Z : Type 0} (f : Z → ℕ) (g : X → Z) (width : ℕ) (xs : List X) (valid : List Bool) (size : ℕ) → length valid ≡ length xs → size ≡ packed_size width (length xs) → size ≡ packed_size width (length (kept_rows width (map f (map g xs)) valid))
+packed_size-kept_rows f g width xs valid size e is = rw (kept_rows-length f g width xs valid e) is
 
 -- ---- what `put` leaves, as the loop's invariant says it
 pub next-row : (w : ℕ) (rows : List ℕ) (i row : ℕ) (bytes : List ℕ) (acc fill : ℕ) → i < length rows → row ≡ get_or rows i 0
@@ -67,8 +67,8 @@ next-row w rows i row bytes acc fill h is holds =
 pub place_within : (w n i size : ℕ) → i ≤ n → size ≡ packed_size w n → w * i ≤ 8 * size
 place_within w n i size h is = let m = nat.mul-le-mul_left w h in let le : n ≤ 1024 * ((n + 1023) / 1024) = omega arith in let m2 = nat.mul-le-mul_left w le in omega arith
 
-pub fields-fit : (width : ℕ) (bits : List ℕ) (valid : List Bool) (k : ℕ) → get_or (fields width bits valid) k 0 < 2 ^ width
-fields-fit width [] valid k = pow_pos width
-fields-fit width (b ∷ bits) [] k = pow_pos width
-fields-fit width (b ∷ bits) (v ∷ valid) zero = field-lt width b v
-fields-fit width (b ∷ bits) (v ∷ valid) (suc k) = fields-fit width bits valid k
+pub kept_rows-fit : (width : ℕ) (bits : List ℕ) (valid : List Bool) (k : ℕ) → get_or (kept_rows width bits valid) k 0 < 2 ^ width
+kept_rows-fit width [] valid k = pow_pos width
+kept_rows-fit width (b ∷ bits) [] k = pow_pos width
+kept_rows-fit width (b ∷ bits) (v ∷ valid) zero = kept_row-lt width b v
+kept_rows-fit width (b ∷ bits) (v ∷ valid) (suc k) = kept_rows-fit width bits valid k

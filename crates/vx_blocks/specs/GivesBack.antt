@@ -2,7 +2,7 @@
 use Rattle.std.specs.Prelude.{ℕ, ◌+◌, ◌-◌, ◌^◌, ◌≡◌, ◌<◌, ◌≤◌, ℤ, pos, Bool, true, false, List, length, map, slice_index, slice_index_or}
 use Rattle.vx_base.specs.declared.ptype.PType.{PType}
 use Rattle.vx_base.specs.Integers.{bits_in}
-use Rattle.vx_base.specs.Packed.{field, fields}
+use Rattle.vx_base.specs.Packed.{kept_row, kept_rows}
 use Rattle.vx_base.specs.ZigZag.{zigzag, unzigzag}
 use Rattle.vx_blocks.specs.IsPacked.{IsPacked, IsUnpacked}
 
@@ -11,24 +11,24 @@ pub record Unpacks (kind : PType) (values : List ℤ) (valid : List Bool) (width
   pub bytes : List ℕ
   pub same : length valid ≡ length values
   pub within : end ≤ length values
-  pub packed : IsPacked width (fields width (map (bits_in kind) values) valid) bytes
+  pub packed : IsPacked width (kept_rows width (map (bits_in kind) values) valid) bytes
   pub unpacked : IsUnpacked bytes width start end rows
 
 abbrev pub bits_at : PType → List ℤ → ℕ → ℕ
 bits_at kind values row = bits_in kind (slice_index_or values row (pos 0))
 
-abbrev pub is_valid_at : List Bool → ℕ → Bool
-is_valid_at valid row = slice_index_or valid row false
+abbrev pub is_set_at : List Bool → ℕ → Bool
+is_set_at valid row = slice_index_or valid row false
 
 -- each valid value that fits the width comes back
 abbrev pub GivesBackValues : Type 0
 GivesBackValues = (kind : PType) (values : List ℤ) (valid : List Bool) (width start end : ℕ) (rows : List ℕ) → Unpacks kind values valid width start end rows
-    → (i : ℕ) → i < end - start → is_valid_at valid (start + i) ≡ true → bits_at kind values (start + i) < 2 ^ width → slice_index rows i ≡ bits_at kind values (start + i)
+    → (i : ℕ) → i < end - start → is_set_at valid (start + i) ≡ true → bits_at kind values (start + i) < 2 ^ width → slice_index rows i ≡ bits_at kind values (start + i)
 
 -- and every row is what was packed of it: 0 of a null and of a row that is wider
-abbrev pub GivesBackFields : Type 0
-GivesBackFields = (kind : PType) (values : List ℤ) (valid : List Bool) (width start end : ℕ) (rows : List ℕ) → Unpacks kind values valid width start end rows
-    → (i : ℕ) → i < end - start → slice_index rows i ≡ field width (bits_at kind values (start + i)) (is_valid_at valid (start + i))
+abbrev pub GivesBackKeptRows : Type 0
+GivesBackKeptRows = (kind : PType) (values : List ℤ) (valid : List Bool) (width start end : ℕ) (rows : List ℕ) → Unpacks kind values valid width start end rows
+    → (i : ℕ) → i < end - start → slice_index rows i ≡ kept_row width (bits_at kind values (start + i)) (is_set_at valid (start + i))
 
 -- each number comes back from its zigzag
 abbrev pub GivesBackZigZag : Type 0

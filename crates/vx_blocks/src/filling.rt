@@ -1,7 +1,7 @@
 //! Bits put one behind the other, by words of 64 bits.
 
 ghost use Rattle.std.specs.Prelude.{◌≡◌, ◌<◌, ◌≤◌, ◌+◌, ◌*◌, ◌^◌, ◌++◌, ℕ, List, length, take, IfOk, IfSome};
-ghost use Rattle.vx_base.specs.Packed.{joined, field, packed_size};
+ghost use Rattle.vx_base.specs.Packed.{joined, kept_row, packed_size};
 ghost use Rattle.vx_blocks.specs.Holds.{Holds};
 
 use std::alloc::AllocError;
@@ -18,7 +18,7 @@ pub(crate) fn size_in_bytes(rows: usize, width: usize) -> Option<usize>
 #[inline(always)]
 pub(crate) fn fit(bits: u64, valid: bool, width: u32) -> u64
     requires { width ≤ 64 }
-    ensures { result ≡ field width bits valid }
+    ensures { result ≡ kept_row width bits valid }
 {
     if !valid {
         0

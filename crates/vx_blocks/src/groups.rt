@@ -3,7 +3,7 @@
 ghost use Rattle.std.specs.Prelude.{◌≡◌, ◌<◌, ◌≤◌, ◌+◌, ◌*◌, ◌^◌, length, slice_index, map, take, drop};
 ghost use Rattle.std.specs.Bool.{OnTrue};
 ghost use Rattle.vx_base.specs.Integers.{bits_in};
-ghost use Rattle.vx_base.specs.Packed.{fields, joined};
+ghost use Rattle.vx_base.specs.Packed.{kept_rows, joined};
 ghost use Rattle.vx_blocks.specs.AreKept.{AreKept};
 
 use crate::filling::{fit, put_in};
@@ -39,7 +39,7 @@ fn row_bits<T: Integer, const W: usize>(values: &[T], valid: &[bool], row: usize
     requires width { W < 64 }
     requires room { row < length values.now }
     requires kept { OnTrue kept (AreKept W (map (bits_in T.kind) (map T.whole values.now)) valid.now row (row + 1)) }
-    ensures value { result ≡ slice_index (fields W (map (bits_in T.kind) (map T.whole values.now)) valid.now) row }
+    ensures value { result ≡ slice_index (kept_rows W (map (bits_in T.kind) (map T.whole values.now)) valid.now) row }
     ensures small { result < 2 ^ W }
 {
     let bits = values[row].to_bits();
@@ -64,7 +64,7 @@ fn write_eight<T: Integer, const W: usize>(
     requires room { at + 8 ≤ length values.now }
     requires bytes { W + 8 ≤ length out.old }
     requires kept { OnTrue kept (AreKept W (map (bits_in T.kind) (map T.whole values.now)) valid.now at (at + 8)) }
-    ensures { joined 8 (take W out.new) ≡ joined W (take 8 (drop at (fields W (map (bits_in T.kind) (map T.whole values.now)) valid.now))) }
+    ensures { joined 8 (take W out.new) ≡ joined W (take 8 (drop at (kept_rows W (map (bits_in T.kind) (map T.whole values.now)) valid.now))) }
 {
     let mut acc = 0;
     let mut fill = 0;
@@ -90,7 +90,7 @@ fn write_either<T: Integer, const W: usize>(
     requires room { at + 8 ≤ length values.now }
     requires bytes { W + 8 ≤ length out.old }
     requires kept { OnTrue kept (AreKept W (map (bits_in T.kind) (map T.whole values.now)) valid.now at (at + 8)) }
-    ensures { joined 8 (take W out.new) ≡ joined W (take 8 (drop at (fields W (map (bits_in T.kind) (map T.whole values.now)) valid.now))) }
+    ensures { joined 8 (take W out.new) ≡ joined W (take 8 (drop at (kept_rows W (map (bits_in T.kind) (map T.whole values.now)) valid.now))) }
 {
     if kept {
         write_eight::<T, W>(out, values, valid, at, true);
@@ -112,7 +112,7 @@ pub(crate) fn write_group<T: Integer, const W: usize>(
     requires width { W < 64 }
     requires room { start + 64 ≤ length values.now }
     requires bytes { 8 * W + 8 ≤ length buffer.old }
-    ensures { joined 8 (take (8 * W) buffer.new) ≡ joined W (take 64 (drop start (fields W (map (bits_in T.kind) (map T.whole values.now)) valid.now))) }
+    ensures { joined 8 (take (8 * W) buffer.new) ≡ joined W (take 64 (drop start (kept_rows W (map (bits_in T.kind) (map T.whole values.now)) valid.now))) }
 {
     let kept = are_kept::<T, W>(values, valid, start, start + 64);
     for unit in 0..8 {

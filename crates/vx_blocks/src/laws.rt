@@ -1,12 +1,12 @@
 //! Laws of the kernels.
 
-ghost use Rattle.vx_blocks.specs.GivesBack.{GivesBackValues, GivesBackFields, GivesBackZigZag};
+ghost use Rattle.vx_blocks.specs.GivesBack.{GivesBackValues, GivesBackKeptRows, GivesBackZigZag};
 
 /// Does nothing; its contract holds the law. What `unpack` reads of what `pack` made is, row by row, each valid value
 /// that fits the width, and 0 of a null and of a row that is wider.
 pub fn unpack_gives_back()
     ensures values { GivesBackValues }
-    ensures fields { GivesBackFields }
+    ensures kept_rows { GivesBackKeptRows }
 {}
 
 /// Does nothing; its contract holds the law. `unzigzag` of a number's `zigzag` is the number.

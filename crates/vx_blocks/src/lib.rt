@@ -8,7 +8,6 @@ mod narrowing;
 mod packing;
 mod reading;
 mod unpacking;
-mod wide;
 mod widths;
 mod zig_zag;
 
@@ -17,9 +16,5 @@ pub use narrowing::narrow_type;
 pub use packing::pack;
 pub use reading::get;
 pub use unpacking::{unpack, unpack_integers};
-pub use wide::wide_rows;
-pub use widths::{best_width, bit_width_histogram};
+pub use widths::{best_width, bit_width_histogram, wide_rows};
 pub use zig_zag::{unzigzag, zigzag};
-
-#[cfg(test)]
-mod tests;

@@ -3,7 +3,7 @@
 ghost use Rattle.std.specs.Prelude.{◌≡◌, ◌<◌, ◌≤◌, length, map};
 ghost use Rattle.vx_base.specs.Answers.{OrMemory};
 ghost use Rattle.vx_base.specs.Integers.{bits_in, bits_of};
-ghost use Rattle.vx_base.specs.Packed.{fields, packed_size};
+ghost use Rattle.vx_base.specs.Packed.{kept_rows, packed_size};
 ghost use Rattle.vx_blocks.specs.IsPacked.{IsPacked};
 
 use crate::filling::{finish, fit, put, size_in_bytes};
@@ -20,7 +20,7 @@ fn pack_by<T: Integer, const W: usize>(
     requires same { length valid.now ≡ length values.now }
     requires width { W < 64 }
     ensures size { OrMemory result (λ bytes. length bytes.items ≡ packed_size W (length values.now)) }
-    ensures rows { OrMemory result (λ bytes. IsPacked W (fields W (map (bits_in T.kind) (map T.whole values.now)) valid.now) bytes.items) }
+    ensures rows { OrMemory result (λ bytes. IsPacked W (kept_rows W (map (bits_in T.kind) (map T.whole values.now)) valid.now) bytes.items) }
 {
     let Some(size) = size_in_bytes(values.len(), W) else {
         return Err(VortexError::NoMemory);
@@ -52,7 +52,7 @@ fn pack_rows<T: Integer>(
     requires same { length valid.now ≡ length values.now }
     requires within { width ≤ 64 }
     ensures size { OrMemory result (λ bytes. length bytes.items ≡ packed_size width (length values.now)) }
-    ensures rows { OrMemory result (λ bytes. IsPacked width (fields width (map (bits_in T.kind) (map T.whole values.now)) valid.now) bytes.items) }
+    ensures rows { OrMemory result (λ bytes. IsPacked width (kept_rows width (map (bits_in T.kind) (map T.whole values.now)) valid.now) bytes.items) }
 {
     let Some(size) = size_in_bytes(values.len(), width as usize) else {
         return Err(VortexError::NoMemory);
@@ -90,7 +90,7 @@ pub fn pack<T: Integer>(
     requires same { length valid.now ≡ length values.now }
     requires within { width ≤ bits_of T.kind }
     ensures size { OrMemory result (λ bytes. length bytes.items ≡ packed_size width (length values.now)) }
-    ensures rows { OrMemory result (λ bytes. IsPacked width (fields width (map (bits_in T.kind) (map T.whole values.now)) valid.now) bytes.items) }
+    ensures rows { OrMemory result (λ bytes. IsPacked width (kept_rows width (map (bits_in T.kind) (map T.whole values.now)) valid.now) bytes.items) }
 {
     let valid = valid.as_slice();
     by_width!(values, valid, alloc, width; 1, 2, 3, 4, 5, 6, 7, 8, 9, 10, 11, 12, 13, 14, 15, 16, 17, 18, 19, 20, 21, 22, 23, 24, 25, 26, 27, 28, 29, 30, 31, 32, 33, 34, 35, 36, 37, 38, 39, 40, 41, 42, 43, 44, 45, 46, 47, 48, 49, 50, 51, 52, 53, 54, 55, 56, 57, 58, 59, 60, 61, 62, 63)

@@ -1,9 +1,9 @@
-//! How wide rows are, and which width costs least.
+//! How wide rows are, which rows a width leaves out, and which width costs least.
 
 ghost use Rattle.std.specs.Prelude.{◌≡◌, ◌<◌, ◌≤◌, ◌+◌, ◌-◌, ◌^◌, ◌++◌, ◌∷◌, [], ℕ, List, length, map, sum};
 ghost use Rattle.vx_base.specs.Answers.{OrMemory};
 ghost use Rattle.vx_base.specs.Integers.{bits_in, bits_of, bytes_of};
-ghost use Rattle.vx_base.specs.Packed.{field, fields};
+ghost use Rattle.vx_base.specs.Packed.{is_wide, kept_row, kept_rows, wide_rows};
 ghost use Rattle.vx_blocks.specs.Cost.{IsBest, cost};
 ghost use Rattle.vx_blocks.specs.Histogram.{AreByZeros, IsHistogram};
 
@@ -14,7 +14,7 @@ use vx_base::{Integer, Mask, PType, VortexResult};
 #[inline(always)]
 fn count_row<T: Integer>(counts: &mut [u64; 65], value: T, valid: bool)
     requires { sum counts.old < 2 ^ 64 - 1 }
-    ensures { (rows : List ℕ) → AreByZeros (bits_of T.kind) rows counts.old → AreByZeros (bits_of T.kind) (rows ++ field 64 (bits_in T.kind (T.whole value)) valid ∷ []) counts.new }
+    ensures { (rows : List ℕ) → AreByZeros (bits_of T.kind) rows counts.old → AreByZeros (bits_of T.kind) (rows ++ kept_row 64 (bits_in T.kind (T.whole value)) valid ∷ []) counts.new }
 {
     counts[value.to_bits().leading_zeros() as usize] += valid as u64;
 }
@@ -51,7 +51,7 @@ fn by_digits(
 fn count_widths<T: Integer>(alloc: Global, values: &[T], valid: &[bool]) -> VortexResult<Vec<u64>>
     requires { length valid.now ≡ length values.now }
     ensures total { OrMemory result (λ counts. sum counts.items ≡ length values.now) }
-    ensures widths { OrMemory result (λ counts. IsHistogram (bits_of T.kind) (fields 64 (map (bits_in T.kind) (map T.whole values.now)) valid.now) counts.items) }
+    ensures widths { OrMemory result (λ counts. IsHistogram (bits_of T.kind) (kept_rows 64 (map (bits_in T.kind) (map T.whole values.now)) valid.now) counts.items) }
 {
     let half = values.len() / 2;
     let start = values.len() - half;
@@ -80,7 +80,7 @@ pub fn bit_width_histogram<T: Integer>(
 ) -> VortexResult<Vec<u64>>
     requires { length valid.now ≡ length values.now }
     ensures total { OrMemory result (λ counts. sum counts.items ≡ length values.now) }
-    ensures widths { OrMemory result (λ counts. IsHistogram (bits_of T.kind) (fields 64 (map (bits_in T.kind) (map T.whole values.now)) valid.now) counts.items) }
+    ensures widths { OrMemory result (λ counts. IsHistogram (bits_of T.kind) (kept_rows 64 (map (bits_in T.kind) (map T.whole values.now)) valid.now) counts.items) }
 {
     count_widths(alloc, values, valid.as_slice())
 }
@@ -108,4 +108,51 @@ pub fn best_width(histogram: &[u64], ptype: PType) -> u32
         }
     }
     best
+}
+
+#[inline(always)]
+#[tactic(auto, using(crate::proofs::WideRows::wide_tests))]
+fn is_wide(bits: u64, valid: bool, width: u32) -> bool
+    requires { width ≤ 64 }
+    ensures { result ≡ is_wide width bits valid }
+{
+    if valid && width < 64 {
+        bits >> width != 0
+    } else {
+        false
+    }
+}
+
+fn wide_rows_of<T: Integer>(
+    alloc: Global,
+    values: &[T],
+    valid: &[bool],
+    width: u32,
+) -> VortexResult<Vec<u64>>
+    requires same { length valid.now ≡ length values.now }
+    requires within { width ≤ 64 }
+    ensures { OrMemory result (λ rows. rows.items ≡ wide_rows width (map (bits_in T.kind) (map T.whole values.now)) valid.now) }
+{
+    let mut rows = Vec::new(alloc);
+    for i in 0..values.len() {
+        if is_wide(values[i].to_bits(), valid[i], width) {
+            rows.push(i as u64)?;
+        }
+    }
+    Ok(rows)
+}
+
+/// The numbers of the rows that are valid and wider than `width` bits, in their order: those that `pack` leaves out.
+/// Negative numbers are as wide as their two's complement. `valid` has a truth value for each row.
+pub fn wide_rows<T: Integer>(
+    alloc: Global,
+    values: &[T],
+    valid: &Mask,
+    width: u32,
+) -> VortexResult<Vec<u64>>
+    requires same { length valid.now ≡ length values.now }
+    requires within { width ≤ bits_of T.kind }
+    ensures { OrMemory result (λ rows. rows.items ≡ wide_rows width (map (bits_in T.kind) (map T.whole values.now)) valid.now) }
+{
+    wide_rows_of(alloc, values, valid.as_slice(), width)
 }

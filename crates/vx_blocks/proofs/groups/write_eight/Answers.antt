@@ -1,18 +1,18 @@
 use Rattle.std.proofs.Common.{arith, ◌≡◌, [], length, map, ap, ◌∙◌}
-use Rattle.vx_base.specs.Packed.{fields, joined}
+use Rattle.vx_base.specs.Packed.{kept_rows, joined}
 use Rattle.vx_base.specs.Integers.{bits_in}
 use Rattle.vx_blocks.proofs.Eights.{taken-so-far, next-row-behind, eight-end}
 use Rattle.vx_blocks.proofs.Joins.{joined-bytes}
 use Rattle.std.proofs.lemmas.Nat.{pow_below}
-use Rattle.vx_blocks.proofs.Rows.{fields-length}
+use Rattle.vx_blocks.proofs.Rows.{kept_rows-length}
 use Rattle.vx_blocks.proofs.groups.write_eight.Goals as goal
 
 pub loop-k-preserved : goal.loop-k-preserved
 loop-k-preserved g c =
     let f = bits_in g.T.Integer.kind in
     let h = g.T.Integer.whole in
-    let rows = fields g.row.W (map f (map h c.args.values.now)) c.args.valid.now in
-    let len = fields-length f h g.row.W c.args.values.now c.args.valid.now c.requires.same in
+    let rows = kept_rows g.row.W (map f (map h c.args.values.now)) c.args.valid.now in
+    let len = kept_rows-length f h g.row.W c.args.values.now c.args.valid.now c.requires.same in
     let taken = taken-so-far _ g.row.W c.loop-k.k c.loop-k.len c.loop-k.out _ _ c.loop-k.invariant.holds c.loop-k.invariant.within (omega arith) in
     record {
       within = omega (arith, taken, c.put_in.ensures.taken, c.put_in.auto.buffer, c.loop-k.auto.out, c.requires.bytes);

@@ -1,8 +1,8 @@
-use Rattle.vx_blocks.proofs.ReadBack.{gives_back_values, gives_back_fields}
+use Rattle.vx_blocks.proofs.ReadBack.{gives_back_values, gives_back_kept_rows}
 use Rattle.vx_blocks.proofs.laws.unpack_gives_back.Goals as goal
 
 pub returns-clause-values : goal.returns-clause-values
 returns-clause-values c = gives_back_values
 
-pub returns-clause-fields : goal.returns-clause-fields
-returns-clause-fields c = gives_back_fields
+pub returns-clause-kept_rows : goal.returns-clause-kept_rows
+returns-clause-kept_rows c = gives_back_kept_rows

@@ -1,6 +1,6 @@
 use Rattle.std.proofs.Common.{arith, ◌≡◌, ◌*◌, length, map, ap, ◌∙◌, false, get_or}
-use Rattle.vx_base.specs.Packed.{fields, field, block_count}
-use Rattle.vx_blocks.proofs.Rows.{fields-at, fields-length, fields_all, packed_size-fields, next-row, place_within}
+use Rattle.vx_base.specs.Packed.{kept_rows, kept_row, block_count}
+use Rattle.vx_blocks.proofs.Rows.{kept_rows-at, kept_rows-length, kept_rows_all, packed_size-kept_rows, next-row, place_within}
 use Rattle.vx_base.specs.Integers.{bits_in}
 use Rattle.vx_blocks.proofs.packing.pack_rows.Goals as goal
 
@@ -8,21 +8,21 @@ pub loop-i-preserved : goal.loop-i-preserved
 loop-i-preserved g c =
     let f = bits_in g.T.Integer.kind in
     let h = g.T.Integer.whole in
-    let rows = fields c.args.width (map f (map h c.args.values.now)) c.args.valid.now in
-    let len = fields-length f h c.args.width c.args.values.now c.args.valid.now c.requires.same in
+    let rows = kept_rows c.args.width (map f (map h c.args.values.now)) c.args.valid.now in
+    let len = kept_rows-length f h c.args.width c.args.values.now c.args.valid.now c.requires.same in
     let valid = get_or c.args.valid.now c.loop-i.i false in
-    let is : c.fit-bits.result ≡ field c.args.width (f (h c.index-values-i.result)) valid = c.fit-bits.ensures ∙ ap (λ b. field c.args.width b valid) c.to_bits.ensures.value in
-    let at = fields-at f h c.args.width c.args.values.now c.args.valid.now c.loop-i.i c.index-values-i.result c.fit-bits.result c.requires.same c.loop-i-test.true c.index-values-i.is is in
+    let is : c.fit-bits.result ≡ kept_row c.args.width (f (h c.index-values-i.result)) valid = c.fit-bits.ensures ∙ ap (λ b. kept_row c.args.width b valid) c.to_bits.ensures.value in
+    let at = kept_rows-at f h c.args.width c.args.values.now c.args.valid.now c.loop-i.i c.index-values-i.result c.fit-bits.result c.requires.same c.loop-i-test.true c.index-values-i.is is in
     next-row c.args.width rows c.loop-i.i c.fit-bits.result _ _ _ (omega (arith, len)) at (c.in_ok-acc.ensures _ _ c.loop-i.invariant)
 
 pub returns-clause-rows : goal.returns-clause-rows
 returns-clause-rows g c =
     let f = bits_in g.T.Integer.kind in
     let h = g.T.Integer.whole in
-    let rows = fields c.args.width (map f (map h c.args.values.now)) c.args.valid.now in
-    let len = fields-length f h c.args.width c.args.values.now c.args.valid.now c.requires.same in
-    let all = fields_all f h c.args.width c.args.values.now c.args.valid.now c.loop-i.i c.requires.same c.loop-i-test.false in
-    let size = packed_size-fields f h c.args.width c.args.values.now c.args.valid.now c.in-Some.size c.requires.same c.in-Some.ensures in
+    let rows = kept_rows c.args.width (map f (map h c.args.values.now)) c.args.valid.now in
+    let len = kept_rows-length f h c.args.width c.args.values.now c.args.valid.now c.requires.same in
+    let all = kept_rows_all f h c.args.width c.args.values.now c.args.valid.now c.loop-i.i c.requires.same c.loop-i-test.false in
+    let size = packed_size-kept_rows f h c.args.width c.args.values.now c.args.valid.now c.in-Some.size c.requires.same c.in-Some.ensures in
     record {
       number = c.in_ok-packed.ensures.number _ _ (16 * c.args.width * block_count (length c.args.values.now)) (rw all at c.loop-i.invariant) (place_within c.args.width (length c.args.values.now) c.loop-i.i _ (c.loop-i.auto.i-end) c.in-Some.ensures) (omega (arith, c.in-Some.ensures));
       size = c.in_ok-packed.ensures.size ∙ size;

@@ -1,8 +1,8 @@
 use Rattle.std.proofs.Common.{◌∷◌, [], ◌++◌, ◌∙◌, sym, ap}
 use Rattle.vx_base.specs.Integers.{bits_in}
 use Rattle.vx_blocks.proofs.WideRows.{wide-push, wide-skip}
-use Rattle.vx_blocks.proofs.wide.wide_rows_of.Goals as goal
-use Rattle.vx_blocks.proofs.wide.wide_rows_of.Goals.{then-is_wide+in_ok-push, else-is_wide}
+use Rattle.vx_blocks.proofs.widths.wide_rows_of.Goals as goal
+use Rattle.vx_blocks.proofs.widths.wide_rows_of.Goals.{then-is_wide+in_ok-push, else-is_wide}
 
 pub loop-i-preserved : goal.loop-i-preserved
 loop-i-preserved g c =
