@@ -1,6 +1,6 @@
--- What a node's decoding has to show: whole numbers with 0 beneath nulls, and validity.
+-- What a node's decoding has to show: values with a default beneath nulls, and validity.
 use Rattle.std.proofs.Common.{◌≡◌, ℕ, zero, suc, ℤ, pos, List, [], ◌∷◌, length, map, refl, sym, ap, ◌∙◌, arith, Bool, true, false, cond, Some, None}
-use Rattle.std.specs.Prelude.{◌||◌, ◌&&◌, ◌==◌, not, replicate}
+use Rattle.std.specs.Prelude.{◌||◌, ◌&&◌, ◌==◌, not, is_some, replicate}
 use Rattle.std.specs.List.{list_all, list_any}
 use Rattle.std.proofs.lemmas.Bool.{cond_both, eq-eqb}
 use Rattle.std.proofs.lemmas.List.{length-map}
@@ -8,8 +8,9 @@ use Rattle.std.proofs.lemmas.Bool.Decides.{nat_tests}
 use Rattle.vx_base.specs.declared.ptype.PType.{PType}
 use Rattle.vx_base.specs.declared.dtype.Nullability.{Nullability}
 use Rattle.vx_base.specs.declared.dtype.Nullability.TheVariants.{Nullable, NonNullable}
+use Rattle.vx_base.specs.Defaults.{default_of, or_default}
 use Rattle.vx_base.specs.PlainScalar.{fits}
-use Rattle.vx_base.specs.PlainType.{PlainType}
+use Rattle.vx_base.specs.PlainType.{PlainType, is_integer}
 use Rattle.vx_base.specs.PlainType as types
 use Rattle.vx_base.specs.PlainValue.{PlainValue, null, int, is_null, whole_or_zero}
 use Rattle.vx_model.specs.Tree.{Tree, Validity, primitive}
@@ -22,29 +23,44 @@ use Rattle.vx_model.specs.TreeType.{tree_type}
 use Rattle.vx_model.specs.WellFormed.{WellFormed, IsValidityOf}
 use Rattle.vx_model.proofs.MadeLemmas.{rows_fit}
 
--- ---- whole numbers
+-- ---- rows by any function, which null's item stands for: the whole number or 0, the value or its default
 
-at_bit : (b : Bool) (v : PlainValue) → whole_or_zero (cond b v null) ≡ cond b (whole_or_zero v) (pos 0)
-at_bit true v = refl
-at_bit false v = refl
+module _ {A : Type 0} (f : PlainValue → A) where
+  at_bit : (b : Bool) (v : PlainValue) → f (cond b v null) ≡ cond b (f v) (f null)
+  at_bit true v = refl
+  at_bit false v = refl
 
-pub wholes-masked_rows : (bits : List Bool) (rs : List PlainValue) → length bits ≡ length rs → map whole_or_zero (masked_rows bits rs) ≡ zeroed bits (map whole_or_zero rs)
-wholes-masked_rows [] [] l = refl
-wholes-masked_rows [] (r ∷ rs) l = absurd (omega arith)
-wholes-masked_rows (b ∷ bits) [] l = absurd (omega arith)
-wholes-masked_rows (b ∷ bits) (r ∷ rs) l = let rest = wholes-masked_rows bits rs (omega arith) in λ i. at_bit b r i ∷ rest i
+  pub map-masked_rows : (bits : List Bool) (rs : List PlainValue) → length bits ≡ length rs → map f (masked_rows bits rs) ≡ zeroed (f null) bits (map f rs)
+  map-masked_rows [] [] l = refl
+  map-masked_rows [] (r ∷ rs) l = absurd (omega arith)
+  map-masked_rows (b ∷ bits) [] l = absurd (omega arith)
+  map-masked_rows (b ∷ bits) (r ∷ rs) l = let rest = map-masked_rows bits rs (omega arith) in λ i. at_bit b r i ∷ rest i
+
+  pub map-valid_rows : (valid : Validity) (rs : List PlainValue) (n : Nullability) → IsValidityOf valid (length rs) n → map f (valid_rows valid rs) ≡ zeroed_by (f null) valid (map f rs)
+  map-valid_rows None rs n h = refl
+  map-valid_rows (Some bits) rs n h = map-masked_rows bits rs h.0
+
+-- ---- integers as values
 
 pub wholes-map-int : (xs : List ℤ) → map whole_or_zero (map int xs) ≡ xs
 wholes-map-int [] = refl
 wholes-map-int (x ∷ xs) = ap (λ ys. x ∷ ys) (wholes-map-int xs)
 
-pub wholes-valid_rows : (valid : Validity) (xs : List ℤ) (n : Nullability) → IsValidityOf valid (length xs) n → map whole_or_zero (valid_rows valid (map int xs)) ≡ zeroed_by valid xs
-wholes-valid_rows None xs n h = wholes-map-int xs
-wholes-valid_rows (Some bits) xs n h = wholes-masked_rows bits (map int xs) (h.0 ∙ sym (length-map xs int)) ∙ ap (zeroed bits) (wholes-map-int xs)
+pub wholes-valid_rows : (valid : Validity) (xs : List ℤ) (n : Nullability) → IsValidityOf valid (length xs) n → map whole_or_zero (valid_rows valid (map int xs)) ≡ zeroed_by (pos 0) valid xs
+wholes-valid_rows valid xs n h = map-valid_rows whole_or_zero valid (map int xs) n (rw length-map h) ∙ ap (zeroed_by (pos 0) valid) (wholes-map-int xs)
 
-pub wholes-replicate : (len : ℕ) (v : PlainValue) → map whole_or_zero (replicate len v) ≡ replicate len (whole_or_zero v)
-wholes-replicate zero v = refl
-wholes-replicate (suc len) v = ap (λ ys. whole_or_zero v ∷ ys) (wholes-replicate len v)
+int_or_default : (v : PlainValue) → int (whole_or_zero v) ≡ or_default (int (pos 0)) v
+int_or_default null = refl
+int_or_default (int z) = refl
+
+-- whole numbers with 0 beneath nulls are the values of an integer type with its default
+pub values-wholes : (t : PlainType) → is_integer t ≡ true → (rs : List PlainValue) → map int (map whole_or_zero rs) ≡ map (or_default (default_of t)) rs
+values-wholes (types.primitive p n) e [] = refl
+values-wholes (types.primitive p n) e (r ∷ rs) = λ i. int_or_default r i ∷ values-wholes (types.primitive p n) e rs i
+
+-- and the other way
+pub wholes-values : (t : PlainType) → is_integer t ≡ true → (xs : List ℤ) (rs : List PlainValue) → map int xs ≡ map (or_default (default_of t)) rs → xs ≡ map whole_or_zero rs
+wholes-values t e xs rs h = sym (wholes-map-int xs) ∙ ap (map whole_or_zero) (h ∙ sym (values-wholes t e rs)) ∙ wholes-map-int (map whole_or_zero rs)
 
 -- ---- validity
 
@@ -91,15 +107,23 @@ validity-masked_rows bits rs l e = rw (any_masked bits rs l e, bits_masked bits 
     turned true = refl
     turned false = refl
 
-pub validity-valid_rows : (valid : Validity) (xs : List ℤ) (n : Nullability) → IsValidityOf valid (length xs) n → validity (valid_rows valid (map int xs)) ≡ valid
-validity-valid_rows None xs n h = rw (no_null-map-int xs) refl
-validity-valid_rows (Some bits) xs n h = validity-masked_rows bits (map int xs) (h.0 ∙ sym (length-map xs int)) (no_null-map-int xs) ∙ rw h.2 refl
+-- rows without nulls, behind validity bits
+pub any_null-valid_rows : (valid : Validity) (rs : List PlainValue) (n : Nullability) → IsValidityOf valid (length rs) n → list_any is_null rs ≡ false → list_any is_null (valid_rows valid rs) ≡ is_some valid
+any_null-valid_rows None rs n h e = e
+any_null-valid_rows (Some bits) rs n h e = any_masked bits rs h.0 e ∙ ap not h.2
+
+pub validity-valid_rows : (valid : Validity) (rs : List PlainValue) (n : Nullability) → IsValidityOf valid (length rs) n → list_any is_null rs ≡ false → validity (valid_rows valid rs) ≡ valid
+validity-valid_rows None rs n h e = rw e refl
+validity-valid_rows (Some bits) rs n h e = validity-masked_rows bits rs h.0 e ∙ rw h.2 refl
+
+pub validity-cells : (valid : Validity) (xs : List ℤ) (n : Nullability) → IsValidityOf valid (length xs) n → validity (valid_rows valid (map int xs)) ≡ valid
+validity-cells valid xs n h = validity-valid_rows valid (map int xs) n (rw length-map h) (no_null-map-int xs)
 
 -- validity has a bit a row
-pub length-validity : (vs : List PlainValue) → validity_length (validity vs) (length (map whole_or_zero vs)) ≡ true
-length-validity vs =
-    cond_both (list_any is_null vs) (Some (valid_bits vs)) None (λ valid. validity_length valid (length (map whole_or_zero vs)) ≡ true)
-    (λ some. eq-eqb _ _ (length-map vs (λ v. not (is_null v)) ∙ sym (length-map vs whole_or_zero))) (λ none. refl)
+pub length-validity : {A : Type 0} (f : PlainValue → A) (vs : List PlainValue) → validity_length (validity vs) (length (map f vs)) ≡ true
+length-validity f vs =
+    cond_both (list_any is_null vs) (Some (valid_bits vs)) None (λ valid. validity_length valid (length (map f vs)) ≡ true)
+    (λ some. eq-eqb _ _ (length-map vs (λ v. not (is_null v)) ∙ sym (length-map vs f))) (λ none. refl)
 
 -- ---- the plain tree by its constructor
 
@@ -152,11 +176,15 @@ plain-integers t p n e = rw e refl
 
 -- ---- a constant, and the nodes' rows as their decoding needs them
 
-pub decoded-null : (len : ℕ) → map whole_or_zero (replicate len null) ≡ replicate len (pos 0)
-decoded-null len = wholes-replicate len null
+map-copies : {A B : Type 0} (f : A → B) (len : ℕ) (x : A) → map f (replicate len x) ≡ replicate len (f x)
+map-copies f zero x = refl
+map-copies f (suc len) x = ap (λ ys. f x ∷ ys) (map-copies f len x)
 
-pub decoded-int : (len : ℕ) (z : ℤ) → map whole_or_zero (replicate len (int z)) ≡ replicate len z
-decoded-int len z = wholes-replicate len (int z)
+pub copies-null : (len : ℕ) (z : ℤ) → map (or_default (int z)) (replicate len null) ≡ map int (replicate len z)
+copies-null len z = map-copies (or_default (int z)) len null ∙ sym (map-copies int len z)
+
+pub copies-int : (default : PlainValue) (len : ℕ) (z : ℤ) → map (or_default default) (replicate len (int z)) ≡ map int (replicate len z)
+copies-int default len z = map-copies (or_default default) len (int z) ∙ sym (map-copies int len z)
 
 any_null-one : (len : ℕ) (v : PlainValue) → is_null v ≡ false → list_any is_null (replicate len v) ≡ false
 any_null-one zero v e = refl
@@ -177,7 +205,7 @@ pub validity-nulls : (len : ℕ) (v : PlainValue) → (len ≡ 0 → ⊥) → is
 validity-nulls zero v h e = absurd (h refl)
 validity-nulls (suc len) v h e = rw (e, bits-nulls len v e) refl
 
-pub ruleset decodes = (decoded-null, decoded-int, validity-value, validity-none, validity-nulls, wholes-valid_rows, wholes-masked_rows, validity-valid_rows, validity-masked_rows)
+pub ruleset decodes = (copies-null, copies-int, validity-value, validity-none, validity-nulls)
 
 -- ---- the plain tree of any tree
 

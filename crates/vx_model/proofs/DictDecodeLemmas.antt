@@ -1,4 +1,4 @@
--- What the decoding of a dict node has to show: whole numbers with 0 beneath nulls, and validity; and where a row is null.
+-- What the decoding of a dict node has to show: values with a default beneath nulls, and validity; and where a row is null.
 use Rattle.std.proofs.Common.{◌≡◌, ◌<◌, ◌∙◌, ℕ, zero, suc, ℤ, pos, negsuc, List, [], ◌∷◌, length, map, refl, ap, sym, arith, Bool, true, false, cond, Some, None}
 use Rattle.std.specs.Prelude.{◌&&◌, ◌||◌, not, slice_index_or}
 use Rattle.std.specs.List.{list_all, list_any, range_with_len}
@@ -6,7 +6,8 @@ use Rattle.std.proofs.lemmas.Bool.{and_parts, cond_both, or_parts, ltb-true}
 use Rattle.std.proofs.lemmas.List.{length-map, get_or-map}
 use Rattle.std.proofs.lemmas.List.FromFn.{fill_by_all}
 use Rattle.vx_base.specs.declared.ptype.PType.{PType}
-use Rattle.vx_base.specs.PlainType.{PlainType, integer_of}
+use Rattle.vx_base.specs.Defaults.{default_of}
+use Rattle.vx_base.specs.PlainType.{PlainType}
 use Rattle.vx_base.specs.PlainType as types
 use Rattle.vx_base.specs.PlainValue.{PlainValue, null, int, is_null, whole_or_zero}
 use Rattle.vx_model.specs.Tree.{Tree, dict}
@@ -17,37 +18,38 @@ use Rattle.vx_model.specs.Rows.{rows, row_at, looked_up, is_valid_at}
 use Rattle.vx_model.specs.TreeType.{dict_type}
 use Rattle.vx_model.specs.WellFormed.{WellFormed, is_place}
 use Rattle.vx_model.proofs.DecodeLemmas.{length-valid_bits, all_valid_bits}
-use Rattle.vx_model.proofs.FrameLemmas.{row_passes}
+use Rattle.vx_model.proofs.FrameOfReferenceLemmas.{row_passes}
 
--- ---- whole numbers
+-- ---- the items that codes pick, by any function of the values
 
-whole_at : (vs : List PlainValue) (k : ℕ) → whole_or_zero (row_at vs k) ≡ slice_index_or (map whole_or_zero vs) k (pos 0)
-whole_at [] k = refl
-whole_at (v ∷ vs) zero = refl
-whole_at (v ∷ vs) (suc k) = whole_at vs k
+module _ {A : Type 0} (f : PlainValue → A) where
+  item_at : (vs : List PlainValue) (k : ℕ) → f (row_at vs k) ≡ slice_index_or (map f vs) k (f null)
+  item_at [] k = refl
+  item_at (v ∷ vs) zero = refl
+  item_at (v ∷ vs) (suc k) = item_at vs k
 
-module _ (p : PType) (vs : List PlainValue) where
-  abbrev picked_whole : ℤ → ℤ
-  picked_whole z = picked p (map whole_or_zero vs) (pos 0) z
+  module _ (p : PType) (vs : List PlainValue) where
+    abbrev picked_item : ℤ → A
+    picked_item z = picked p (map f vs) (f null) z
 
-  wholes_bits : (rs : List PlainValue) → list_all (is_place (length vs)) rs ≡ true → map whole_or_zero (map (looked_up vs) rs) ≡ zeroed (valid_bits rs) (map picked_whole (map whole_or_zero rs))
-  wholes_bits [] h = refl
-  wholes_bits (null ∷ rs) h = ap (λ xs. pos 0 ∷ xs) (wholes_bits rs h)
-  wholes_bits (int (pos k) ∷ rs) h = λ i. whole_at vs k i ∷ wholes_bits rs (and_parts _ _ h).1 i
-  wholes_bits (int (negsuc k) ∷ rs) h = absurd cc
+    items_bits : (rs : List PlainValue) → list_all (is_place (length vs)) rs ≡ true → map f (map (looked_up vs) rs) ≡ zeroed (f null) (valid_bits rs) (map picked_item (map whole_or_zero rs))
+    items_bits [] h = refl
+    items_bits (null ∷ rs) h = ap (λ xs. f null ∷ xs) (items_bits rs h)
+    items_bits (int (pos k) ∷ rs) h = λ i. item_at vs k i ∷ items_bits rs (and_parts _ _ h).1 i
+    items_bits (int (negsuc k) ∷ rs) h = absurd cc
 
-  wholes_all : (rs : List PlainValue) → list_all (is_place (length vs)) rs ≡ true → list_any is_null rs ≡ false → map whole_or_zero (map (looked_up vs) rs) ≡ map picked_whole (map whole_or_zero rs)
-  wholes_all [] h e = refl
-  wholes_all (null ∷ rs) h e = absurd cc
-  wholes_all (int (pos k) ∷ rs) h e = λ i. whole_at vs k i ∷ wholes_all rs (and_parts _ _ h).1 e i
-  wholes_all (int (negsuc k) ∷ rs) h e = absurd cc
+    items_all : (rs : List PlainValue) → list_all (is_place (length vs)) rs ≡ true → list_any is_null rs ≡ false → map f (map (looked_up vs) rs) ≡ map picked_item (map whole_or_zero rs)
+    items_all [] h e = refl
+    items_all (null ∷ rs) h e = absurd cc
+    items_all (int (pos k) ∷ rs) h e = λ i. item_at vs k i ∷ items_all rs (and_parts _ _ h).1 e i
+    items_all (int (negsuc k) ∷ rs) h e = absurd cc
 
-pub wholes-dict : (codes values : Tree) (p : PType) → WellFormed (dict codes values)
-    → map whole_or_zero (rows (dict codes values)) ≡ zeroed_by (validity (rows codes)) (map (picked p (map whole_or_zero (rows values)) (pos 0)) (map whole_or_zero (rows codes)))
-wholes-dict codes values p h =
-    cond_both (list_any is_null (rows codes)) (Some (valid_bits (rows codes))) None
-    (λ valid. map whole_or_zero (rows (dict codes values)) ≡ zeroed_by valid (map (picked p (map whole_or_zero (rows values)) (pos 0)) (map whole_or_zero (rows codes))))
-    (λ some. wholes_bits p (rows values) (rows codes) h.2.places) (λ none. wholes_all p (rows values) (rows codes) h.2.places none)
+  pub map-dict : (codes values : Tree) (p : PType) → WellFormed (dict codes values)
+      → map f (rows (dict codes values)) ≡ zeroed_by (f null) (validity (rows codes)) (map (picked p (map f (rows values)) (f null)) (map whole_or_zero (rows codes)))
+  map-dict codes values p h =
+      cond_both (list_any is_null (rows codes)) (Some (valid_bits (rows codes))) None
+      (λ valid. map f (rows (dict codes values)) ≡ zeroed_by (f null) valid (map (picked p (map f (rows values)) (f null)) (map whole_or_zero (rows codes))))
+      (λ some. items_bits p (rows values) (rows codes) h.2.places) (λ none. items_all p (rows values) (rows codes) h.2.places none)
 
 -- ---- nulls, where no value is null
 
@@ -138,5 +140,5 @@ validity-dict codes values p h =
     (λ k l. bit_of_row p (rows values) (rows codes) k h.2.places l) in
     ap (λ b. kept (Some b)) (sym bits) ∙ kept-valid_bits rs
 
-pub integer_of-dict : (codes values : PlainType) → integer_of (dict_type codes values) ≡ integer_of values
-integer_of-dict codes (types.primitive p n) = refl
+pub default_of-dict : (codes values : PlainType) → default_of (dict_type codes values) ≡ default_of values
+default_of-dict codes (types.primitive p n) = refl

@@ -15,7 +15,7 @@ use Rattle.vx_model.specs.Refusals.{dict_refusal}
 use Rattle.vx_model.specs.Rows.{rows, row_at, looked_up}
 use Rattle.vx_model.specs.TreeType.{tree_type, dict_type}
 use Rattle.vx_model.specs.WellFormed.{WellFormed, is_place}
-use Rattle.vx_model.proofs.FrameLemmas.{row_passes}
+use Rattle.vx_model.proofs.FrameOfReferenceLemmas.{row_passes}
 use Rattle.vx_model.proofs.MadeLemmas.{rows_fit}
 use Rattle.vx_model.proofs.PackedLemmas.{passed}
 

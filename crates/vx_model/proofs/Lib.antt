@@ -1,7 +1,12 @@
+pub mod AscentLemmas
+pub mod CellLemmas
+pub mod CountLemmas
 pub mod DecodeLemmas
 pub mod DictDecodeLemmas
 pub mod DictLemmas
-pub mod FrameLemmas
+pub mod EachIntLemmas
+pub mod FrameOfReferenceLemmas
+pub mod ItemMapLemmas
 pub mod LeafLemmas
 pub mod MadeLemmas
 pub mod NullLemmas
@@ -13,6 +18,7 @@ pub mod PatchLemmas
 pub mod PatchWriteLemmas
 pub mod PatchedLemmas
 pub mod PlainLemmas
+pub mod PrimitiveLemmas
 pub mod RowLemmas
 pub mod SizeLemmas
 pub mod StandardFacts

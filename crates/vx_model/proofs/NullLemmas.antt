@@ -1,8 +1,8 @@
 -- Which rows are null, node by node, and when a tree is plain.
 use Rattle.std.proofs.Common.{◌≡◌, ◌↔◌, ◌<◌, ℕ, zero, suc, ℤ, pos, List, [], ◌∷◌, map, refl, sym, ap, ◌∙◌, arith, Bool, true, false, cond, Some, None}
-use Rattle.std.specs.Prelude.{◌||◌, ◌&&◌, not, is_some, replicate}
+use Rattle.std.specs.Prelude.{◌||◌, not, is_some, replicate}
 use Rattle.std.specs.List.{list_all, list_any}
-use Rattle.std.specs.Ordering.{int_eq}
+use Rattle.std.proofs.lemmas.Bool.{and_parts}
 use Rattle.std.proofs.lemmas.List.{length-map}
 use Rattle.std.proofs.lemmas.Int.{ints}
 use Rattle.vx_base.specs.declared.ptype.PType.{PType}
@@ -12,19 +12,15 @@ use Rattle.vx_base.specs.PlainType.{PlainType}
 use Rattle.vx_base.specs.PlainType as types
 use Rattle.vx_base.specs.PlainValue.{PlainValue, int, is_null}
 use Rattle.vx_model.specs.Tree.{Tree, Validity, PlainPacked, primitive, constant, masked, bit_packed, bit_packed_with, frame_of_reference, zig_zag, dict}
-use Rattle.vx_model.specs.Decoded.{zeroed, zeroed_by, zero_beneath, zero_beneath_by}
+use Rattle.vx_model.specs.Decoded.{zeroed, zeroed_by, zero_beneath, zero_beneath_by, is_zero}
 use Rattle.vx_model.specs.Plain.{IsPlain, plain_of}
 use Rattle.vx_model.specs.Rows.{rows}
 use Rattle.vx_model.specs.TreeType.{tree_type}
 use Rattle.vx_model.specs.WellFormed.{WellFormed}
-use Rattle.vx_model.proofs.DecodeLemmas.{any_masked, no_null-map-int, wholes-valid_rows, validity-valid_rows}
-
-any_null-bits : (p : PType) (xs : List ℤ) (bits : List Bool) (n : Nullability) → WellFormed (primitive p xs (Some bits) n) → list_any is_null (rows (primitive p xs (Some bits) n)) ≡ true
-any_null-bits p xs bits n h = any_masked bits (map int xs) (h.0.validity.0 ∙ sym (length-map xs int)) (no_null-map-int xs) ∙ ap not h.0.validity.2
+use Rattle.vx_model.proofs.DecodeLemmas.{any_masked, any_null-valid_rows, no_null-map-int, wholes-valid_rows, validity-cells}
 
 pub any_null-primitive : (p : PType) (xs : List ℤ) (valid : Validity) (n : Nullability) → WellFormed (primitive p xs valid n) → list_any is_null (rows (primitive p xs valid n)) ≡ is_some valid
-any_null-primitive p xs None n h = no_null-map-int xs
-any_null-primitive p xs (Some bits) n h = any_null-bits p xs bits n h
+any_null-primitive p xs valid n h = any_null-valid_rows valid (map int xs) n (rw length-map h.0.validity) (no_null-map-int xs)
 
 pub any_null-replicate : (len : ℕ) (v : PlainValue) → is_null v ≡ false → list_any is_null (replicate len v) ≡ false
 any_null-replicate zero v e = refl
@@ -41,45 +37,41 @@ pub ruleset nulls = (any_null-replicate, any_null-nulls, any_null-masked)
 
 -- ---- plain trees
 
-zero_if : (b : Bool) (x : ℤ) → (b || int_eq x (pos 0)) ≡ true → cond b x (pos 0) ≡ x
+zero_if : (b : Bool) (x : ℤ) → (b || is_zero x) ≡ true → cond b x (pos 0) ≡ x
 zero_if true x e = refl
 zero_if false x e = let s : x ≡ pos 0 = grind (arith, ints) in sym s
 
-if_zero : (b : Bool) (x : ℤ) → cond b x (pos 0) ≡ x → (b || int_eq x (pos 0)) ≡ true
+if_zero : (b : Bool) (x : ℤ) → cond b x (pos 0) ≡ x → (b || is_zero x) ≡ true
 if_zero true x e = refl
 if_zero false x e = rw (← e) refl
 
-both_true : (b c : Bool) → (b && c) ≡ true → (b ≡ true) × (c ≡ true)
-both_true true c e = (refl, e)
-both_true false c e = absurd cc
-
-zeroed_same : (bits : List Bool) (xs : List ℤ) → zero_beneath bits xs ≡ true → zeroed bits xs ≡ xs
+zeroed_same : (bits : List Bool) (xs : List ℤ) → zero_beneath is_zero bits xs ≡ true → zeroed (pos 0) bits xs ≡ xs
 zeroed_same [] xs e = refl
 zeroed_same (b ∷ bits) [] e = refl
-zeroed_same (b ∷ bits) (x ∷ xs) e = let s = both_true (b || int_eq x (pos 0)) (zero_beneath bits xs) e in λ i. zero_if b x s.0 i ∷ zeroed_same bits xs s.1 i
+zeroed_same (b ∷ bits) (x ∷ xs) e = let s = and_parts (b || is_zero x) (zero_beneath is_zero bits xs) e in λ i. zero_if b x s.0 i ∷ zeroed_same bits xs s.1 i
 
-same_zeroed : (bits : List Bool) (xs : List ℤ) → zeroed bits xs ≡ xs → zero_beneath bits xs ≡ true
+same_zeroed : (bits : List Bool) (xs : List ℤ) → zeroed (pos 0) bits xs ≡ xs → zero_beneath is_zero bits xs ≡ true
 same_zeroed [] xs e = refl
 same_zeroed (b ∷ bits) [] e = refl
 same_zeroed (b ∷ bits) (x ∷ xs) e =
     let h : cond b x (pos 0) ≡ x = cc in
-    let t : zeroed bits xs ≡ xs = cc in
+    let t : zeroed (pos 0) bits xs ≡ xs = cc in
     rw (if_zero b x h, same_zeroed bits xs t) refl
 
-plain_by : (p : PType) (xs : List ℤ) (valid : Validity) (n : Nullability) → WellFormed (primitive p xs valid n) → plain_of (types.primitive p n) (rows (primitive p xs valid n)) ≡ primitive p (zeroed_by valid xs) valid n
-plain_by p xs valid n h = λ i. primitive p (wholes-valid_rows valid xs n h.0.validity i) (validity-valid_rows valid xs n h.0.validity i) n
+plain_by : (p : PType) (xs : List ℤ) (valid : Validity) (n : Nullability) → WellFormed (primitive p xs valid n) → plain_of (types.primitive p n) (rows (primitive p xs valid n)) ≡ primitive p (zeroed_by (pos 0) valid xs) valid n
+plain_by p xs valid n h = λ i. primitive p (wholes-valid_rows valid xs n h.0.validity i) (validity-cells valid xs n h.0.validity i) n
 
 plain-none : (p : PType) (xs : List ℤ) (n : Nullability) → WellFormed (primitive p xs None n) → IsPlain (primitive p xs None n)
 plain-none p xs n h = sym (plain_by p xs None n h)
 
-plain-bits : (p : PType) (xs : List ℤ) (bits : List Bool) (n : Nullability) → WellFormed (primitive p xs (Some bits) n) → (zero_beneath bits xs ≡ true) ↔ IsPlain (primitive p xs (Some bits) n)
+plain-bits : (p : PType) (xs : List ℤ) (bits : List Bool) (n : Nullability) → WellFormed (primitive p xs (Some bits) n) → (zero_beneath is_zero bits xs ≡ true) ↔ IsPlain (primitive p xs (Some bits) n)
 plain-bits p xs bits n h =
     let e = plain_by p xs (Some bits) n h in (
       λ z. ap (λ ys. primitive p ys (Some bits) n) (sym (zeroed_same bits xs z)) ∙ sym e,
-      λ q. same_zeroed bits xs (let s : primitive p (zeroed bits xs) (Some bits) n ≡ primitive p xs (Some bits) n = sym (q ∙ e) in cc),
+      λ q. same_zeroed bits xs (let s : primitive p (zeroed (pos 0) bits xs) (Some bits) n ≡ primitive p xs (Some bits) n = sym (q ∙ e) in cc),
     )
 
-pub plain-primitive : (p : PType) (xs : List ℤ) (valid : Validity) (n : Nullability) → WellFormed (primitive p xs valid n) → (zero_beneath_by valid xs ≡ true) ↔ IsPlain (primitive p xs valid n)
+pub plain-primitive : (p : PType) (xs : List ℤ) (valid : Validity) (n : Nullability) → WellFormed (primitive p xs valid n) → (zero_beneath_by is_zero valid xs ≡ true) ↔ IsPlain (primitive p xs valid n)
 plain-primitive p xs None n h = (λ e. plain-none p xs n h, λ e. refl)
 plain-primitive p xs (Some bits) n h = plain-bits p xs bits n h
 

@@ -3,9 +3,7 @@ use Rattle.std.proofs.Common.{◌≡◌, ◌<◌, ◌≤◌, ◌+◌, ◌^◌, �
 use Rattle.std.specs.Prelude.{nat_lt, nat_le, IfSome}
 use Rattle.std.specs.List.{list_all, range_with_len}
 use Rattle.std.proofs.lemmas.Bool.{and_parts, and_from, eqb-true, leb-true, lt-ltb, not-true}
-use Rattle.std.proofs.lemmas.List.{length-map}
 use Rattle.std.proofs.lemmas.List.FromFn.{length-map-range_with_len, get_or-map-range_with_len}
-use Rattle.std.proofs.lemmas.List.{get_or-map}
 use Rattle.std.proofs.lemmas.Nat.{mod_below, pow_pos}
 use Rattle.std.proofs.Math.Nat.{pow-le-pow_right}
 use Rattle.vx_base.specs.declared.ptype.PType.{PType}
@@ -23,9 +21,10 @@ use Rattle.vx_base.specs.Storable.{same_path}
 use Rattle.vx_base.proofs.WrapLemmas.{wrap-held}
 use Rattle.vx_model.specs.Tree.{Tree, Validity, PlainPacked, PlainPatches, packed_of, bit_packed, bit_packed_with, frame_of_reference}
 use Rattle.vx_model.specs.Refusals.{kept, validity_length, validity_allowed, patches_refusal, bit_packed_refusal, for_refusal, kept_packed}
-use Rattle.vx_model.specs.Rows.{rows, valid_rows, is_valid_at, row_at, below, patched, is_index, packed_at, moved}
+use Rattle.vx_model.specs.Rows.{rows, valid_rows, is_valid_at, row_at, below, patched, is_index, packed_at, summed, moved}
 use Rattle.vx_model.specs.TreeType.{tree_type}
-use Rattle.vx_model.specs.WellFormed.{WellFormed, WellFormedPatches, IsValidityOf, IsPacked, ascend, differences_type}
+use Rattle.vx_model.specs.WellFormed.{WellFormed, WellFormedPatches, IsValidityOf, IsWellPacked, ascend, differences_type}
+use Rattle.vx_model.proofs.EachIntLemmas.{length-each_int, row_at-each_int, all_fit-each_int}
 use Rattle.vx_model.proofs.MadeLemmas.{kept_validity, valid_fit, rows_fit}
 use Rattle.vx_model.proofs.RowLemmas.{length-valid_rows, row_at-valid_rows}
 
@@ -67,10 +66,10 @@ module _ (k : PlainPacked) (len offset : ℕ) (indices values : Tree) where
   row_at-bit_packed_with i h l = row_at-valid_below k.valid row_of k.len k.nullability i h.3.validity l
 
 pub length-frame_of_reference : (encoded : Tree) (reference : PlainScalar) → length (rows (frame_of_reference encoded reference)) ≡ length (rows encoded)
-length-frame_of_reference encoded reference = length-map (rows encoded) (moved reference)
+length-frame_of_reference encoded reference = length-each_int (summed reference) (rows encoded)
 
 pub row_at-frame_of_reference : (encoded : Tree) (reference : PlainScalar) (i : ℕ) → i < length (rows encoded) → row_at (rows (frame_of_reference encoded reference)) i ≡ moved reference (row_at (rows encoded) i)
-row_at-frame_of_reference encoded reference i l = get_or-map (moved reference) (rows encoded) i null null l
+row_at-frame_of_reference encoded reference i l = row_at-each_int (summed reference) (rows encoded) i l
 
 pub ruleset packed_reads = (length-bit_packed, row_at-bit_packed, length-bit_packed_with, row_at-bit_packed_with, length-frame_of_reference, row_at-frame_of_reference)
 
@@ -104,13 +103,8 @@ wider_fits p n [] h = refl
 wider_fits p n (null ∷ rs) h = absurd cc
 wider_fits p n (int z ∷ rs) h = let b = and_parts _ _ h in and_from _ _ b.0 (wider_fits p n rs b.1)
 
-moved_fits : (t : PlainType) (reference : PlainScalar) (v : PlainValue) → fits t v ≡ true → fits (types.primitive (integer_of reference.dtype) (nullability_of t)) (moved reference v) ≡ true
-moved_fits (types.primitive p n) reference null h = h
-moved_fits t reference (int z) h = wrap-held (integer_of reference.dtype) _
-
 all_moved_fit : (t : PlainType) (reference : PlainScalar) (rs : List PlainValue) → list_all (fits t) rs ≡ true → list_all (fits (types.primitive (integer_of reference.dtype) (nullability_of t))) (map (moved reference) rs) ≡ true
-all_moved_fit t reference [] h = refl
-all_moved_fit t reference (r ∷ rs) h = let b = and_parts _ _ h in and_from _ _ (moved_fits t reference r b.0) (all_moved_fit t reference rs b.1)
+all_moved_fit (types.primitive p n) reference rs h = all_fit-each_int (summed reference) p (integer_of reference.dtype) n (λ z l. wrap-held (integer_of reference.dtype) _) rs h
 
 -- ---- a constructor's tree is well formed, from its tests
 
@@ -120,7 +114,7 @@ patches_made p integer not_null lengths ascending i v = (i, v, record { indices_
 
 module _ (k : PlainPacked) (held : list_all (λ byte. nat_lt byte 256) k.bytes ≡ true) (sized : length k.bytes ≡ packed_size k.width k.len) (narrow : nat_le k.width (natural_bits k.ptype) ≡ true)
     (bits : validity_length k.valid k.len ≡ true) (allowed : validity_allowed k.valid k.nullability ≡ true) where
-  is_packed : IsPacked (kept_packed k)
+  is_packed : IsWellPacked (kept_packed k)
   is_packed = record { held = held; sized = sized; narrow = narrow; validity = kept_validity k.valid k.len k.nullability bits allowed }
 
   pub packed_made : WellFormed (bit_packed (kept_packed k))

@@ -5,7 +5,7 @@ use Rattle.std.specs.List.{list_any}
 use Rattle.vx_base.specs.declared.array_id.ArrayId.TheVariants as ids
 use Rattle.vx_base.specs.Packed.{packed_size}
 use Rattle.vx_base.specs.PlainType as types
-use Rattle.vx_base.specs.PlainValue.{null, is_null, whole_or_zero}
+use Rattle.vx_base.specs.PlainValue.{PlainValue, null, is_null}
 use Rattle.vx_model.specs.Tree.{PlainPacked, PlainPatches, packed_of}
 use Rattle.vx_model.specs.Decoded.{zeroed_by}
 use Rattle.vx_model.specs.Extents.{extents}
@@ -14,9 +14,9 @@ use Rattle.vx_model.specs.Plain.{validity}
 use Rattle.vx_model.specs.Rows.{rows, row_at, is_valid_at, below, packed_or_patch}
 use Rattle.vx_model.specs.Size.{size, patches_size, validity_size}
 use Rattle.vx_model.specs.TreeType.{tree_type}
-use Rattle.vx_model.specs.WellFormed.{WellFormed, WellFormedPatches, IsPacked}
+use Rattle.vx_model.specs.WellFormed.{WellFormed, WellFormedPatches, IsWellPacked}
 use Rattle.vx_model.proofs.PackedLemmas.{length-bit_packed, row_at-bit_packed, length-bit_packed_with, row_at-bit_packed_with}
-use Rattle.vx_model.proofs.PackedDecodeLemmas.{wholes-bit_packed, any_null-bit_packed, validity-bit_packed, wholes-bit_packed_with, any_null-bit_packed_with, validity-bit_packed_with}
+use Rattle.vx_model.proofs.PackedDecodeLemmas.{map-bit_packed, any_null-bit_packed, validity-bit_packed, map-bit_packed_with, any_null-bit_packed_with, validity-bit_packed_with}
 
 pub length-packed_of : (k : PlainPacked) (o : Option PlainPatches) → WellFormed (packed_of k o) → length (rows (packed_of k o)) ≡ k.len
 length-packed_of k None h = length-bit_packed k h
@@ -46,7 +46,7 @@ pub ruleset packed_of_reads = (length-packed_of, row_at-packed_of, type-packed_o
 
 -- ---- what is known of the parts
 
-pub packed-packed_of : (k : PlainPacked) (o : Option PlainPatches) → WellFormed (packed_of k o) → IsPacked k
+pub packed-packed_of : (k : PlainPacked) (o : Option PlainPatches) → WellFormed (packed_of k o) → IsWellPacked k
 packed-packed_of k None h = h.0
 packed-packed_of k (Some p) h = h.3
 
@@ -58,9 +58,9 @@ patches_len-packed_of k p h = h.4.lengths
 
 -- ---- decoding
 
-pub wholes-packed_of : (k : PlainPacked) (o : Option PlainPatches) → WellFormed (packed_of k o) → map whole_or_zero (rows (packed_of k o)) ≡ zeroed_by k.valid (below (λ i. whole_or_zero (packed_or_patch k o i)) k.len)
-wholes-packed_of k None h = wholes-bit_packed k h
-wholes-packed_of k (Some p) h = wholes-bit_packed_with k p.array_len p.offset p.indices p.values h
+pub map-packed_of : {A : Type 0} (f : PlainValue → A) (k : PlainPacked) (o : Option PlainPatches) → WellFormed (packed_of k o) → map f (rows (packed_of k o)) ≡ zeroed_by (f null) k.valid (below (λ i. f (packed_or_patch k o i)) k.len)
+map-packed_of f k None h = map-bit_packed k h f
+map-packed_of f k (Some p) h = map-bit_packed_with k p.array_len p.offset p.indices p.values h f
 
 pub any_null-packed_of : (k : PlainPacked) (o : Option PlainPatches) → WellFormed (packed_of k o) → list_any is_null (rows (packed_of k o)) ≡ is_some k.valid
 any_null-packed_of k None h = any_null-bit_packed k h
@@ -69,5 +69,3 @@ any_null-packed_of k (Some p) h = any_null-bit_packed_with k p.array_len p.offse
 pub validity-packed_of : (k : PlainPacked) (o : Option PlainPatches) → WellFormed (packed_of k o) → validity (rows (packed_of k o)) ≡ k.valid
 validity-packed_of k None h = validity-bit_packed k h
 validity-packed_of k (Some p) h = validity-bit_packed_with k p.array_len p.offset p.indices p.values h
-
-pub ruleset packed_of_decodes = (wholes-packed_of, validity-packed_of)

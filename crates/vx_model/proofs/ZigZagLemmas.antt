@@ -1,45 +1,43 @@
 -- Integers as their zigzag: their rows, that a constructor's tree is well formed, and what their decoding has to show.
-use Rattle.std.proofs.Common.{◌≡◌, ◌<◌, ◌∙◌, ℕ, ℤ, pos, negsuc, List, [], ◌∷◌, length, map, refl, ap, sym, arith, true, None}
+use Rattle.std.proofs.Common.{◌≡◌, ◌<◌, ◌∙◌, ℕ, ℤ, pos, negsuc, List, length, map, refl, ap, sym, arith, true, None}
 use Rattle.std.specs.Prelude.{not, unsigned_abs}
 use Rattle.std.specs.List.{list_all, list_any}
-use Rattle.std.proofs.lemmas.Bool.{and_parts, and_from, lt-ltb, ltb-true}
-use Rattle.std.proofs.lemmas.List.{length-map, get_or-map}
+use Rattle.std.proofs.lemmas.Bool.{lt-ltb, ltb-true}
 use Rattle.vx_base.specs.declared.ptype.PType.{PType}
 use Rattle.vx_base.specs.declared.ptype.PType.TheVariants.{U8, U16, U32, U64, I8, I16, I32, I64}
-use Rattle.vx_base.specs.Integers.{is_signed, lies_in}
+use Rattle.vx_base.specs.declared.dtype.Nullability.{Nullability}
+use Rattle.vx_base.specs.Integers.{is_signed, lies_in, signed_of}
 use Rattle.vx_base.specs.PlainScalar.{fits}
 use Rattle.vx_base.specs.PlainType.{PlainType, is_unsigned}
 use Rattle.vx_base.specs.PlainType as types
-use Rattle.vx_base.specs.PlainValue.{PlainValue, null, int, is_null, whole_or_zero}
-use Rattle.vx_base.specs.ZigZag.{unzigzag}
+use Rattle.vx_base.specs.PlainValue.{PlainValue, int, is_null, whole_or_zero}
 use Rattle.vx_base.proofs.ZigZagLemmas.{unzigzag-held, word_bits}
 use Rattle.vx_model.specs.Tree.{Tree, zig_zag}
-use Rattle.vx_model.specs.Plain.{validity, valid_bits}
+use Rattle.vx_model.specs.Plain.{validity}
 use Rattle.vx_model.specs.Refusals.{zig_zag_refusal}
-use Rattle.vx_model.specs.Rows.{rows, row_at, unzigzagged}
+use Rattle.vx_model.specs.Rows.{rows, row_at, unzigzagged, unzigzagged_whole}
 use Rattle.vx_model.specs.TreeType.{tree_type, zig_zag_type}
 use Rattle.vx_model.specs.WellFormed.{WellFormed}
-use Rattle.vx_model.proofs.FrameLemmas.{row_fits}
+use Rattle.vx_model.proofs.EachIntLemmas.{length-each_int, row_at-each_int, any_null-each_int, validity-each_int, wholes-each_int-zero, all_fit-each_int}
+use Rattle.vx_model.proofs.FrameOfReferenceLemmas.{row_fits}
 use Rattle.vx_model.proofs.MadeLemmas.{rows_fit}
 use Rattle.vx_model.proofs.PackedLemmas.{passed}
 
 pub length-zig_zag : (encoded : Tree) → length (rows (zig_zag encoded)) ≡ length (rows encoded)
-length-zig_zag encoded = length-map (rows encoded) unzigzagged
+length-zig_zag encoded = length-each_int unzigzagged_whole (rows encoded)
 
 pub row_at-zig_zag : (encoded : Tree) (i : ℕ) → i < length (rows encoded) → row_at (rows (zig_zag encoded)) i ≡ unzigzagged (row_at (rows encoded) i)
-row_at-zig_zag encoded i l = get_or-map unzigzagged (rows encoded) i null null l
+row_at-zig_zag encoded i l = row_at-each_int unzigzagged_whole (rows encoded) i l
 
 pub ruleset zig_zag_reads = (length-zig_zag, row_at-zig_zag)
 
 -- ---- each row fits
 
-unzigzagged_fits : (t : PlainType) (v : PlainValue) → is_unsigned t ≡ true → fits t v ≡ true → fits (zig_zag_type t) (unzigzagged v) ≡ true
-unzigzagged_fits (types.primitive p n) null e h = h
-unzigzagged_fits (types.primitive p n) (int z) e h = unzigzag-held p (unsigned_abs z) (word_bits p z e h).1
+unzigzagged-held : (p : PType) (n : Nullability) (z : ℤ) → is_unsigned (types.primitive p n) ≡ true → lies_in p z ≡ true → lies_in (signed_of p) (unzigzagged_whole z) ≡ true
+unzigzagged-held p n z e h = unzigzag-held p (unsigned_abs z) (word_bits p z e h).1
 
 all_unzigzagged_fit : (t : PlainType) (rs : List PlainValue) → is_unsigned t ≡ true → list_all (fits t) rs ≡ true → list_all (fits (zig_zag_type t)) (map unzigzagged rs) ≡ true
-all_unzigzagged_fit t [] e h = refl
-all_unzigzagged_fit t (r ∷ rs) e h = let b = and_parts _ _ h in and_from _ _ (unzigzagged_fits t r e b.0) (all_unzigzagged_fit t rs e b.1)
+all_unzigzagged_fit (types.primitive p n) rs e h = all_fit-each_int unzigzagged_whole p (signed_of p) n (λ z l. unzigzagged-held p n z e l) rs h
 
 -- ---- a constructor's tree is well formed, where nothing is refused
 
@@ -71,32 +69,12 @@ encoded-word encoded i z h l e = int_word (tree_type encoded) z h.1.unsigned (ap
 
 -- ---- decoding: whole numbers with 0 beneath nulls, and validity
 
--- the number whose zigzag a whole number is
-abbrev pub unzigzagged_whole : ℤ → ℤ
-unzigzagged_whole z = unzigzag (unsigned_abs z)
-
-wholes-unzigzagged : (rs : List PlainValue) → map whole_or_zero (map unzigzagged rs) ≡ map unzigzagged_whole (map whole_or_zero rs)
-wholes-unzigzagged [] = refl
-wholes-unzigzagged (null ∷ rs) = ap (λ xs. pos 0 ∷ xs) (wholes-unzigzagged rs)
-wholes-unzigzagged (int z ∷ rs) = ap (λ xs. unzigzagged_whole z ∷ xs) (wholes-unzigzagged rs)
-
+-- 0 is its own zigzag
 pub wholes-zig_zag : (encoded : Tree) → map whole_or_zero (rows (zig_zag encoded)) ≡ map unzigzagged_whole (map whole_or_zero (rows encoded))
-wholes-zig_zag encoded = wholes-unzigzagged (rows encoded)
-
-is_null-unzigzagged : (v : PlainValue) → is_null (unzigzagged v) ≡ is_null v
-is_null-unzigzagged null = refl
-is_null-unzigzagged (int z) = refl
-
-any_null-unzigzagged : (rs : List PlainValue) → list_any is_null (map unzigzagged rs) ≡ list_any is_null rs
-any_null-unzigzagged [] = refl
-any_null-unzigzagged (r ∷ rs) = rw (is_null-unzigzagged r, any_null-unzigzagged rs) refl
-
-bits-unzigzagged : (rs : List PlainValue) → valid_bits (map unzigzagged rs) ≡ valid_bits rs
-bits-unzigzagged [] = refl
-bits-unzigzagged (r ∷ rs) = λ i. not (is_null-unzigzagged r i) ∷ bits-unzigzagged rs i
+wholes-zig_zag encoded = wholes-each_int-zero unzigzagged_whole refl (rows encoded)
 
 pub any_null-zig_zag : (encoded : Tree) → list_any is_null (rows (zig_zag encoded)) ≡ list_any is_null (rows encoded)
-any_null-zig_zag encoded = any_null-unzigzagged (rows encoded)
+any_null-zig_zag encoded = any_null-each_int unzigzagged_whole (rows encoded)
 
 pub validity-zig_zag : (encoded : Tree) → validity (rows (zig_zag encoded)) ≡ validity (rows encoded)
-validity-zig_zag encoded = rw (any_null-unzigzagged (rows encoded), bits-unzigzagged (rows encoded)) refl
+validity-zig_zag encoded = validity-each_int unzigzagged_whole (rows encoded)

@@ -1,4 +1,4 @@
--- Whole numbers with 0 where a row isn't valid, as a plain tree holds them, and what codes pick.
+-- Items with a default where a row isn't valid, as a plain tree holds them, and what codes pick.
 use Rattle.std.specs.Prelude.{ℕ, ℤ, pos, Bool, true, false, slice_index_or, ◌&&◌, ◌||◌, List, [], ◌∷◌, None, Some, cond}
 use Rattle.std.specs.Ordering.{int_eq}
 use Rattle.vx_base.specs.declared.ptype.PType.{PType}
@@ -6,25 +6,31 @@ use Rattle.vx_base.specs.Integers.{bits_in}
 use Rattle.vx_model.specs.Tree.{Validity}
 use Rattle.vx_model.specs.Rows.{is_valid_at}
 
--- 0 where the mask is false; what lies behind the mask stays
-abbrev pub zeroed : List Bool → List ℤ → List ℤ
-zeroed [] xs = xs
-zeroed (bit ∷ bits) [] = []
-zeroed (bit ∷ bits) (x ∷ xs) = cond bit x (pos 0) ∷ zeroed bits xs
+-- the default where the mask is false; what lies behind the mask stays
+abbrev pub zeroed : {A : Type 0} → A → List Bool → List A → List A
+zeroed default [] xs = xs
+zeroed default (bit ∷ bits) [] = []
+zeroed default (bit ∷ bits) (x ∷ xs) = cond bit x default ∷ zeroed default bits xs
 
-abbrev pub zeroed_by : Validity → List ℤ → List ℤ
-zeroed_by None xs = xs
-zeroed_by (Some bits) xs = zeroed bits xs
+-- the same where the row isn't valid
+abbrev pub zeroed_by : {A : Type 0} → A → Validity → List A → List A
+zeroed_by default None xs = xs
+zeroed_by default (Some bits) xs = zeroed default bits xs
 
--- whether each number whose bit is false is 0
-abbrev pub zero_beneath : List Bool → List ℤ → Bool
-zero_beneath [] xs = true
-zero_beneath (bit ∷ bits) [] = true
-zero_beneath (bit ∷ bits) (x ∷ xs) = (bit || int_eq x (pos 0)) && zero_beneath bits xs
+-- whether each item whose bit is false passes the test for the default
+abbrev pub zero_beneath : {A : Type 0} → (A → Bool) → List Bool → List A → Bool
+zero_beneath is_default [] xs = true
+zero_beneath is_default (bit ∷ bits) [] = true
+zero_beneath is_default (bit ∷ bits) (x ∷ xs) = (bit || is_default x) && zero_beneath is_default bits xs
 
-abbrev pub zero_beneath_by : Validity → List ℤ → Bool
-zero_beneath_by None xs = true
-zero_beneath_by (Some bits) xs = zero_beneath bits xs
+-- the same of each item whose row isn't valid
+abbrev pub zero_beneath_by : {A : Type 0} → (A → Bool) → Validity → List A → Bool
+zero_beneath_by is_default None xs = true
+zero_beneath_by is_default (Some bits) xs = zero_beneath is_default bits xs
+
+-- the test for the default of whole numbers
+abbrev pub is_zero : ℤ → Bool
+is_zero z = int_eq z (pos 0)
 
 -- the item whose place a code's bits are, in the codes' type; another where there is none
 abbrev pub picked : {A : Type 0} → PType → List A → A → ℤ → A

@@ -1,5 +1,5 @@
 -- The rows of a tree, the values that it stands for; the children are decoded first.
-use Rattle.std.specs.Prelude.{ℕ, ◌+◌, pos, negsuc, unsigned_abs, ◌+ℤ◌, Bool, true, false, ◌==◌, List, [], ◌∷◌, map, Option, None, Some, position, replicate, slice_index_or, cond}
+use Rattle.std.specs.Prelude.{ℕ, ◌+◌, ℤ, pos, negsuc, unsigned_abs, ◌+ℤ◌, Bool, true, false, ◌==◌, List, [], ◌∷◌, map, Option, None, Some, position, replicate, slice_index_or, cond}
 use Rattle.std.specs.List.{range_with_len}
 use Rattle.vx_base.specs.Packed.{packed_row}
 use Rattle.vx_base.specs.PlainScalar.{PlainScalar}
@@ -57,15 +57,26 @@ patched (i ∷ is) (row ∷ rows) fill n = cond (is_index i n) row (patched is r
 abbrev pub packed_at : PlainPacked → ℕ → PlainValue
 packed_at k i = int (pos (packed_row k.bytes k.width i))
 
--- a row and the reference, summed in the reference's type
-abbrev pub moved : PlainScalar → PlainValue → PlainValue
-moved reference null = null
-moved reference (int z) = int (wrap (integer_of reference.dtype) (whole_or_zero reference.value +ℤ z))
+-- the function of an integer; null stays null
+abbrev pub each_int : (ℤ → ℤ) → PlainValue → PlainValue
+each_int f null = null
+each_int f (int z) = int (f z)
 
--- the integer whose zigzag a row is
+-- a whole number and the reference, summed in the reference's type
+abbrev pub summed : PlainScalar → ℤ → ℤ
+summed reference z = wrap (integer_of reference.dtype) (whole_or_zero reference.value +ℤ z)
+
+-- the same of a row
+abbrev pub moved : PlainScalar → PlainValue → PlainValue
+moved reference = each_int (summed reference)
+
+-- the whole number whose zigzag a whole number is
+abbrev pub unzigzagged_whole : ℤ → ℤ
+unzigzagged_whole z = unzigzag (unsigned_abs z)
+
+-- the same of a row
 abbrev pub unzigzagged : PlainValue → PlainValue
-unzigzagged null = null
-unzigzagged (int z) = int (unzigzag (unsigned_abs z))
+unzigzagged = each_int unzigzagged_whole
 
 -- the value whose place a code is; null of a null code
 abbrev pub looked_up : List PlainValue → PlainValue → PlainValue

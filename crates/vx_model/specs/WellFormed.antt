@@ -44,7 +44,7 @@ pub record IsPatches (len offset : ℕ) (indices values : Tree) : Type 0 where
   pub ascending : IsTrue (ascend offset (offset + len) (rows indices))
 
 -- whole blocks of rows, none wider than the type's natural numbers
-pub record IsPacked (k : PlainPacked) : Type 0 where
+pub record IsWellPacked (k : PlainPacked) : Type 0 where
   pub held : IsTrue (list_all (λ byte. nat_lt byte 256) k.bytes)
   pub sized : length k.bytes ≡ packed_size k.width k.len
   pub narrow : IsTrue (nat_le k.width (natural_bits k.ptype))
@@ -87,9 +87,9 @@ abbrev pub WellFormed : Tree → Type 0
 WellFormed (primitive p xs valid n) = IsPrimitive p xs valid n × RowsFit (primitive p xs valid n)
 WellFormed (constant s len) = IsTrue (fits s.dtype s.value) × RowsFit (constant s len)
 WellFormed (masked child valid) = WellFormed child × IsMasked child valid × RowsFit (masked child valid)
-WellFormed (bit_packed k) = IsPacked k × RowsFit (bit_packed k)
+WellFormed (bit_packed k) = IsWellPacked k × RowsFit (bit_packed k)
 WellFormed (bit_packed_with k len offset indices values) =
-    WellFormed indices × WellFormed values × IsPatches len offset indices values × IsPacked k × IsPatched k len values
+    WellFormed indices × WellFormed values × IsPatches len offset indices values × IsWellPacked k × IsPatched k len values
     × RowsFit (bit_packed_with k len offset indices values)
 WellFormed (frame_of_reference encoded reference) = WellFormed encoded × IsFrame encoded reference × RowsFit (frame_of_reference encoded reference)
 WellFormed (zig_zag encoded) = WellFormed encoded × IsZigZag encoded × RowsFit (zig_zag encoded)

@@ -1,0 +1,17 @@
+-- The first count of a column is that of its own rows, whatever its type.
+use Rattle.std.proofs.Common.{◌≡◌, ◌≤◌, ℕ, List, [], ◌∷◌, length, true, refl, subst}
+use Rattle.std.specs.Prelude.{nat_le}
+use Rattle.std.specs.List.{list_all}
+use Rattle.std.proofs.lemmas.Bool.{and_parts, leb-true}
+use Rattle.vx_base.specs.PlainType.{PlainType, primitive}
+use Rattle.vx_base.specs.PlainValue.{PlainValue}
+use Rattle.vx_model.specs.Extents.{counts}
+
+pub counts-first : (t : PlainType) (vs : List PlainValue) → (rest : List ℕ) × (counts t vs ≡ length vs ∷ rest)
+counts-first (primitive p n) vs = ([], refl)
+
+-- where no count is above a limit, the rows are no more
+pub rows-few : (t : PlainType) (vs : List PlainValue) (most : ℕ) → list_all (λ count. nat_le count most) (counts t vs) ≡ true → length vs ≤ most
+rows-few t vs most h =
+    let first = counts-first t vs in
+    leb-true (length vs) most (and_parts (nat_le (length vs) most) (list_all (λ count. nat_le count most) first.0) (subst (λ cs. list_all (λ count. nat_le count most) cs ≡ true) first.1 h)).0
