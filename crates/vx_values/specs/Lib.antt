@@ -1,0 +1,3 @@
+pub mod Codes
+pub mod IntsOf
+pub mod ValuesOf

@@ -1,0 +1,120 @@
+//! Integers of some bits each.
+
+ghost use Rattle.std.specs.List.{list_all};
+ghost use Rattle.std.specs.Prelude.{◌≡◌, ◌<◌, length, pos, IsTrue, map, ◌≤◌, nat_lt, sum, ◌^◌, nat_le};
+ghost use Rattle.vx_base.specs.Answers.{Answers, OrMemory};
+ghost use Rattle.vx_base.specs.Integers.{bits_in, bits_of, natural_bits};
+ghost use Rattle.vx_base.specs.Packed.{bytes_in, joined, kept_rows, packed_size, wide_rows, packed_row};
+ghost use Rattle.vx_blocks.specs.Histogram.{IsHistogram};
+ghost use Rattle.vx_model.specs.Rows.{below};
+ghost use Rattle.vx_values.specs.IntsOf.{ptype_of, wholes_of};
+
+use super::Ints;
+use std::alloc::Global;
+use vx_base::{Bytes, IntList, Integer, Mask, PType, VortexResult};
+use vx_blocks::{bit_width_histogram, pack, unpack_integers, wide_rows};
+
+impl Ints {
+    /// How many rows have exactly w binary digits, as entry w, for w from 0 to the type's bits; a null has none.
+    pub fn bit_width_histogram(&self, alloc: Global, valid: &Mask) -> VortexResult<Vec<u64>>
+        requires { length valid.now ≡ length (wholes_of self.now) }
+        ensures total { OrMemory result (λ counts. sum counts.items ≡ length (wholes_of self.now)) }
+        ensures widths { OrMemory result (λ counts. IsHistogram (bits_of (ptype_of self.now)) (kept_rows 64 (map (bits_in (ptype_of self.now)) (wholes_of self.now)) valid.now) counts.items) }
+    {
+        with_ints!(self, items => bit_width_histogram(alloc, items.as_slice(), valid))
+    }
+
+    /// The rows packed at a width, in whole blocks of 1,024; a null and a row that is wider are 0.
+    pub fn pack(&self, alloc: Global, valid: &Mask, width: u32) -> VortexResult<Bytes>
+        requires same { length valid.now ≡ length (wholes_of self.now) }
+        requires within { width ≤ bits_of (ptype_of self.now) }
+        ensures { Answers result (bytes_in (packed_size width (length (wholes_of self.now))) (joined width (kept_rows width (map (bits_in (ptype_of self.now)) (wholes_of self.now)) valid.now))) }
+    {
+        with_ints!(self, items => packed(alloc, items.as_slice(), valid, width))
+    }
+
+    /// The numbers of the rows that are valid and wider than a width, in their order.
+    pub fn wide_rows(&self, alloc: Global, valid: &Mask, width: u32) -> VortexResult<IntList<u64>>
+        requires same { length valid.now ≡ length (wholes_of self.now) }
+        requires within { width ≤ bits_of (ptype_of self.now) }
+        ensures { Answers result (wide_rows width (map (bits_in (ptype_of self.now)) (wholes_of self.now)) valid.now) }
+    {
+        with_ints!(self, items => wide(alloc, items.as_slice(), valid, width))
+    }
+
+    /// Integers of `width` bits each from their packed bytes.
+    pub fn unpacked(
+        alloc: Global,
+        ptype: PType,
+        width: u32,
+        packed: &[u8],
+        len: u64,
+    ) -> VortexResult<Ints>
+        requires narrow { IsTrue (nat_le width (natural_bits ptype)) }
+        requires sized { length packed.now ≡ packed_size width len }
+        ensures { OrMemory result (λ ints. (ptype_of ints ≡ ptype) × (wholes_of ints ≡ below (λ i. pos (packed_row packed.now width i)) len)) }
+    {
+        match ptype {
+            PType::U8 => Ok(Ints::U8(unpacked_list(alloc, width, packed, len)?)),
+            PType::U16 => Ok(Ints::U16(unpacked_list(alloc, width, packed, len)?)),
+            PType::U32 => Ok(Ints::U32(unpacked_list(alloc, width, packed, len)?)),
+            PType::U64 => Ok(Ints::U64(unpacked_list(alloc, width, packed, len)?)),
+            PType::I8 => Ok(Ints::I8(unpacked_list(alloc, width, packed, len)?)),
+            PType::I16 => Ok(Ints::I16(unpacked_list(alloc, width, packed, len)?)),
+            PType::I32 => Ok(Ints::I32(unpacked_list(alloc, width, packed, len)?)),
+            PType::I64 => Ok(Ints::I64(unpacked_list(alloc, width, packed, len)?)),
+        }
+    }
+}
+
+#[tactic(auto, using(vx_base::proofs::BytesLemmas::bytes_are))]
+fn packed<T: Integer>(alloc: Global, items: &[T], valid: &Mask, width: u32) -> VortexResult<Bytes>
+    requires same { length valid.now ≡ length items.now }
+    requires within { width ≤ bits_of T.kind }
+    ensures { Answers result (bytes_in (packed_size width (length items.now)) (joined width (kept_rows width (map (bits_in T.kind) (map T.whole items.now)) valid.now))) }
+{
+    let packed = pack(alloc, items, valid, width)?;
+    known_bytes(packed.as_slice());
+    Ok(Bytes::from_vec(packed))
+}
+
+fn wide<T: Integer>(
+    alloc: Global,
+    items: &[T],
+    valid: &Mask,
+    width: u32,
+) -> VortexResult<IntList<u64>>
+    requires same { length valid.now ≡ length items.now }
+    requires within { width ≤ bits_of T.kind }
+    ensures { Answers result (wide_rows width (map (bits_in T.kind) (map T.whole items.now)) valid.now) }
+{
+    Ok(IntList::from_vec(wide_rows(alloc, items, valid, width)?))
+}
+
+// The same as a list of one type.
+fn unpacked_list<T: Integer>(
+    alloc: Global,
+    width: u32,
+    packed: &[u8],
+    len: u64,
+) -> VortexResult<IntList<T>>
+    requires narrow { IsTrue (nat_le width (natural_bits T.kind)) }
+    requires sized { length packed.now ≡ packed_size width len }
+    ensures { OrMemory result (λ list. map T.whole list ≡ below (λ i. pos (packed_row packed.now width i)) len) }
+{
+    let rows = unpack_integers(alloc, packed, width, 0, len)?;
+    Ok(IntList::from_vec(rows))
+}
+
+/// Tells a proof that each byte is below 256.
+pub fn known_bytes(bytes: &[u8])
+    ensures { IsTrue (list_all (λ byte. nat_lt byte 256) bytes.now) }
+{}
+
+/// The bytes of whole blocks of 1,024 rows at a width in bits.
+pub fn packed_size(width: u32, len: u64) -> u128
+    ensures value { result ≡ packed_size width len }
+    ensures small { result < 2 ^ 100 }
+{
+    128 * u128::from(width) * ((u128::from(len) + 1023) / 1024)
+}

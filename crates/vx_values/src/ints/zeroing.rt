@@ -1,0 +1,119 @@
+//! 0 beneath nulls.
+
+ghost use Rattle.std.specs.Prelude.{◌≡◌, ◌<◌, length, slice_index_or, pos, true, map, slice_set, if◌then◌else◌, ◌||◌, false};
+ghost use Rattle.vx_base.specs.Answers.{OrMemory};
+ghost use Rattle.vx_model.specs.Decoded.{zeroed, zeroed_by, zero_beneath, is_zero};
+ghost use Rattle.vx_model.specs.Refusals.{validity_length};
+ghost use Rattle.vx_values.specs.IntsOf.{ptype_of, wholes_of};
+
+use super::Ints;
+use std::alloc::Global;
+use vx_base::{IntList, Integer, Mask, VortexResult};
+
+impl Ints {
+    /// A copy with 0 where a row isn't valid.
+    pub fn decoded(&self, alloc: Global, valid: &Option<Mask>) -> VortexResult<Ints>
+        requires { validity_length valid.now (length (wholes_of self.now)) ≡ true }
+        ensures { OrMemory result (λ ints. (ptype_of ints ≡ ptype_of self.now) × (wholes_of ints ≡ zeroed_by (pos 0) valid.now (wholes_of self.now))) }
+    {
+        map_ints!(self, items => decoded(alloc, items.as_slice(), valid)?)
+    }
+
+    /// The list with 0 where the mask is false.
+    pub fn zeroed(self, mask: &Mask) -> VortexResult<Ints>
+        requires { length mask.now ≡ length (wholes_of self) }
+        ensures { OrMemory result (λ ints. (ptype_of ints ≡ ptype_of self) × (wholes_of ints ≡ zeroed (pos 0) mask.now (wholes_of self))) }
+    {
+        map_ints!(self, items => zeroed(items, mask.as_slice()))
+    }
+
+    /// The list with 0 where a row isn't valid.
+    pub fn zeroed_by(self, valid: &Option<Mask>) -> VortexResult<Ints>
+        requires { validity_length valid.now (length (wholes_of self)) ≡ true }
+        ensures { OrMemory result (λ ints. (ptype_of ints ≡ ptype_of self) × (wholes_of ints ≡ zeroed_by (pos 0) valid.now (wholes_of self))) }
+    {
+        match valid {
+            Some(mask) => self.zeroed(mask),
+            None => Ok(self),
+        }
+    }
+
+    /// Whether each integer whose bit is false is 0.
+    pub fn is_zero_beneath(&self, mask: &Mask) -> bool
+        requires { length mask.now ≡ length (wholes_of self.now) }
+        ensures { result ≡ zero_beneath is_zero mask.now (wholes_of self.now) }
+    {
+        with_ints!(self, items => is_zero_beneath(items.as_slice(), mask.as_slice()))
+    }
+}
+
+#[inline(always)]
+fn kept_or_zero<T: Integer>(item: T, bit: bool) -> T
+    ensures { T.whole result ≡ (if bit then T.whole item else pos 0) }
+{
+    if bit { item } else { T::zero() }
+}
+
+// Leaves the item where the bit is true, else writes 0.
+#[inline(always)]
+fn zero_at<T: Integer>(items: &mut [T], row: usize, bit: bool)
+    requires { row < length items.old }
+    ensures { map T.whole items.new ≡ slice_set (map T.whole items.old) row (if bit then slice_index_or (map T.whole items.old) row (pos 0) else pos 0) }
+{
+    items[row] = kept_or_zero(items[row], bit);
+}
+
+// Writes 0 where the mask is false.
+#[tactic(auto, using(vx_model::proofs::ZeroLemmas::zeroing))]
+fn zero_beneath<T: Integer>(items: &mut [T], bits: &[bool])
+    requires { length bits.now ≡ length items.old }
+    ensures { map T.whole items.new ≡ zeroed (pos 0) bits.now (map T.whole items.old) }
+{
+    for row in 0..bits.len() {
+        zero_at(items, row, bits[row]);
+    }
+}
+
+fn zeroed<T: Integer>(items: IntList<T>, bits: &[bool]) -> IntList<T>
+    requires { length bits.now ≡ length items }
+    ensures { map T.whole result ≡ zeroed (pos 0) bits.now (map T.whole items) }
+{
+    let mut items = items.into_vec();
+    zero_beneath(items.as_mut_slice(), bits);
+    IntList::from_vec(items)
+}
+
+// A copy with 0 where a row isn't valid.
+fn decoded<T: Integer>(alloc: Global, items: &[T], valid: &Option<Mask>) -> VortexResult<IntList<T>>
+    requires { validity_length valid.now (length items.now) ≡ true }
+    ensures { OrMemory result (λ copy. map T.whole copy ≡ zeroed_by (pos 0) valid.now (map T.whole items.now)) }
+{
+    let copy = IntList::from_vec(Vec::from_slice(alloc, items)?);
+    match valid {
+        Some(mask) => Ok(zeroed(copy, mask.as_slice())),
+        None => Ok(copy),
+    }
+}
+
+// Whether the item is 0 where its bit is false.
+#[inline(always)]
+fn is_zero_at<T: Integer>(items: &[T], bits: &[bool], row: usize) -> bool
+    requires in_items { row < length items.now }
+    requires in_bits { row < length bits.now }
+    ensures { result ≡ (slice_index_or bits.now row false || is_zero (slice_index_or (map T.whole items.now) row (pos 0))) }
+{
+    bits[row] || items[row].to_whole() == 0
+}
+
+#[tactic(auto, using(vx_model::proofs::ZeroLemmas::zeroing))]
+fn is_zero_beneath<T: Integer>(items: &[T], bits: &[bool]) -> bool
+    requires { length bits.now ≡ length items.now }
+    ensures { result ≡ zero_beneath is_zero bits.now (map T.whole items.now) }
+{
+    for row in 0..bits.len() {
+        if !is_zero_at(items, bits, row) {
+            return false;
+        }
+    }
+    true
+}
