@@ -1,5 +1,5 @@
 pub mod AtNode
-pub mod Cells
 pub mod Decodings
+pub mod Looks
 pub mod Making
 pub mod Unpacked

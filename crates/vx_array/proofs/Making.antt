@@ -1,15 +1,13 @@
 -- What a constructor has to show of its array, from its tests.
-use Rattle.std.proofs.Common.{◌≡◌, ℕ, suc, ℤ, List, [], ◌∷◌, Bool, true, false, None, Some, length, refl, sym, ◌∙◌, arith, Fits, w8}
-use Rattle.std.proofs.lemmas.Bool.Decides.{nat_tests}
-use Rattle.std.specs.Prelude.{IsTrue, IfSome, Option, nat_lt, slice_index_or}
+use Rattle.std.proofs.Common.{◌≡◌, ℕ, List, Bool, true, false, None, Some, length, refl, sym, ◌∙◌}
+use Rattle.std.specs.Prelude.{IsTrue, IfSome, Option, nat_lt}
 use Rattle.std.specs.List.{list_any, list_all}
 use Rattle.vx_base.specs.declared.dtype.Nullability.{Nullability}
-use Rattle.vx_base.specs.declared.ptype.PType.TheVariants.{U64}
 use Rattle.vx_base.specs.Integers.{lies_in}
 use Rattle.vx_base.specs.PlainScalar.{PlainScalar, fits}
 use Rattle.vx_base.specs.PlainType.{PlainType, is_leaf, is_nullable, integer_of, nullability_of}
 use Rattle.vx_base.specs.PlainType as types
-use Rattle.vx_base.specs.PlainValue.{PlainValue, is_null, int, cell}
+use Rattle.vx_base.specs.PlainValue.{is_null}
 use Rattle.vx_model.specs.Tree.{Tree, Validity, PlainPacked, PlainPatches, primitive, constant, masked, packed_of, frame_of_reference, zig_zag, dict}
 use Rattle.vx_model.specs.Refusals.{validity_length, validity_allowed, kept, kept_packed, bit_packed_refusal, for_refusal, zig_zag_refusal, dict_refusal}
 use Rattle.vx_model.specs.Rows.{rows}
@@ -21,8 +19,8 @@ use Rattle.vx_model.proofs.PackedLemmas.{packed_accepted, for_accepted, length-f
 use Rattle.vx_model.proofs.PackedOfLemmas.{type-packed_of, length-packed_of}
 use Rattle.vx_model.proofs.RowLemmas.{length-primitive, length-constant, length-masked}
 use Rattle.vx_model.proofs.ZigZagLemmas.{zig_zag_accepted, length-zig_zag}
-use Rattle.vx_array.specs.declared.ints.Ints.{Ints}
-use Rattle.vx_array.specs.IntsOf.{ptype_of, wholes_of}
+use Rattle.vx_values.specs.declared.ints.Ints.{Ints}
+use Rattle.vx_values.specs.IntsOf.{ptype_of, wholes_of}
 use Rattle.vx_array.specs.IsArray.{IsArray}
 
 pub primitive_array : (xs : Ints) (valid : Validity) (n : Nullability) (own : PlainType) (len : ℕ) → len ≡ length (wholes_of xs) → validity_length valid len ≡ true → validity_allowed valid n ≡ true
@@ -32,7 +30,7 @@ primitive_array xs valid n own len len_is lengths allowed held own_is =
     record { well_formed = w; own_type_is = own_is; len_is = len_is ∙ sym (length-primitive (ptype_of xs) (wholes_of xs) (kept valid) n w) }
 
 pub constant_array : (s : PlainScalar) (len : ℕ) → IsTrue (fits s.dtype s.value) → IsArray (constant s len) None len
-constant_array s len h = record { well_formed = constant_made s len h; own_type_is = tt; len_is = sym (length-constant s len) }
+constant_array s len h = record { well_formed = constant_made s len h; own_type_is = refl; len_is = sym (length-constant s len) }
 
 pub masked_array : (child : Tree) (valid : List Bool) (own : PlainType) (len : ℕ) → IsTrue (is_leaf (tree_type child)) → IsTrue (is_nullable (tree_type child)) → length valid ≡ length (rows child)
     → list_any is_null (rows child) ≡ false → WellFormed child → own ≡ tree_type child → len ≡ length (rows child) → IsArray (masked child valid) (Some own) len
@@ -56,11 +54,3 @@ zig_zag_array encoded own len accepted w own_is len_is = record { well_formed = 
 
 pub dict_array : (codes values : Tree) (own : PlainType) (len : ℕ) → dict_refusal codes values ≡ None → WellFormed codes → WellFormed values → own ≡ tree_type (dict codes values) → len ≡ length (rows codes) → IsArray (dict codes values) (Some own) len
 dict_array codes values own len accepted c v own_is len_is = record { well_formed = dict_accepted codes values accepted c v; own_type_is = own_is; len_is = len_is ∙ sym (length-dict codes values) }
-
-pub bytes_fit : (xs : List ℕ) → ((i : ℕ) → Fits w8 (slice_index_or xs i 0)) → list_all (λ byte. nat_lt byte 256) xs ≡ true
-bytes_fit [] a = refl
-bytes_fit (x ∷ xs) a = let b = a 0 in rw (bytes_fit xs (λ k. a (suc k))) (grind (arith, nat_tests, b))
-
-pub words_where : (o : Option ℤ) (v : PlainValue) → cell o ≡ v → ((z : ℤ) → v ≡ int z → lies_in U64 z ≡ true) → IfSome o (λ z. IsTrue (lies_in U64 z))
-words_where None v e f = tt
-words_where (Some z) v e f = f z (sym e)

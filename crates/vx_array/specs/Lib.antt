@@ -1,5 +1,5 @@
-pub mod IntsOf
 pub mod IsArray
 pub mod IsDecoded
+pub mod Look
 pub mod TreeFalls
 pub mod TreeOf

@@ -1,7 +1,7 @@
 -- The tree of a node.
 use Rattle.std.specs.Prelude.{Option, None, Some, Box}
 use Rattle.std.specs.declared.alloc.Global.{Global}
-use Rattle.vx_array.specs.IntsOf.{ptype_of, wholes_of}
+use Rattle.vx_values.specs.IntsOf.{ptype_of, wholes_of}
 use Rattle.vx_array.specs.declared.array.Node.{Node}
 use Rattle.vx_array.specs.declared.array.Node.TheVariants.{Primitive, Constant, Masked, BitPacked, FoR, ZigZag, Dict}
 use Rattle.vx_model.specs.Tree.{Tree, PlainPatches, primitive, constant, masked, plain_packed, packed_of, frame_of_reference, zig_zag, dict}

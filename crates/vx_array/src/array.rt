@@ -3,9 +3,9 @@
 ghost use Rattle.std.specs.Prelude.{◌≡◌, length, slice_get, option_copied};
 ghost use Rattle.vx_model.specs.Rows.{rows};
 
-use crate::ints::Ints;
 use std::marker::Model;
 use vx_base::{ArrayId, Bytes, DType, Mask, Nullability, PType, Scalar};
+use vx_values::Ints;
 
 /// The root of a tree with its own fields. Children stand in boxes.
 #[cycle(tree)]
@@ -41,7 +41,6 @@ pub struct Patches {
 
 /// A well-formed tree of encodings. Contracts see it as plain data.
 #[cycle(tree)]
-#[derive(Drop)]
 pub struct ArrayRef {
     pub(crate) node: Node,
     // The type, but where the root is a Constant, whose scalar has it.
@@ -71,6 +70,18 @@ impl Model for ArrayRef {
     ghost use Rattle.vx_array.specs.TreeFalls.{depth_le-node_count};
 
     ghost size_decreases = { λ a h. depth_le-node_count a.node };
+}
+
+// Letting go of a tree is one call. Derived, it would be written out at each way out of each function that owns one.
+impl Drop for ArrayRef {
+    #[cycle(letting_go)]
+    fn drop(self) {
+        let ArrayRef {
+            node: _,
+            own_type: _,
+            len: _,
+        } = self;
+    }
 }
 
 impl Model for Patches {
@@ -114,7 +125,12 @@ impl ArrayRef {
         ensures tree { tree_of result ≡ self }
         ensures well_formed { WellFormed self }
     {
-        self.node
+        let ArrayRef {
+            node,
+            own_type: _,
+            len: _,
+        } = self;
+        node
     }
 
     /// Tells a proof that the tree is well formed.

@@ -6,13 +6,13 @@ ghost use Rattle.vx_model.specs.Plain.{plain};
 ghost use Rattle.vx_array.specs.IsDecoded.{IsDecoded};
 
 use crate::array::{ArrayRef, Node};
-use crate::decoded::Decoded;
 use crate::node::{
     decoded_by_codes, decoded_constant, decoded_masked, decoded_moved, decoded_packed,
     decoded_primitive, decoded_zig_zag,
 };
 use std::alloc::Global;
 use vx_base::VortexResult;
+use vx_values::Decoded;
 
 impl ArrayRef {
     /// The plain tree of the same type and rows.
@@ -20,8 +20,8 @@ impl ArrayRef {
         ensures { Answers result (plain (column_of self.now)) }
     {
         self.known();
-        let rows = self.decoded(alloc)?;
-        match ArrayRef::primitive(rows.values, rows.valid, self.dtype().nullability()) {
+        let (values, valid) = self.decoded(alloc)?.into_integers();
+        match ArrayRef::primitive(values, valid, self.dtype().nullability()) {
             Ok(plain) => Ok(plain),
             Err(refused) => Err(refused.error),
         }
@@ -39,12 +39,16 @@ impl ArrayRef {
                 decoded_packed(alloc, *ptype, *width, packed, *len, valid, patches)
             }
             Node::FoR(encoded, reference) => {
-                decoded_moved(alloc, encoded.decoded(alloc)?, reference)
+                let (differences, valid) = encoded.decoded(alloc)?.into_integers();
+                decoded_moved(alloc, differences, valid, reference)
             }
-            Node::ZigZag(encoded) => decoded_zig_zag(alloc, encoded.decoded(alloc)?),
+            Node::ZigZag(encoded) => {
+                let (zigzags, valid) = encoded.decoded(alloc)?.into_integers();
+                decoded_zig_zag(alloc, zigzags, valid)
+            }
             Node::Dict(codes, values) => {
-                let codes = codes.decoded(alloc)?;
-                decoded_by_codes(alloc, codes, values.decoded(alloc)?)
+                let (codes, valid) = codes.decoded(alloc)?.into_integers();
+                decoded_by_codes(alloc, codes, valid, values.decoded(alloc)?)
             }
         }
     }

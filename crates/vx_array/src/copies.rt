@@ -5,7 +5,10 @@ ghost use Rattle.vx_base.specs.Answers.{Answers, OrMemory};
 ghost use Rattle.vx_base.specs.TypeOf.{type_of};
 
 use crate::array::{ArrayRef, Node, Patches};
-use crate::node::copy_validity;
+use crate::node::{
+    copied_constant, copied_dict, copied_frame, copied_masked, copied_packed, copied_primitive,
+    copied_zig_zag,
+};
 use std::alloc::Global;
 use vx_base::{DType, VortexResult};
 
@@ -34,41 +37,36 @@ impl Node {
     {
         match self {
             Node::Primitive(values, valid, nullability) => {
-                let values = values.copy(alloc)?;
-                let valid = copy_validity(valid, alloc)?;
-                Ok(Node::Primitive(values, valid, *nullability))
+                copied_primitive(alloc, values, valid, *nullability)
             }
-            Node::Constant(value, len) => Ok(Node::Constant(value.copy(alloc)?, *len)),
-            Node::Masked(child, valid) => {
-                let child = Box::new(alloc, child.copy(alloc)?)?;
-                Ok(Node::Masked(child, valid.copy(alloc)?))
-            }
+            Node::Constant(value, len) => copied_constant(alloc, value, *len),
+            Node::Masked(child, valid) => copied_masked(alloc, child.copy(alloc)?, valid),
             Node::BitPacked(ptype, width, packed, len, valid, patches, nullability) => {
-                let packed = packed.copy(alloc)?;
-                let valid = copy_validity(valid, alloc)?;
-                let patches = match patches {
-                    Some(patches) => Some(Box::new(alloc, patches.copy(alloc)?)?),
-                    None => None,
-                };
-                Ok(Node::BitPacked(*ptype, *width, packed, *len, valid, patches, *nullability))
+                copied_packed(
+                    alloc,
+                    *ptype,
+                    *width,
+                    packed,
+                    *len,
+                    valid,
+                    patches,
+                    *nullability,
+                )
             }
-            Node::FoR(encoded, reference) => {
-                let encoded = Box::new(alloc, encoded.copy(alloc)?)?;
-                Ok(Node::FoR(encoded, reference.copy(alloc)?))
-            }
-            Node::ZigZag(encoded) => Ok(Node::ZigZag(Box::new(alloc, encoded.copy(alloc)?)?)),
+            Node::FoR(encoded, reference) => copied_frame(alloc, encoded.copy(alloc)?, reference),
+            Node::ZigZag(encoded) => copied_zig_zag(alloc, encoded.copy(alloc)?),
             Node::Dict(codes, values) => {
-                let codes = Box::new(alloc, codes.copy(alloc)?)?;
-                let values = Box::new(alloc, values.copy(alloc)?)?;
-                Ok(Node::Dict(codes, values))
+                let codes = codes.copy(alloc)?;
+                copied_dict(alloc, codes, values.copy(alloc)?)
             }
         }
     }
 }
 
 impl Patches {
+    // The same patches.
     #[cycle(copy)]
-    fn copy(&self, alloc: Global) -> VortexResult<Patches>
+    pub(crate) fn copy(&self, alloc: Global) -> VortexResult<Patches>
         ensures { Answers result self.now }
     {
         let indices = self.indices.copy(alloc)?;

@@ -5,18 +5,13 @@ mod array;
 mod arrays;
 mod canonical;
 mod copies;
-mod decoded;
-mod ints;
+mod look_up;
 mod node;
+mod parts;
 mod patches;
 mod reads;
 mod sizes;
-mod slices;
 
 pub use array::{ArrayRef, Node, Patches};
 pub use arrays::Arrays;
-pub use ints::Ints;
 pub use node::Made;
-
-#[cfg(test)]
-mod tests;

@@ -1,22 +1,23 @@
-//! Patches: how they are made, and which of them stands at a row.
+//! Patches: how they are made, and written into integers.
 
-ghost use Rattle.std.specs.Prelude.{◌≡◌, ◌<◌, ◌≤◌, ◌+◌, ◌-◌, ◌*◌, ◌^◌, ℕ, ℤ, length, IsTrue};
+ghost use Rattle.std.specs.Prelude.{◌≡◌, ◌+◌, ℕ, ℤ, length, IsTrue};
 ghost use Rattle.vx_base.specs.Answers.{MakesSurely};
 ghost use Rattle.vx_base.specs.PlainType.{is_integer};
 ghost use Rattle.vx_base.specs.declared.dtype.Nullability.TheVariants.{NonNullable};
 ghost use Rattle.vx_base.specs.PlainType as types;
 ghost use Rattle.vx_base.specs.PlainValue.{cell, int, whole_or_zero};
 ghost use Rattle.vx_model.specs.Refusals.{patches_refusal};
-ghost use Rattle.vx_model.specs.Rows.{rows, index_of, place_of, below, patched};
+ghost use Rattle.vx_model.specs.Rows.{rows, index_of, below, patched};
 ghost use Rattle.vx_model.specs.Tree.{patches};
 ghost use Rattle.vx_model.specs.TreeType.{tree_type};
 ghost use Rattle.vx_model.specs.WellFormed.{WellFormedPatches, ascend};
-ghost use Rattle.vx_array.specs.IntsOf.{ptype_of, wholes_of};
+ghost use Rattle.vx_values.specs.IntsOf.{ptype_of, wholes_of};
+
+mod search;
 
 use crate::array::{ArrayRef, Patches};
-use crate::ints::Ints;
-use std::sync::ledger::Ledger;
-use vx_base::{Refused, Steps, VortexError};
+use vx_base::{Refused, VortexError};
+use vx_values::Ints;
 
 impl Patches {
     /// Patches of an array of `array_len` rows. Refuses MismatchedTypes where the indices are no non-nullable integers,
@@ -96,57 +97,6 @@ impl Patches {
         ensures { result.now ≡ self.now.values }
     {
         &self.values
-    }
-
-    // The index that a patch of the row has.
-    fn index_at(&self, row: u64) -> u128
-        ensures { result ≡ self.now.offset + row }
-    {
-        u128::from(self.offset) + u128::from(row)
-    }
-
-    /// The place of the row's patch, found by halves. `row` is below the array's length. Each index that is read is a
-    /// step: p steps with 2^p at most 2 * patches + 1.
-    #[tactic(auto, using(vx_model::proofs::PatchLemmas::place_steps))]
-    pub fn search<L: Ledger>(&self, row: u64, steps: &mut Steps<L>) -> Option<u64>
-        requires { row < self.now.array_len }
-        ensures place { result ≡ place_of (rows self.now.indices) (self.now.offset + row) }
-        ensures rose { steps.old ≤ steps.new }
-        ensures probes { 2 ^ (steps.new - steps.old) ≤ 2 * length (rows self.now.indices) + 1 }
-    {
-        let wanted = self.index_at(row);
-        let mut low = 0;
-        let mut high = self.indices.len();
-        while low < high {
-            let middle = low + (high - low) / 2;
-            steps.tick();
-            match as_index(self.indices.integer_at(middle)) {
-                Some(index) if index == wanted => return Some(middle),
-                Some(index) if index < wanted => low = middle + 1,
-                _ => high = middle,
-            }
-        }
-        None
-    }
-
-    // The place of the row's patch, found by halves.
-    #[cycle(integer_at)]
-    #[tactic(auto, using(vx_model::proofs::PatchLemmas::place_steps))]
-    pub(crate) fn place_of(&self, row: u64) -> Option<u64>
-        ensures { result ≡ place_of (rows self.now.indices) (self.now.offset + row) }
-    {
-        let wanted = self.index_at(row);
-        let mut low = 0;
-        let mut high = self.indices.len();
-        while low < high {
-            let middle = low + (high - low) / 2;
-            match as_index(self.indices.integer_at(middle)) {
-                Some(index) if index == wanted => return Some(middle),
-                Some(index) if index < wanted => low = middle + 1,
-                _ => high = middle,
-            }
-        }
-        None
     }
 
     // The integers with each patch in its row.

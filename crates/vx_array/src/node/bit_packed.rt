@@ -1,31 +1,34 @@
 //! Integers of some bits each, and the values that are wider as patches.
 
-ghost use Rattle.std.specs.Prelude.{◌≡◌, ◌<◌, ◌≤◌, ◌^◌, length, true, nat_lt, MatchResult, IfSome, IsTrue, map, nat_le, pos};
-ghost use Rattle.std.specs.List.{list_all};
+ghost use Rattle.std.specs.Prelude.{◌≡◌, length, true, MatchResult, IfSome, IsTrue, map, nat_le, pos, ◌≤◌, ◌+◌, ◌-◌, ◌^◌, min, option_map, unwrap_or, if◌then◌else◌};
+ghost use Rattle.vx_array.specs.TreeOf.{unboxed, tree_of};
 ghost use Rattle.vx_base.specs.Answers.{Makes, OrMemory};
+ghost use Rattle.vx_base.specs.CellValue.{cell_value};
 ghost use Rattle.vx_base.specs.Integers.{natural_bits};
 ghost use Rattle.vx_base.specs.Packed.{packed_row, packed_size};
+ghost use Rattle.vx_base.specs.PlainType as types;
+ghost use Rattle.vx_base.specs.PlainValue.{int, whole_or_zero, null};
+ghost use Rattle.vx_base.specs.declared.dtype.Nullability.TheVariants.{NonNullable};
 ghost use Rattle.vx_model.specs.Decoded.{zeroed_by};
 ghost use Rattle.vx_model.specs.Refusals.{bit_packed_refusal, kept_packed, validity_length, patches_of_type, patches_length};
+ghost use Rattle.vx_model.specs.Rows.{below, is_valid_at, packed_at, packed_or_patch};
+ghost use Rattle.vx_model.specs.Size.{patches_size, validity_size};
 ghost use Rattle.vx_model.specs.Tree.{PlainPacked, plain_packed, packed_of};
-ghost use Rattle.vx_model.specs.WellFormed.{WellFormedPatches};
-ghost use Rattle.vx_base.specs.declared.dtype.Nullability.TheVariants.{NonNullable};
-ghost use Rattle.vx_base.specs.PlainType as types;
-ghost use Rattle.vx_base.specs.PlainValue.{whole_or_zero};
 ghost use Rattle.vx_model.specs.TreeType.{tree_type};
-ghost use Rattle.vx_model.specs.Rows.{below, packed_or_patch};
-ghost use Rattle.vx_array.specs.IntsOf.{ptype_of, wholes_of};
-ghost use Rattle.vx_array.specs.TreeOf.{unboxed};
+ghost use Rattle.vx_model.specs.WellFormed.{WellFormedPatches};
+ghost use Rattle.vx_values.specs.IntsOf.{ptype_of, wholes_of};
+ghost use Rattle.vx_values.specs.ValuesOf.{ints, AreRows};
 
 use crate::array::{ArrayRef, Node, Patches};
-use crate::decoded::{Decoded, behind};
-use crate::ints::Ints;
-use crate::node::{Made, copy_validity, has_length, is_allowed, keep};
+use crate::node::Made;
+use crate::sizes::validity_bytes;
 use std::alloc::Global;
-use vx_base::{
-    Bytes, DType, IntList, Integer, Mask, Nullability, PType, Refused, VortexError, VortexResult,
+use vx_base::{Bytes, Cell, DType, Mask, Nullability, PType, Refused, VortexError, VortexResult};
+use vx_blocks::get;
+use vx_values::{
+    Decoded, Ints, behind, copy_validity, has_length, is_allowed, is_valid, keep, known_bytes,
+    packed_size,
 };
-use vx_blocks::unpack_integers;
 
 impl ArrayRef {
     /// Integers of `width` bits each, null where `valid` is false, with the patches' values where they stand. The bytes
@@ -97,14 +100,6 @@ fn refusal(
     None
 }
 
-// The bytes of whole blocks of 1,024 rows at a width in bits.
-pub(crate) fn packed_size(width: u32, len: u64) -> u128
-    ensures value { result ≡ packed_size width len }
-    ensures small { result < 2 ^ 100 }
-{
-    128 * u128::from(width) * ((u128::from(len) + 1023) / 1024)
-}
-
 // Whether the patches that there are have values of the type.
 fn has_values_of(patches: &Option<Patches>, ptype: PType) -> bool
     ensures { result ≡ patches_of_type ptype patches.now }
@@ -140,11 +135,6 @@ fn boxed(alloc: Global, patches: Option<Patches>) -> Result<Option<Box<Patches>>
     }
 }
 
-// Tells a proof that each byte is below 256.
-fn known_bytes(bytes: &[u8])
-    ensures { IsTrue (list_all (λ byte. nat_lt byte 256) bytes.now) }
-{}
-
 // Tells a proof that the patches are well formed.
 fn known_patches(patches: &Option<Patches>)
     ensures { IfSome patches.now WellFormedPatches }
@@ -154,37 +144,96 @@ fn known_patches(patches: &Option<Patches>)
     }
 }
 
-// The integers without their patches.
-fn unpacked(alloc: Global, ptype: PType, width: u32, packed: &[u8], len: u64) -> VortexResult<Ints>
-    requires narrow { IsTrue (nat_le width (natural_bits ptype)) }
-    requires sized { length packed.now ≡ packed_size width len }
-    ensures { OrMemory result (λ ints. (ptype_of ints ≡ ptype) × (wholes_of ints ≡ below (λ i. pos (packed_row packed.now width i)) len)) }
+// The patch of a row, where there is one.
+#[cycle(cell_at)]
+fn patch_at(patches: &Option<Box<Patches>>, row: u64) -> Option<Cell>
+    ensures { (k : PlainPacked) → unwrap_or (option_map cell_value result) (packed_at k row) ≡ packed_or_patch k (unboxed patches.now) row }
 {
-    match ptype {
-        PType::U8 => Ok(Ints::U8(unpacked_list(alloc, width, packed, len)?)),
-        PType::U16 => Ok(Ints::U16(unpacked_list(alloc, width, packed, len)?)),
-        PType::U32 => Ok(Ints::U32(unpacked_list(alloc, width, packed, len)?)),
-        PType::U64 => Ok(Ints::U64(unpacked_list(alloc, width, packed, len)?)),
-        PType::I8 => Ok(Ints::I8(unpacked_list(alloc, width, packed, len)?)),
-        PType::I16 => Ok(Ints::I16(unpacked_list(alloc, width, packed, len)?)),
-        PType::I32 => Ok(Ints::I32(unpacked_list(alloc, width, packed, len)?)),
-        PType::I64 => Ok(Ints::I64(unpacked_list(alloc, width, packed, len)?)),
+    match patches {
+        Some(patches) => patches.cell_at(row),
+        None => None,
     }
 }
 
-// The same as a list of one type.
-fn unpacked_list<T: Integer>(
-    alloc: Global,
+// A row: null where it isn't valid, else its patch, or its bits where it has none.
+#[cycle(cell_at)]
+pub(crate) fn unpacked_at(
     width: u32,
-    packed: &[u8],
-    len: u64,
-) -> VortexResult<IntList<T>>
-    requires narrow { IsTrue (nat_le width (natural_bits T.kind)) }
-    requires sized { length packed.now ≡ packed_size width len }
-    ensures { OrMemory result (λ list. map T.whole list ≡ below (λ i. pos (packed_row packed.now width i)) len) }
+    packed: &Bytes,
+    valid: &Option<Mask>,
+    patches: &Option<Box<Patches>>,
+    row: u64,
+) -> Cell
+    requires narrow { width ≤ 64 }
+    requires block { packed_size width (row + 1) ≤ length packed.now }
+    ensures { (k : PlainPacked) → k.width ≡ width → k.bytes ≡ packed.now → cell_value result ≡ (if is_valid_at valid.now row then packed_or_patch k (unboxed patches.now) row else null) }
 {
-    let rows = unpack_integers(alloc, packed, width, 0, len)?;
-    Ok(IntList::from_vec(rows))
+    if !is_valid(valid, row) {
+        return Cell::Null;
+    }
+    match patch_at(patches, row) {
+        Some(patch) => patch,
+        None => Cell::Int(i128::from(get(packed.as_slice(), width, row))),
+    }
+}
+
+// The bytes of the patches that there are.
+#[cycle(nbytes)]
+fn patches_bytes(patches: &Option<Box<Patches>>) -> u128
+    ensures { result ≡ min (patches_size (unboxed patches.now)) (2 ^ 128 - 1) }
+{
+    match patches {
+        Some(patches) => patches.nbytes(),
+        None => 0,
+    }
+}
+
+// The bytes.
+#[cycle(nbytes)]
+pub(crate) fn packed_bytes(
+    width: u32,
+    len: u64,
+    valid: &Option<Mask>,
+    patches: &Option<Box<Patches>>,
+) -> u128
+    ensures { result ≡ min (packed_size width len + patches_size (unboxed patches.now) + validity_size valid.now) (2 ^ 128 - 1) }
+{
+    let own = packed_size(width, len) + validity_bytes(valid);
+    own.saturating_add(patches_bytes(patches))
+}
+
+// A copy of the patches that there are.
+#[cycle(copy)]
+fn copied_patches(
+    alloc: Global,
+    patches: &Option<Box<Patches>>,
+) -> VortexResult<Option<Box<Patches>>>
+    ensures { OrMemory result (λ copy. unboxed copy ≡ unboxed patches.now) }
+{
+    match patches {
+        Some(patches) => Ok(Some(Box::new(alloc, patches.copy(alloc)?)?)),
+        None => Ok(None),
+    }
+}
+
+// A copy.
+#[cycle(copy)]
+pub(crate) fn copied_packed(
+    alloc: Global,
+    ptype: PType,
+    width: u32,
+    packed: &Bytes,
+    len: u64,
+    valid: &Option<Mask>,
+    patches: &Option<Box<Patches>>,
+    nullability: Nullability,
+) -> VortexResult<Node>
+    ensures { OrMemory result (λ copy. tree_of copy ≡ packed_of (plain_packed ptype width packed.now len valid.now nullability) (unboxed patches.now)) }
+{
+    let packed = packed.copy(alloc)?;
+    let valid = copy_validity(valid, alloc)?;
+    let patches = copied_patches(alloc, patches)?;
+    Ok(Node::BitPacked(ptype, width, packed, len, valid, patches, nullability))
 }
 
 // The integers with the patches that there are.
@@ -215,9 +264,9 @@ pub(crate) fn decoded_packed(
     requires bits { validity_length valid.now len ≡ true }
     requires integers { IfSome (unboxed patches.now) (λ p. tree_type p.values ≡ types.primitive ptype NonNullable) }
     requires rows { IfSome (unboxed patches.now) (λ p. len ≡ p.array_len) }
-    ensures { let k = plain_packed ptype width packed.now len valid.now NonNullable in OrMemory result (λ rows. (ptype_of rows.values ≡ ptype) × (wholes_of rows.values ≡ zeroed_by valid.now (below (λ i. whole_or_zero (packed_or_patch k (unboxed patches.now) i)) len)) × (rows.valid ≡ valid.now)) }
+    ensures { let k = plain_packed ptype width packed.now len valid.now NonNullable in OrMemory result (AreRows (ints ptype) (map int (zeroed_by (pos 0) valid.now (below (λ i. whole_or_zero (packed_or_patch k (unboxed patches.now) i)) len))) valid.now) }
 {
-    let values = unpacked(alloc, ptype, width, packed.as_slice(), len)?;
+    let values = Ints::unpacked(alloc, ptype, width, packed.as_slice(), len)?;
     let values = written(values, patches);
     behind(values, copy_validity(valid, alloc)?)
 }

@@ -1,21 +1,21 @@
 //! One scalar in every row.
 
-ghost use Rattle.std.specs.Prelude.{◌≡◌, IsTrue, replicate, map};
-ghost use Rattle.vx_base.specs.Answers.{Answers, OrMemory};
-ghost use Rattle.vx_base.specs.PlainScalar.{fits};
-ghost use Rattle.vx_base.specs.PlainType.{integer_of};
-ghost use Rattle.vx_base.specs.PlainValue.{whole_or_zero};
-ghost use Rattle.vx_base.specs.TypeOf.{type_of};
-ghost use Rattle.vx_model.specs.Plain.{validity};
-ghost use Rattle.vx_model.specs.Tree.{constant};
-ghost use Rattle.vx_array.specs.IntsOf.{ptype_of, wholes_of};
+ghost use Rattle.std.specs.List.{list_any};
+ghost use Rattle.std.specs.Prelude.{◌≡◌, replicate, ◌<◌, ◌+◌, ◌^◌};
 ghost use Rattle.vx_array.specs.IsDecoded.{IsDecoded};
+ghost use Rattle.vx_array.specs.TreeOf.{tree_of};
+ghost use Rattle.vx_base.specs.Answers.{Answers, OrMemory};
+ghost use Rattle.vx_base.specs.PlainValue.{is_null};
+ghost use Rattle.vx_model.specs.Extents.{extents_fit};
+ghost use Rattle.vx_model.specs.Plain.{validity};
+ghost use Rattle.vx_model.specs.Size.{payload};
+ghost use Rattle.vx_model.specs.Tree.{constant};
 
 use crate::array::{ArrayRef, Node};
-use crate::decoded::Decoded;
-use crate::ints::Ints;
+use crate::sizes::is_few;
 use std::alloc::Global;
 use vx_base::{DType, Mask, Scalar, VortexResult};
+use vx_values::{Decoded, Values};
 
 impl ArrayRef {
     /// A tree of `len` rows, each the scalar's value.
@@ -32,17 +32,49 @@ impl ArrayRef {
     }
 }
 
-// The value in every row as whole numbers, 0 where it is null.
-#[tactic(auto, using(vx_model::proofs::DecodeLemmas::decodes))]
-fn constant_wholes(alloc: Global, value: &Scalar, len: u64) -> VortexResult<Ints>
-    ensures { OrMemory result (λ ints. (ptype_of ints ≡ integer_of value.now.dtype) × (wholes_of ints ≡ map whole_or_zero (replicate len value.now.value))) }
+// Whether some row is null.
+#[tactic(auto, using(vx_model::proofs::NullLemmas::nulls))]
+pub(crate) fn constant_has_null(value: &Scalar, len: u64) -> bool
+    ensures { result ≡ list_any is_null (replicate len value.now.value) }
 {
-    value.known();
-    let DType::Primitive(ptype, _) = value.dtype();
-    match value.integer() {
-        Some(whole) => Ints::filled(alloc, whole, *ptype, len),
-        None => Ints::filled(alloc, 0, *ptype, len),
+    value.is_null() && len > 0
+}
+
+// The bytes of the value's type, none of null.
+fn payload_bytes(scalar: &Scalar) -> u128
+    ensures value { result ≡ payload scalar.now.dtype scalar.now.value }
+    ensures small { result < 2 ^ 64 }
+{
+    if scalar.is_null() {
+        return 0;
     }
+    match scalar.dtype() {
+        DType::Primitive(ptype, _) => u128::from(ptype.byte_width()),
+    }
+}
+
+// The bytes.
+pub(crate) fn constant_bytes(value: &Scalar) -> u128
+    ensures value { result ≡ 1 + payload value.now.dtype value.now.value }
+    ensures small { result < 2 ^ 65 }
+{
+    1 + payload_bytes(value)
+}
+
+// Whether the rows of it, and of each nested column, are few.
+pub(crate) fn constant_extents_fit(value: &Scalar, len: u64) -> bool
+    ensures { result ≡ extents_fit (constant value.now len) }
+{
+    match value.dtype() {
+        DType::Primitive(_, _) => is_few(len),
+    }
+}
+
+// A copy.
+pub(crate) fn copied_constant(alloc: Global, value: &Scalar, len: u64) -> VortexResult<Node>
+    ensures { OrMemory result (λ copy. tree_of copy ≡ constant value.now len) }
+{
+    Ok(Node::Constant(value.copy(alloc)?, len))
 }
 
 // Bits where the value is null and there are rows.
@@ -60,7 +92,7 @@ fn validity_of_constant(alloc: Global, value: &Scalar, len: u64) -> VortexResult
 pub(crate) fn decoded_constant(alloc: Global, value: &Scalar, len: u64) -> VortexResult<Decoded>
     ensures { OrMemory result (λ rows. IsDecoded (constant value.now len) rows) }
 {
-    let values = constant_wholes(alloc, value, len)?;
+    let values = Values::filled(alloc, value, len)?;
     let valid = validity_of_constant(alloc, value, len)?;
     Ok(Decoded { values, valid })
 }

@@ -1,25 +1,27 @@
 //! Values by their places.
 
-ghost use Rattle.std.specs.Prelude.{◌≡◌, IsTrue, MatchResult, true, length, map, pos};
 ghost use Rattle.std.specs.List.{list_all};
-ghost use Rattle.vx_base.specs.Answers.{Answers, Makes, OrMemory};
-ghost use Rattle.vx_base.specs.PlainType.{is_integer};
+ghost use Rattle.std.specs.Prelude.{◌≡◌, IsTrue, MatchResult, true, length, map};
+ghost use Rattle.vx_array.specs.TreeOf.{tree_of};
+ghost use Rattle.vx_base.specs.Answers.{Makes, OrMemory};
+ghost use Rattle.vx_base.specs.CellValue.{cell_value};
+ghost use Rattle.vx_base.specs.PlainType.{is_integer, is_leaf};
 ghost use Rattle.vx_base.specs.PlainValue.{cell};
 ghost use Rattle.vx_model.specs.Decoded.{zeroed_by, picked};
 ghost use Rattle.vx_model.specs.Refusals.{dict_refusal, validity_length};
-ghost use Rattle.vx_array.specs.IntsOf.{ptype_of, wholes_of};
-ghost use Rattle.vx_array.specs.IsDecoded.{validity_by_codes};
-ghost use Rattle.vx_model.specs.Rows.{rows};
+ghost use Rattle.vx_model.specs.Rows.{rows, looked_up};
 ghost use Rattle.vx_model.specs.Tree.{dict};
 ghost use Rattle.vx_model.specs.TreeType.{tree_type};
 ghost use Rattle.vx_model.specs.WellFormed.{is_place};
+ghost use Rattle.vx_values.specs.Codes.{validity_by_codes};
+ghost use Rattle.vx_values.specs.IntsOf.{ptype_of, wholes_of};
+ghost use Rattle.vx_values.specs.ValuesOf.{kind_in, values_of, default_in, AreRows};
 
 use crate::array::{ArrayRef, Node};
-use crate::decoded::Decoded;
-use crate::ints::Ints;
-use crate::node::{Made, keep};
+use crate::node::Made;
 use std::alloc::Global;
-use vx_base::{Mask, Refused, VortexError, VortexResult};
+use vx_base::{Cell, Mask, Refused, VortexError, VortexResult};
+use vx_values::{Decoded, Ints, valid_codes};
 
 impl ArrayRef {
     /// The value at each code's place in `values`; null where the code or that value is. Child 0: `codes`, as many
@@ -99,7 +101,7 @@ fn have_places(alloc: Global, codes: &ArrayRef, values: u64) -> bool
         return codes.has_places(values);
     }
     match codes.decoded(alloc) {
-        Ok(rows) => !rows.values.has_outside(values),
+        Ok(rows) => !rows.values.integers().has_outside(values),
         Err(_) => codes.has_places(values),
     }
 }
@@ -130,36 +132,41 @@ fn boxed(
     }
 }
 
-// The validity of rows by their codes, of the codes' validity and the values'.
-fn valid_codes(
-    alloc: Global,
-    codes: &Ints,
-    valid: Option<Mask>,
-    value_bits: &Option<Mask>,
-) -> VortexResult<Option<Mask>>
-    ensures { Answers result (validity_by_codes (ptype_of codes.now) (wholes_of codes.now) valid value_bits.now) }
+// The value whose place a code is, null where the code is null.
+#[cycle(cell_at)]
+pub(crate) fn picked_at(values: &ArrayRef, code: Cell) -> Cell
+    requires leaf { IsTrue (is_leaf (tree_type values.now)) }
+    requires place { IsTrue (is_place (length (rows values.now)) (cell_value code)) }
+    ensures { cell_value result ≡ looked_up (rows values.now) (cell_value code) }
 {
-    match value_bits {
-        Some(bits) => Ok(keep(Some(codes.picks_valid(alloc, &valid, bits)?))),
-        None => Ok(valid),
+    let _places = values.len();
+    match code {
+        Cell::Int(place) => values.cell_at(place as u64),
+        Cell::Null => Cell::Null,
     }
 }
 
-// The rows, by the rows of the codes and of the values.
+// A copy, of copies of the codes and the values.
+pub(crate) fn copied_dict(alloc: Global, codes: ArrayRef, values: ArrayRef) -> VortexResult<Node>
+    ensures { OrMemory result (λ copy. tree_of copy ≡ dict codes values) }
+{
+    let codes = Box::new(alloc, codes)?;
+    let values = Box::new(alloc, values)?;
+    Ok(Node::Dict(codes, values))
+}
+
+// The rows, by the codes with their validity and the rows of the values.
 pub(crate) fn decoded_by_codes(
     alloc: Global,
-    codes: Decoded,
+    codes: Ints,
+    valid: Option<Mask>,
     values: Decoded,
 ) -> VortexResult<Decoded>
-    requires { validity_length codes.valid (length (wholes_of codes.values)) ≡ true }
-    ensures { OrMemory result (λ rows. (ptype_of rows.values ≡ ptype_of values.values) × (wholes_of rows.values ≡ zeroed_by codes.valid (map (λ code. picked (ptype_of codes.values) (wholes_of values.values) (pos 0) code) (wholes_of codes.values))) × (rows.valid ≡ validity_by_codes (ptype_of codes.values) (wholes_of codes.values) codes.valid values.valid)) }
+    requires { validity_length valid (length (wholes_of codes)) ≡ true }
+    ensures { OrMemory result (AreRows (kind_in values.values) (zeroed_by (default_in (kind_in values.values)) valid (map (λ code. picked (ptype_of codes) (values_of values.values) (default_in (kind_in values.values)) code) (wholes_of codes))) (validity_by_codes (ptype_of codes) (wholes_of codes) valid values.valid)) }
 {
-    let picked = values.values.picked(alloc, &codes.values)?;
-    let picked = picked.zeroed_by(&codes.valid)?;
-    let Decoded {
-        values: codes,
-        valid,
-    } = codes;
+    let picked = values.values.picked(alloc, &codes)?;
+    let picked = picked.zeroed_by(&valid)?;
     let valid = valid_codes(alloc, &codes, valid, &values.valid)?;
     Ok(Decoded {
         values: picked,

@@ -1,25 +1,28 @@
 //! Integers, each less a reference.
 
-ghost use Rattle.std.specs.Prelude.{◌≡◌, ◌+ℤ◌, IsTrue, IfSome, true, false, length, map};
+ghost use Rattle.std.specs.Prelude.{◌≡◌, IsTrue, pos, true, false, length, map};
+ghost use Rattle.vx_array.specs.TreeOf.{tree_of};
 ghost use Rattle.vx_base.specs.Answers.{Makes, OrMemory};
-ghost use Rattle.vx_base.specs.declared.ptype.PType.TheVariants.{U64};
-ghost use Rattle.vx_base.specs.Integers.{lies_in, unsigned_of};
+ghost use Rattle.vx_base.specs.CellValue.{cell_value};
+ghost use Rattle.vx_base.specs.Integers.{unsigned_of};
+ghost use Rattle.vx_base.specs.PlainScalar.{fits};
+ghost use Rattle.vx_base.specs.PlainType as types;
 ghost use Rattle.vx_base.specs.PlainType.{integer_of};
-ghost use Rattle.vx_base.specs.PlainValue.{cell, is_null, whole_or_zero};
-ghost use Rattle.vx_base.specs.Wrapping.{wrap};
+ghost use Rattle.vx_base.specs.PlainValue.{int, is_null};
+ghost use Rattle.vx_base.specs.declared.dtype.Nullability.TheVariants.{Nullable};
+ghost use Rattle.vx_base.specs.declared.ptype.PType.TheVariants.{U64};
 ghost use Rattle.vx_model.specs.Decoded.{zeroed_by};
 ghost use Rattle.vx_model.specs.Refusals.{for_refusal, validity_length};
-ghost use Rattle.vx_model.specs.Rows.{moved};
+ghost use Rattle.vx_model.specs.Rows.{moved, summed};
 ghost use Rattle.vx_model.specs.Tree.{frame_of_reference};
-ghost use Rattle.vx_array.specs.IntsOf.{ptype_of, wholes_of};
+ghost use Rattle.vx_values.specs.IntsOf.{ptype_of, wholes_of};
+ghost use Rattle.vx_values.specs.ValuesOf.{ints, AreRows};
 
 use crate::array::{ArrayRef, Node};
-use crate::decoded::{Decoded, behind};
-use crate::ints::Ints;
 use crate::node::Made;
-use crate::slices::summed;
 use std::alloc::Global;
-use vx_base::{DType, Integer, PType, Refused, Scalar, VortexError, VortexResult};
+use vx_base::{Cell, DType, Mask, Refused, Scalar, VortexError, VortexResult};
+use vx_values::{Decoded, Ints, behind, summed_in};
 
 impl ArrayRef {
     /// The sums of the reference and the integers of `encoded`, wrapping in the reference's type; null where `encoded`
@@ -70,59 +73,38 @@ fn refusal(encoded: &ArrayRef, reference: &Scalar) -> Option<VortexError>
     }
 }
 
-// A reference and a difference as whole numbers, summed in an integer type.
-fn summed_wholes<T: Integer>(reference: i128, difference: i128) -> i128
-    requires reference { IsTrue (lies_in T.kind reference) }
-    requires difference { IsTrue (lies_in U64 difference) }
-    ensures { result ≡ wrap T.kind (reference +ℤ difference) }
-{
-    let Some(reference) = T::from_whole(reference) else {
-        unreachable!();
-    };
-    let Ok(difference) = u64::try_from(difference) else {
-        unreachable!();
-    };
-    summed(reference, difference).to_whole()
-}
-
-// The same in a type.
-fn summed_in(ptype: PType, reference: i128, difference: i128) -> i128
-    requires reference { IsTrue (lies_in ptype reference) }
-    requires difference { IsTrue (lies_in U64 difference) }
-    ensures { result ≡ wrap ptype (reference +ℤ difference) }
-{
-    match ptype {
-        PType::U8 => summed_wholes::<u8>(reference, difference),
-        PType::U16 => summed_wholes::<u16>(reference, difference),
-        PType::U32 => summed_wholes::<u32>(reference, difference),
-        PType::U64 => summed_wholes::<u64>(reference, difference),
-        PType::I8 => summed_wholes::<i8>(reference, difference),
-        PType::I16 => summed_wholes::<i16>(reference, difference),
-        PType::I32 => summed_wholes::<i32>(reference, difference),
-        PType::I64 => summed_wholes::<i64>(reference, difference),
-    }
-}
-
-// The row whose difference from the reference is given, none where it is null.
-pub(crate) fn moved_at(reference: &Scalar, difference: Option<i128>) -> Option<i128>
+// The row whose difference from the reference is given, null where it is null.
+pub(crate) fn moved_at(reference: &Scalar, difference: Cell) -> Cell
     requires not_null { is_null reference.now.value ≡ false }
-    requires held { IfSome difference (λ z. IsTrue (lies_in U64 z)) }
-    ensures { cell result ≡ moved reference.now (cell difference) }
+    requires held { IsTrue (fits (types.primitive U64 Nullable) (cell_value difference)) }
+    ensures { cell_value result ≡ moved reference.now (cell_value difference) }
 {
     reference.known();
     match (reference.integer(), difference) {
-        (Some(whole), Some(difference)) => {
-            Some(summed_in(reference.dtype().ptype(), whole, difference))
+        (Some(whole), Cell::Int(difference)) => {
+            Cell::Int(summed_in(reference.dtype().ptype(), whole, difference))
         }
-        _ => None,
+        _ => Cell::Null,
     }
+}
+
+// A copy, of a copy of the differences.
+pub(crate) fn copied_frame(
+    alloc: Global,
+    encoded: ArrayRef,
+    reference: &Scalar,
+) -> VortexResult<Node>
+    ensures { OrMemory result (λ copy. tree_of copy ≡ frame_of_reference encoded reference.now) }
+{
+    let encoded = Box::new(alloc, encoded)?;
+    Ok(Node::FoR(encoded, reference.copy(alloc)?))
 }
 
 // The sums of the reference and each difference.
 fn moved(alloc: Global, reference: &Scalar, differences: &Ints) -> VortexResult<Ints>
     requires not_null { is_null reference.now.value ≡ false }
     requires unsigned { ptype_of differences.now ≡ unsigned_of (integer_of reference.now.dtype) }
-    ensures { OrMemory result (λ ints. (ptype_of ints ≡ integer_of reference.now.dtype) × (wholes_of ints ≡ map (λ z. wrap (integer_of reference.now.dtype) (whole_or_zero reference.now.value +ℤ z)) (wholes_of differences.now))) }
+    ensures { OrMemory result (λ ints. (ptype_of ints ≡ integer_of reference.now.dtype) × (wholes_of ints ≡ map (summed reference.now) (wholes_of differences.now))) }
 {
     reference.known();
     let Some(whole) = reference.integer() else {
@@ -131,17 +113,18 @@ fn moved(alloc: Global, reference: &Scalar, differences: &Ints) -> VortexResult<
     differences.moved(alloc, reference.dtype().ptype(), whole)
 }
 
-// The rows, by the rows of the differences.
+// The rows, by the differences and their validity.
 pub(crate) fn decoded_moved(
     alloc: Global,
-    encoded: Decoded,
+    differences: Ints,
+    valid: Option<Mask>,
     reference: &Scalar,
 ) -> VortexResult<Decoded>
     requires not_null { is_null reference.now.value ≡ false }
-    requires unsigned { ptype_of encoded.values ≡ unsigned_of (integer_of reference.now.dtype) }
-    requires bits { validity_length encoded.valid (length (wholes_of encoded.values)) ≡ true }
-    ensures { OrMemory result (λ rows. (ptype_of rows.values ≡ integer_of reference.now.dtype) × (wholes_of rows.values ≡ zeroed_by encoded.valid (map (λ z. wrap (integer_of reference.now.dtype) (whole_or_zero reference.now.value +ℤ z)) (wholes_of encoded.values))) × (rows.valid ≡ encoded.valid)) }
+    requires unsigned { ptype_of differences ≡ unsigned_of (integer_of reference.now.dtype) }
+    requires bits { validity_length valid (length (wholes_of differences)) ≡ true }
+    ensures { OrMemory result (AreRows (ints (integer_of reference.now.dtype)) (map int (zeroed_by (pos 0) valid (map (summed reference.now) (wholes_of differences)))) valid) }
 {
-    let values = moved(alloc, reference, &encoded.values)?;
-    behind(values, encoded.valid)
+    let values = moved(alloc, reference, &differences)?;
+    behind(values, valid)
 }

@@ -1,20 +1,25 @@
 //! Integers, row by row.
 
-ghost use Rattle.std.specs.Prelude.{◌≡◌, ◌<◌, length, slice_index_or, pos, true, if◌then◌else◌};
+ghost use Rattle.std.specs.Prelude.{◌≡◌, ◌<◌, length, slice_index_or, map, pos, true, if◌then◌else◌, ◌+◌, ◌*◌};
+ghost use Rattle.vx_array.specs.TreeOf.{tree_of};
 ghost use Rattle.vx_base.specs.Answers.{MakesSurely, OrMemory};
-ghost use Rattle.vx_base.specs.PlainValue.{cell, int, null};
-ghost use Rattle.vx_model.specs.Decoded.{zeroed_by, zero_beneath_by};
+ghost use Rattle.vx_base.specs.CellValue.{cell_value};
+ghost use Rattle.vx_base.specs.Integers.{bytes_of};
+ghost use Rattle.vx_base.specs.PlainValue.{int, null};
+ghost use Rattle.vx_model.specs.Decoded.{zeroed_by, zero_beneath_by, is_zero};
 ghost use Rattle.vx_model.specs.Refusals.{primitive_refusal, validity_length, kept};
 ghost use Rattle.vx_model.specs.Rows.{is_valid_at};
+ghost use Rattle.vx_model.specs.Size.{validity_size};
 ghost use Rattle.vx_model.specs.Tree.{primitive};
-ghost use Rattle.vx_array.specs.IntsOf.{ptype_of, wholes_of};
+ghost use Rattle.vx_values.specs.IntsOf.{ptype_of, wholes_of};
+ghost use Rattle.vx_values.specs.ValuesOf.{ints, AreRows};
 
 use crate::array::{ArrayRef, Node};
-use crate::decoded::Decoded;
-use crate::ints::Ints;
-use crate::node::{Made, copy_validity, has_length, is_allowed, is_valid, keep};
+use crate::node::Made;
+use crate::sizes::validity_bytes;
 use std::alloc::Global;
-use vx_base::{DType, Mask, Nullability, Refused, VortexError, VortexResult};
+use vx_base::{Cell, DType, Mask, Nullability, Refused, VortexError, VortexResult};
+use vx_values::{Decoded, Ints, Values, copy_validity, has_length, is_allowed, is_valid, keep};
 
 impl ArrayRef {
     /// A tree of integers, null where `valid` is false. Refuses LengthMismatch where the mask hasn't a bit a row, then
@@ -57,29 +62,51 @@ pub(crate) fn decoded_primitive(
     valid: &Option<Mask>,
 ) -> VortexResult<Decoded>
     requires { validity_length valid.now (length (wholes_of values.now)) ≡ true }
-    ensures { OrMemory result (λ rows. (ptype_of rows.values ≡ ptype_of values.now) × (wholes_of rows.values ≡ zeroed_by valid.now (wholes_of values.now)) × (rows.valid ≡ valid.now)) }
+    ensures { OrMemory result (AreRows (ints (ptype_of values.now)) (map int (zeroed_by (pos 0) valid.now (wholes_of values.now))) valid.now) }
 {
-    let values = values.decoded(alloc, valid)?;
+    let values = Values::Ints(values.decoded(alloc, valid)?);
     let valid = copy_validity(valid, alloc)?;
     Ok(Decoded { values, valid })
 }
 
-// The integer in a row, none where the row isn't valid.
-pub(crate) fn primitive_at(values: &Ints, valid: &Option<Mask>, row: u64) -> Option<i128>
+// The integer in a row, null where the row isn't valid.
+pub(crate) fn primitive_at(values: &Ints, valid: &Option<Mask>, row: u64) -> Cell
     requires { row < length (wholes_of values.now) }
-    ensures { cell result ≡ (if is_valid_at valid.now row then int (slice_index_or (wholes_of values.now) row (pos 0)) else null) }
+    ensures { cell_value result ≡ (if is_valid_at valid.now row then int (slice_index_or (wholes_of values.now) row (pos 0)) else null) }
 {
     if is_valid(valid, row) {
-        Some(values.whole_at(row))
+        Cell::Int(values.whole_at(row))
     } else {
-        None
+        Cell::Null
     }
+}
+
+// The bytes.
+pub(crate) fn primitive_bytes(values: &Ints, valid: &Option<Mask>) -> u128
+    ensures { result ≡ length (wholes_of values.now) * bytes_of (ptype_of values.now) + validity_size valid.now }
+{
+    let width = u128::from(values.ptype().byte_width());
+    u128::from(values.len()) * width + validity_bytes(valid)
+}
+
+// A copy.
+pub(crate) fn copied_primitive(
+    alloc: Global,
+    values: &Ints,
+    valid: &Option<Mask>,
+    nullability: Nullability,
+) -> VortexResult<Node>
+    ensures { OrMemory result (λ copy. tree_of copy ≡ primitive (ptype_of values.now) (wholes_of values.now) valid.now nullability) }
+{
+    let values = values.copy(alloc)?;
+    let valid = copy_validity(valid, alloc)?;
+    Ok(Node::Primitive(values, valid, nullability))
 }
 
 // Whether each integer whose row isn't valid is 0.
 pub(crate) fn is_zero_beneath(values: &Ints, valid: &Option<Mask>) -> bool
     requires { validity_length valid.now (length (wholes_of values.now)) ≡ true }
-    ensures { result ≡ zero_beneath_by valid.now (wholes_of values.now) }
+    ensures { result ≡ zero_beneath_by is_zero valid.now (wholes_of values.now) }
 {
     match valid {
         Some(mask) => values.is_zero_beneath(mask),

@@ -1,22 +1,27 @@
 //! Integers as their zigzag.
 
-ghost use Rattle.std.specs.Prelude.{◌≡◌, IfSome, IsTrue, true, not, map, unsigned_abs};
-ghost use Rattle.vx_base.specs.declared.ptype.PType.TheVariants.{U64};
+ghost use Rattle.std.specs.Prelude.{◌≡◌, IsTrue, true, not, map};
+ghost use Rattle.vx_array.specs.TreeOf.{tree_of};
 ghost use Rattle.vx_base.specs.Answers.{Makes, OrMemory};
-ghost use Rattle.vx_base.specs.Integers.{lies_in, is_signed, signed_of};
-ghost use Rattle.vx_base.specs.PlainValue.{cell};
-ghost use Rattle.vx_base.specs.ZigZag.{unzigzag};
+ghost use Rattle.vx_base.specs.CellValue.{cell_value};
+ghost use Rattle.vx_base.specs.Integers.{is_signed, signed_of};
+ghost use Rattle.vx_base.specs.PlainScalar.{fits};
+ghost use Rattle.vx_base.specs.PlainType as types;
+ghost use Rattle.vx_base.specs.PlainValue.{int};
+ghost use Rattle.vx_base.specs.declared.dtype.Nullability.TheVariants.{Nullable};
+ghost use Rattle.vx_base.specs.declared.ptype.PType.TheVariants.{U64};
 ghost use Rattle.vx_model.specs.Refusals.{zig_zag_refusal};
-ghost use Rattle.vx_model.specs.Rows.{unzigzagged};
+ghost use Rattle.vx_model.specs.Rows.{unzigzagged, unzigzagged_whole};
 ghost use Rattle.vx_model.specs.Tree.{zig_zag};
-ghost use Rattle.vx_array.specs.IntsOf.{ptype_of, wholes_of};
+ghost use Rattle.vx_values.specs.IntsOf.{ptype_of, wholes_of};
+ghost use Rattle.vx_values.specs.ValuesOf.{ints, AreRows};
 
 use crate::array::{ArrayRef, Node};
-use crate::decoded::Decoded;
 use crate::node::Made;
 use std::alloc::Global;
-use vx_base::{DType, Refused, VortexError, VortexResult};
+use vx_base::{Cell, DType, Mask, Refused, VortexError, VortexResult};
 use vx_blocks::unzigzag;
+use vx_values::{Decoded, Ints, Values};
 
 impl ArrayRef {
     /// The integers whose zigzag the integers of `encoded` are, in the signed type of the width; null where `encoded`
@@ -49,25 +54,33 @@ impl ArrayRef {
     }
 }
 
-// The row whose zigzag is given, none where it is null.
-pub(crate) fn unzigzagged_at(word: Option<i128>) -> Option<i128>
-    requires { IfSome word (λ z. IsTrue (lies_in U64 z)) }
-    ensures { cell result ≡ unzigzagged (cell word) }
+// The row whose zigzag is given, null where it is null.
+pub(crate) fn unzigzagged_at(word: Cell) -> Cell
+    requires { IsTrue (fits (types.primitive U64 Nullable) (cell_value word)) }
+    ensures { cell_value result ≡ unzigzagged (cell_value word) }
 {
     match word {
-        Some(word) => Some(i128::from(unzigzag(word as u64))),
-        None => None,
+        Cell::Int(word) => Cell::Int(i128::from(unzigzag(word as u64))),
+        Cell::Null => Cell::Null,
     }
 }
 
-// The rows, by the rows of the zigzags.
-pub(crate) fn decoded_zig_zag(alloc: Global, encoded: Decoded) -> VortexResult<Decoded>
-    requires { not (is_signed (ptype_of encoded.values)) ≡ true }
-    ensures { OrMemory result (λ rows. (ptype_of rows.values ≡ signed_of (ptype_of encoded.values)) × (wholes_of rows.values ≡ map (λ z. unzigzag (unsigned_abs z)) (wholes_of encoded.values)) × (rows.valid ≡ encoded.valid)) }
+// A copy, of a copy of the zigzags.
+pub(crate) fn copied_zig_zag(alloc: Global, encoded: ArrayRef) -> VortexResult<Node>
+    ensures { OrMemory result (λ copy. tree_of copy ≡ zig_zag encoded) }
 {
-    let values = encoded.values.unzigzagged(alloc)?;
-    Ok(Decoded {
-        values,
-        valid: encoded.valid,
-    })
+    Ok(Node::ZigZag(Box::new(alloc, encoded)?))
+}
+
+// The rows, by the zigzags and their validity.
+pub(crate) fn decoded_zig_zag(
+    alloc: Global,
+    zigzags: Ints,
+    valid: Option<Mask>,
+) -> VortexResult<Decoded>
+    requires { not (is_signed (ptype_of zigzags)) ≡ true }
+    ensures { OrMemory result (AreRows (ints (signed_of (ptype_of zigzags))) (map int (map unzigzagged_whole (wholes_of zigzags))) valid) }
+{
+    let values = Values::Ints(zigzags.unzigzagged(alloc)?);
+    Ok(Decoded { values, valid })
 }

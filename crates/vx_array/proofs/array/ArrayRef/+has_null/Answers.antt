@@ -34,7 +34,7 @@ pub returns-then-has_null : goal.returns-then-has_null
 returns-then-has_null t c =
     let a = at_node c.self.view_is c.self.invariant c.in-Dict.is in
     let some = ap (λ t. list_any is_null (rows t)) (sym c.deref-in-Dict.ensures) ∙ sym c.has_null-in-Dict.ensures ∙ c.if-has_null.true in
-    rw a.is (sym (any_null-codes c.in-Dict.codes.value c.in-Dict.values.value some))
+    rw a.is (c.if-has_null.true ∙ sym (any_null-codes c.in-Dict.codes.value c.in-Dict.values.value some))
 
 pub returns-else-has_null-2 : goal.returns-else-has_null-2
 returns-else-has_null-2 t c =
@@ -42,5 +42,5 @@ returns-else-has_null-2 t c =
     let codes = c.in-Dict.codes.value in
     let values = c.in-Dict.values.value in
     let none = ap (λ t. list_any is_null (rows t)) (sym c.deref-in-Dict.ensures) ∙ sym c.has_null-in-Dict.ensures ∙ c.if-has_null.false in
-    let none_of_values = ap (λ t. list_any is_null (rows t)) (sym c.deref-in-Dict-2.ensures) ∙ sym c.has_null-in-Dict-2.ensures ∙ c.if-has_null-2.false in
-    rw a.is (sym (any_null-dict codes values a.well_formed none_of_values ∙ none))
+    let none_of_values = ap (λ t. list_any is_null (rows t)) (sym c.deref-else-has_null.ensures) ∙ sym c.has_null-else-has_null.ensures ∙ c.if-has_null-2.false in
+    rw a.is (c.if-has_null-2.false ∙ sym (any_null-dict codes values a.well_formed none_of_values ∙ none))

@@ -6,8 +6,8 @@ use Rattle.vx_array.proofs.array.Patches.search.Given as goal
 abbrev pub invariant-loop-low : goal.invariant-loop-low
 invariant-loop-low g l =
     record {
-      below : NoneBelow (rows l.fn.self.indices) (l.fn.self.offset + l.fn.row) l.low;
-      above : NoneFrom (rows l.fn.self.indices) (l.fn.self.offset + l.fn.row) l.high;
+      below : NoneBelow (rows l.fn.self.indices) l.wanted l.low;
+      above : NoneFrom (rows l.fn.self.indices) l.wanted l.high;
       order : l.low ≤ l.high;
       within : l.high ≤ length (rows l.fn.self.indices);
       rose : l.fn.steps ≤ l.steps;

@@ -10,10 +10,10 @@ use Rattle.vx_base.specs.PlainValue.{null, int, whole_or_zero}
 use Rattle.vx_model.specs.Rows.{rows, row_at, index_of}
 use Rattle.vx_model.specs.TreeType.{tree_type}
 use Rattle.vx_model.specs.WellFormed.{ascend}
-use Rattle.vx_model.proofs.FrameLemmas.{row_fits}
+use Rattle.vx_model.proofs.FrameOfReferenceLemmas.{row_fits}
 use Rattle.vx_model.proofs.PatchLemmas.{ascend-index, ascend-within}
 use Rattle.vx_model.proofs.PatchWriteLemmas.{patched_to-next}
-use Rattle.vx_array.specs.IntsOf.{ptype_of, wholes_of}
+use Rattle.vx_values.specs.IntsOf.{ptype_of, wholes_of}
 use Rattle.vx_array.proofs.array.Patches.written.Goals as goal
 
 pub unreachable-requires : goal.unreachable-requires

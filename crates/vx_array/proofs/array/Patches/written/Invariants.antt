@@ -1,7 +1,7 @@
 use Rattle.std.proofs.Common.{◌≡◌, ℕ, ℤ, length}
 use Rattle.vx_model.specs.Rows.{rows, below}
 use Rattle.vx_model.proofs.PatchWriteLemmas.{patched_to}
-use Rattle.vx_array.specs.IntsOf.{ptype_of, wholes_of}
+use Rattle.vx_values.specs.IntsOf.{ptype_of, wholes_of}
 use Rattle.vx_array.proofs.array.Patches.written.Given as goal
 
 abbrev pub invariant-loop-place : goal.invariant-loop-place

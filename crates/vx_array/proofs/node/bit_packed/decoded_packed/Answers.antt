@@ -1,13 +1,14 @@
-use Rattle.std.proofs.Common.{◌≡◌, ◌∙◌, ap, sym, subst, length, pos}
+use Rattle.std.proofs.Common.{◌≡◌, ◌∙◌, ap, sym, subst, length, map, pos}
 use Rattle.std.specs.Prelude.{IfSome}
 use Rattle.std.proofs.lemmas.Result.{MatchResult-weaker}
 use Rattle.vx_base.specs.declared.dtype.Nullability.TheVariants.{NonNullable}
 use Rattle.vx_base.specs.Packed.{packed_row}
-use Rattle.vx_base.specs.PlainValue.{whole_or_zero}
+use Rattle.vx_base.specs.PlainValue.{int, whole_or_zero}
 use Rattle.vx_model.specs.Decoded.{zeroed_by}
 use Rattle.vx_model.specs.Refusals.{validity_length}
 use Rattle.vx_model.specs.Rows.{below, packed_or_patch}
 use Rattle.vx_model.specs.Tree.{plain_packed}
+use Rattle.vx_values.specs.ValuesOf.{ints}
 use Rattle.vx_array.specs.TreeOf.{unboxed}
 use Rattle.vx_array.proofs.Unpacked.{below_length}
 use Rattle.vx_array.proofs.node.bit_packed.decoded_packed.Goals as goal
@@ -33,4 +34,4 @@ returns c =
     let len = ap length bits ∙ below_length (λ i. pos (packed_row c.args.packed.now c.args.width i)) c.args.len in
     let wholes = c.written-values.ensures.wholes k len bits in
     let valid = c.in_ok-copy_validity.ensures in
-    MatchResult-weaker c.behind.result c.behind.ensures (λ d h. (h.0 ∙ c.written-values.ensures.ptype ∙ c.in_ok-values.ensures.0, h.1 ∙ (λ i. zeroed_by (valid i) (wholes i)), h.2 ∙ valid)) (λ e n. n)
+    MatchResult-weaker c.behind.result c.behind.ensures (λ d h. (h.0 ∙ ap ints (c.written-values.ensures.ptype ∙ c.in_ok-values.ensures.0), h.1 ∙ (λ i. map int (zeroed_by (pos 0) (valid i) (wholes i))), h.2 ∙ valid)) (λ e n. n)

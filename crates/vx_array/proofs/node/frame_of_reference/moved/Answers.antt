@@ -6,7 +6,7 @@ use Rattle.vx_base.specs.Answers.{OrMemory}
 use Rattle.vx_base.specs.PlainType.{integer_of}
 use Rattle.vx_base.specs.PlainValue.{whole_or_zero}
 use Rattle.vx_base.specs.Wrapping.{wrap}
-use Rattle.vx_array.specs.IntsOf.{ptype_of, wholes_of}
+use Rattle.vx_values.specs.IntsOf.{ptype_of, wholes_of}
 use Rattle.vx_array.proofs.node.frame_of_reference.moved.Goals as goal
 
 pub returns : goal.returns

@@ -1,8 +1,0 @@
-use Rattle.std.proofs.Common.{◌∙◌, map, ap}
-use Rattle.vx_array.proofs.Unpacked.{unpacked-wholes}
-use Rattle.vx_array.proofs.node.bit_packed.unpacked_list.Goals as goal
-
-pub returns : goal.returns
-returns g c =
-    let whole = g.T.Integer.whole in
-    ap (map whole) c.from_vec.ensures ∙ unpacked-wholes c.args.packed.now c.args.width c.args.len (map whole c.in_ok-rows.rows.items) c.in_ok-rows.ensures

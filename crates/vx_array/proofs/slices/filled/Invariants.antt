@@ -1,6 +1,0 @@
-use Rattle.std.proofs.Common.{◌≡◌, map}
-use Rattle.std.specs.Prelude.{replicate}
-use Rattle.vx_array.proofs.slices.filled.Given as goal
-
-abbrev pub invariant-loop-row : goal.invariant-loop-row
-invariant-loop-row g l = map g.T.Integer.whole l.items.items ≡ replicate l._row l.whole

@@ -1,6 +1,0 @@
-use Rattle.vx_base.specs.Integers.{lies_in}
-use Rattle.vx_array.proofs.Cells.{each_whole}
-use Rattle.vx_array.proofs.slices.made.converted.Goals as goal
-
-pub convert-requires : goal.convert-requires
-convert-requires g c = each_whole g.T.Integer.whole (lies_in g.U.Integer.kind) c.args.items.now c.loop-row.row c.index-items-row.result c.loop-row-test.true c.index-items-row.is c.requires

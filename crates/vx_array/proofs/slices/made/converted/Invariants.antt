@@ -1,5 +1,0 @@
-use Rattle.std.proofs.Common.{◌≡◌, map, take}
-use Rattle.vx_array.proofs.slices.made.converted.Given as goal
-
-abbrev pub invariant-loop-row : goal.invariant-loop-row
-invariant-loop-row g l = map g.U.Integer.whole l.converted.items ≡ map g.T.Integer.whole (take l.row l.items)

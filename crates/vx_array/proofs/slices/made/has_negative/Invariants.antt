@@ -1,7 +1,0 @@
-use Rattle.std.proofs.Common.{◌≡◌, false, map, take, pos}
-use Rattle.std.specs.Prelude.{int_lt}
-use Rattle.std.specs.List.{list_any}
-use Rattle.vx_array.proofs.slices.made.has_negative.Given as goal
-
-abbrev pub invariant-loop-item : goal.invariant-loop-item
-invariant-loop-item g l = list_any (λ z. int_lt z (pos 0)) (map g.T.Integer.whole (take l.item-index l.items)) ≡ false

@@ -1,5 +1,0 @@
--- The counter is of the ledger of the blank.
-use Rattle.vx_array.proofs.tests.patches.is_found.Given as goal
-
-abbrev pub ghosts-found : goal.ghosts-found
-ghosts-found a = record { name = a.blank.name; parts = a.blank.parts }

@@ -1,0 +1,59 @@
+//! The parts of a tree whose root is a Primitive, and trees of other integers.
+
+ghost use Rattle.std.specs.Prelude.{◌≡◌, length};
+ghost use Rattle.vx_base.specs.Answers.{Answers};
+ghost use Rattle.vx_base.specs.PlainType.{nullability_of};
+ghost use Rattle.vx_base.specs.declared.array_id.ArrayId.TheVariants as ids;
+ghost use Rattle.vx_model.specs.Nodes.{encoding};
+ghost use Rattle.vx_model.specs.Plain.{validity};
+ghost use Rattle.vx_model.specs.Rows.{rows};
+ghost use Rattle.vx_model.specs.Tree.{primitive};
+ghost use Rattle.vx_model.specs.TreeType.{tree_type};
+ghost use Rattle.vx_model.specs.WellFormed.{WellFormed};
+ghost use Rattle.vx_values.specs.IntsOf.{ptype_of, wholes_of};
+
+use crate::array::{ArrayRef, Node};
+use std::alloc::Global;
+use vx_base::{Mask, Nullability, VortexResult};
+use vx_values::{Ints, copy_validity};
+
+impl ArrayRef {
+    /// The integers, the validity and the nullability of a tree whose root is a Primitive, as that of a plain tree of
+    /// integers is.
+    pub fn as_primitive(&self) -> (&Ints, &Option<Mask>, Nullability)
+        requires { encoding self.now ≡ ids.Primitive }
+        ensures tree { primitive (ptype_of result.0.now) (wholes_of result.0.now) result.1.now result.2 ≡ self.now }
+        ensures well_formed { WellFormed (primitive (ptype_of result.0.now) (wholes_of result.0.now) result.1.now result.2) }
+    {
+        match &self.node {
+            Node::Primitive(values, valid, nullability) => (values, valid, *nullability),
+            _ => unreachable!(),
+        }
+    }
+
+    /// The same parts, by themselves.
+    pub fn into_primitive(self) -> (Ints, Option<Mask>, Nullability)
+        requires { encoding self ≡ ids.Primitive }
+        ensures tree { primitive (ptype_of result.0) (wholes_of result.0) result.1 result.2 ≡ self }
+        ensures well_formed { WellFormed (primitive (ptype_of result.0) (wholes_of result.0) result.1 result.2) }
+    {
+        match self.into_node() {
+            Node::Primitive(values, valid, nullability) => (values, valid, nullability),
+            _ => unreachable!(),
+        }
+    }
+
+    /// Other integers, as many, with the validity and the nullability of a tree whose root is a Primitive.
+    pub fn with_integers(&self, alloc: Global, values: Ints) -> VortexResult<ArrayRef>
+        requires primitive { encoding self.now ≡ ids.Primitive }
+        requires rows { length (wholes_of values) ≡ length (rows self.now) }
+        ensures { Answers result (primitive (ptype_of values) (wholes_of values) (validity (rows self.now)) (nullability_of (tree_type self.now))) }
+    {
+        let (_, valid, nullability) = self.as_primitive();
+        let valid = copy_validity(valid, alloc)?;
+        match ArrayRef::primitive(values, valid, nullability) {
+            Ok(tree) => Ok(tree),
+            Err(refused) => Err(refused.error),
+        }
+    }
+}
