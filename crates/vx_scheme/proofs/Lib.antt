@@ -1,11 +1,3 @@
-pub mod DenseLemmas
-pub mod DistinctLemmas
 pub mod NullLemmas
-pub mod PickLemmas
 pub mod RatioLemmas
-pub mod SlotLemmas
 pub mod StandardFacts
-pub mod StatsFacts
-pub mod StatsLemmas
-pub mod TableLemmas
-pub mod TallyLemmas

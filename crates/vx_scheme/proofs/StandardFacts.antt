@@ -3,12 +3,11 @@ use Rattle.std.specs.Prelude.{◌≡◌, ℕ, true, false, List, [], ◌∷◌, 
 use Rattle.vx_model.specs.Plain.{plain}
 use Rattle.vx_scheme.specs.Excluded.{History, root_name, excluded}
 use Rattle.vx_scheme.specs.Meaning.{Meaning, kept}
-use Rattle.vx_scheme.specs.Options.{includes}
+use Rattle.vx_stats.specs.Options.{no_options}
 use Rattle.vx_scheme.specs.Rules.{Rule}
 use Rattle.vx_scheme.specs.Selects.{selects}
 use Rattle.vx_scheme.specs.declared.estimate.CompressionEstimate.TheVariants.{Verdict}
 use Rattle.vx_scheme.specs.declared.estimate.EstimateVerdict.TheVariants.{Skip}
-use Rattle.vx_scheme.specs.declared.options.GenerateStatsOptions.{GenerateStatsOptions}
 use Rattle.vx_scheme.specs.declared.selection.ChildSelection.TheVariants.{All, One, Many}
 
 -- of the children 0 to 3
@@ -22,17 +21,6 @@ selects-One = refl
 pub selects-Many : map (selects (Many 0 2)) (0 ∷ 1 ∷ 2 ∷ 3 ∷ []) ≡ true ∷ false ∷ true ∷ false ∷ []
 selects-Many = refl
 
--- ---- options
-
-abbrev asking : GenerateStatsOptions
-asking = record { count_distinct_values = true }
-
-abbrev silent : GenerateStatsOptions
-silent = record { count_distinct_values = false }
-
-pub includes-each : (includes asking silent ≡ true) × (includes silent asking ≡ false) × (includes silent silent ≡ true) × (includes asking asking ≡ true)
-includes-each = (refl, refl, refl, refl)
-
 -- ---- which schemes are excluded
 
 abbrev ruled : List ℕ → List Rule → List Rule → Meaning
@@ -40,7 +28,7 @@ ruled name descendants ancestors = record {
   name = name;
   takes = λ dtype. true;
   children = 2;
-  options = silent;
+  options = no_options;
   produces = λ id. false;
   descendants = descendants;
   ancestors = ancestors;

@@ -6,7 +6,7 @@ use Rattle.vx_model.specs.Column.{Column, IsColumn, column_of}
 use Rattle.vx_model.specs.Plain.{IsPlain}
 use Rattle.vx_model.specs.Rows.{rows}
 use Rattle.vx_model.specs.Tree.{Tree}
-use Rattle.vx_scheme.specs.Meaning.{Meaning, Made, parts_of}
+use Rattle.vx_scheme.specs.Meaning.{Meaning, PlainSplit, parts_of}
 
 -- the most rows that a column of a site has: those of the greatest column, an offset more, and 1,024 for each level
 abbrev pub most_rows : ℕ
@@ -26,7 +26,7 @@ pub record IsAsked (m : Meaning) (c : Column) : Type 0 where
   pub few : length c.values ≤ most_rows
 
 -- one tree for each part, of that part's type and rows
-abbrev pub FitParts : Made → List Tree → Type 0
+abbrev pub FitParts : PlainSplit → List Tree → Type 0
 FitParts made trees = map column_of trees ≡ parts_of made
 
 -- some row has a value

@@ -5,7 +5,7 @@ use Rattle.vx_base.specs.Answers.{Decided, SurelyDecided}
 use Rattle.vx_base.specs.declared.error.VortexError.{VortexError}
 use Rattle.vx_model.specs.Tree.{Tree}
 use Rattle.vx_model.specs.TreeCode.{tree_code}
-use Rattle.vx_scheme.specs.declared.options.GenerateStatsOptions.{GenerateStatsOptions}
+use Rattle.vx_stats.specs.declared.options.GenerateStatsOptions.{GenerateStatsOptions}
 
 pub record Bundle : Type 0 where
   pub array : Tree

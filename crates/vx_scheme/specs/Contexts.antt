@@ -3,7 +3,7 @@ use Rattle.std.specs.Prelude.{ℕ, true, List, map, take}
 use Rattle.vx_model.specs.Site.{Site}
 use Rattle.vx_scheme.specs.Names.{name_of}
 use Rattle.vx_scheme.specs.declared.scheme_id.SchemeId.{SchemeId}
-use Rattle.vx_scheme.specs.declared.options.GenerateStatsOptions.{GenerateStatsOptions}
+use Rattle.vx_stats.specs.declared.options.GenerateStatsOptions.{GenerateStatsOptions}
 use Rattle.vx_scheme.specs.declared.context.CompressorContext.{CompressorContext}
 
 -- the names of schemes with the child numbers

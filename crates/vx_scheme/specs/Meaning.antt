@@ -9,15 +9,15 @@ use Rattle.vx_model.specs.Tree.{Tree}
 use Rattle.vx_scheme.specs.Rules.{Rule}
 use Rattle.vx_scheme.specs.declared.estimate.CompressionEstimate.{CompressionEstimate}
 use Rattle.vx_scheme.specs.declared.estimate.EstimateVerdict.{EstimateVerdict}
-use Rattle.vx_scheme.specs.declared.options.GenerateStatsOptions.{GenerateStatsOptions}
+use Rattle.vx_stats.specs.declared.options.GenerateStatsOptions.{GenerateStatsOptions}
 use Rattle.vx_scheme.specs.declared.split.Split.{Split}
 use Rattle.vx_scheme.specs.declared.split.Split.TheVariants as splits
 
 -- what a scheme makes of a column: nothing, its tree, or parts that are compressed one by one
-pub data Made : Type 0 where
-  kept : Made
-  finished : Tree → Made
-  parts : List Column → Made
+pub data PlainSplit : Type 0 where
+  kept : PlainSplit
+  finished : Tree → PlainSplit
+  parts : List Column → PlainSplit
 
 pub record Meaning : Type 0 where
   pub name : List ℕ
@@ -29,17 +29,17 @@ pub record Meaning : Type 0 where
   pub ancestors : List Rule
   pub estimate : Column → Site → CompressionEstimate
   pub resolve : Column → Site → EstimateVerdict
-  pub splits : Column → Site → Made
+  pub splits : Column → Site → PlainSplit
   pub joined : Column → Site → List Tree → Tree
 
 -- parts are plain trees
-abbrev pub split_of : Made → Split
+abbrev pub split_of : PlainSplit → Split
 split_of kept = splits.Kept
 split_of (finished tree) = splits.Finished tree
 split_of (parts columns) = splits.Parts (map plain columns)
 
 -- the parts that are compressed, none where there are none
-abbrev pub parts_of : Made → List Column
+abbrev pub parts_of : PlainSplit → List Column
 parts_of kept = []
 parts_of (finished tree) = []
 parts_of (parts columns) = columns

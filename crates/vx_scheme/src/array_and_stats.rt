@@ -8,15 +8,14 @@ ghost use Rattle.vx_model.specs.Plain.{IsPlain};
 ghost use Rattle.vx_model.specs.Rows.{rows};
 ghost use Rattle.vx_model.specs.TreeType.{tree_type};
 ghost use Rattle.vx_scheme.specs.Bundle.{KeptOrDecided, SameArray};
-ghost use Rattle.vx_scheme.specs.Options.{no_options};
-ghost use Rattle.vx_scheme.specs.Stats.{stats_of, stats_refusal, value_count, distinct_count};
+ghost use Rattle.vx_stats.specs.Options.{no_options};
+ghost use Rattle.vx_stats.specs.Stats.{stats_of, stats_refusal, value_count, distinct_count};
 
-use crate::options::GenerateStatsOptions;
-use crate::stats::IntegerStats;
 use std::alloc::Global;
 use std::marker::Model;
 use vx_array::ArrayRef;
 use vx_base::{ExecutionCtx, VortexError, VortexResult};
+use vx_stats::{GenerateStatsOptions, IntegerStats};
 
 /// A plain array, and each of its statistics from the first call on that asked for it.
 #[derive(Drop)]
@@ -34,8 +33,8 @@ impl Model for ArrayAndStats {
     ghost use Rattle.vx_model.specs.Rows.{rows};
     ghost use Rattle.vx_model.specs.TreeType.{tree_type};
     ghost use Rattle.vx_scheme.specs.Bundle.{Bundle, bundle_code};
-    ghost use Rattle.vx_scheme.specs.Options.{no_options};
-    ghost use Rattle.vx_scheme.specs.Stats.{stats_of};
+    ghost use Rattle.vx_stats.specs.Options.{no_options};
+    ghost use Rattle.vx_stats.specs.Stats.{stats_of};
 
     ghost Value = { Bundle };
 

@@ -3,8 +3,8 @@
 ghost use Rattle.std.specs.Prelude.{◌≤◌, ◌+◌};
 
 use crate::MAX_CASCADE;
-use crate::options::GenerateStatsOptions;
 use crate::scheme_id::SchemeId;
+use vx_stats::GenerateStatsOptions;
 
 /// A site of the cascade: how many schemes may still follow, whether the column is a sample, and the schemes above with
 /// the child numbers on the way down, the outermost first. With it go the statistics that the schemes at the site ask

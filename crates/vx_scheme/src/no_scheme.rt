@@ -4,7 +4,6 @@ use crate::allowed::AllowedIds;
 use crate::array_and_stats::ArrayAndStats;
 use crate::context::CompressorContext;
 use crate::estimate::{CompressionEstimate, EstimateVerdict};
-use crate::options::GenerateStatsOptions;
 use crate::rules::{AncestorRules, DescendantRules};
 use crate::scheme::Scheme;
 use crate::split::Split;
@@ -12,6 +11,7 @@ use std::alloc::Global;
 use std::sync::ledger::Ledger;
 use vx_array::{ArrayRef, Arrays};
 use vx_base::{DType, ExecutionCtx, Fraction, IdSet, Steps, VortexResult};
+use vx_stats::GenerateStatsOptions;
 
 /// A scheme that takes no column, `vortex.none`: for a list of schemes with none of the caller's own.
 #[derive(Clone, Copy, Debug, PartialEq, Eq)]

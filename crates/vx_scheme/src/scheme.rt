@@ -14,7 +14,7 @@ ghost use Rattle.vx_scheme.specs.Contexts.{site_of};
 ghost use Rattle.vx_scheme.specs.Lawful.{Lawful};
 ghost use Rattle.vx_scheme.specs.Meaning.{Meaning, split_of};
 ghost use Rattle.vx_scheme.specs.Names.{name_of};
-ghost use Rattle.vx_scheme.specs.Options.{includes};
+ghost use Rattle.vx_stats.specs.Options.{includes};
 ghost use Rattle.vx_scheme.specs.Resolved.{IsResolved};
 ghost use Rattle.vx_scheme.specs.Rules.{descendants_of, ancestors_of};
 
@@ -22,7 +22,6 @@ use crate::allowed::AllowedIds;
 use crate::array_and_stats::ArrayAndStats;
 use crate::context::CompressorContext;
 use crate::estimate::{CompressionEstimate, EstimateVerdict};
-use crate::options::GenerateStatsOptions;
 use crate::rules::{AncestorRules, DescendantRules};
 use crate::scheme_id::SchemeId;
 use crate::split::Split;
@@ -30,6 +29,7 @@ use std::alloc::Global;
 use std::sync::ledger::Ledger;
 use vx_array::{ArrayRef, Arrays};
 use vx_base::{DType, ExecutionCtx, Fraction, IdSet, Steps, VortexResult};
+use vx_stats::GenerateStatsOptions;
 
 /// A way to compress a column.
 ///

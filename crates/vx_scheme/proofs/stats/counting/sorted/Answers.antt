@@ -1,5 +1,0 @@
-use Rattle.vx_scheme.proofs.DistinctLemmas.{rising-sorted}
-use Rattle.vx_scheme.proofs.stats.counting.sorted.Goals as goal
-
-pub returns-clause-rising : goal.returns-clause-rising
-returns-clause-rising g c = rising-sorted g.T.Integer.whole g.T.Ord.cmp g.met.T.Integer.ordered _ c.sort_unstable.ensures.sorted

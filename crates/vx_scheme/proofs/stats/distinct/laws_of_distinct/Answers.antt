@@ -1,5 +1,0 @@
-use Rattle.vx_scheme.proofs.DistinctLemmas.{distinct-sorted, distinct-times}
-use Rattle.vx_scheme.proofs.stats.distinct.laws_of_distinct.Goals as goal
-
-pub returns : goal.returns
-returns c = record { ascending = distinct-sorted; once = λ zs z. distinct-times z zs }

@@ -1,8 +1,0 @@
--- The counts of rows that statistics of integers have.
-use Rattle.std.specs.Prelude.{List}
-use Rattle.vx_base.specs.PlainValue.{PlainValue}
-use Rattle.vx_scheme.specs.Stats.{null_count, value_count, average_run_length}
-use Rattle.vx_scheme.specs.declared.stats.counts.RowCounts.{RowCounts}
-
-abbrev pub counts_of : List PlainValue → RowCounts
-counts_of values = record { null_count = null_count values; value_count = value_count values; average_run_length = average_run_length values }

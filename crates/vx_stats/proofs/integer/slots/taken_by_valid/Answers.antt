@@ -1,0 +1,36 @@
+use Rattle.std.proofs.Common.{map, drop, ap, subst, arith, ◌∷◌, ◌∙◌, ◌+◌, sym, cond}
+use Rattle.std.proofs.lemmas.List.{drop_all}
+use Rattle.vx_base.specs.PlainValue.{int}
+use Rattle.vx_model.specs.Rows.{masked_rows}
+use Rattle.vx_stats.specs.Stats.{valid_wholes}
+use Rattle.vx_stats.proofs.SlotLemmas.{TakenBut, none-seen, one-more, all-seen}
+use Rattle.vx_stats.proofs.TallyLemmas.{left, left-next}
+use Rattle.vx_stats.proofs.integer.slots.taken_by_valid.Goals.{then-bits-row, else-bits-row}
+use Rattle.vx_stats.proofs.integer.slots.taken_by_valid.Goals as goal
+
+pub loop-row-init : goal.loop-row-init
+loop-row-init g c = none-seen g.T.Integer.kind (left g.T.Integer.whole c.args.items.now c.args.bits.now 0) c.in_ok-slots.slots (c.in_ok-slots.ensures g.T.Integer.kind)
+
+pub loop-row-preserved : goal.loop-row-preserved
+loop-row-preserved g c =
+    let whole = g.T.Integer.whole in
+    let items = c.args.items.now in
+    let bits = c.args.bits.now in
+    let row = c.loop-row.row in
+    let x = c.index-items-row.result in
+    let all = left whole items bits 0 in
+    let rest = left whole items bits (row + 1) in
+    let next = left-next whole items bits row x (omega arith) c.requires.bits c.index-items-row.is in
+    elim c.if-bits-row.branch [
+      | then-bits-row w ↦
+          let here = next ∙ ap (λ b. cond b (whole x ∷ rest) rest) w.if-bits-row.true in
+          subst (TakenBut g.T.Integer.kind all rest) (sym w.slots-is) (one-more g.T.Integer.kind all (whole x) rest c.loop-row.slots w.take.new.self w.take.ensures (subst (λ l. TakenBut g.T.Integer.kind all l c.loop-row.slots) here c.loop-row.invariant))
+      | else-bits-row w ↦
+          let here = next ∙ ap (λ b. cond b (whole x ∷ rest) rest) w.if-bits-row.false in
+          subst (TakenBut g.T.Integer.kind all rest) (sym w.slots-is) (subst (λ l. TakenBut g.T.Integer.kind all l c.loop-row.slots) here c.loop-row.invariant)
+    ]
+
+pub returns : goal.returns
+returns g c =
+    let rest = map int (map g.T.Integer.whole (drop c.loop-row.row c.args.items.now)) in
+    all-seen g.T.Integer.kind (left g.T.Integer.whole c.args.items.now c.args.bits.now 0) _ c.loop-row.slots (ap (λ bits. valid_wholes (masked_rows bits rest)) (drop_all c.loop-row.row c.args.bits.now (omega arith))) c.loop-row.invariant

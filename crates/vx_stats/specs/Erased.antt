@@ -1,0 +1,38 @@
+-- The type, the extremes and the distinct values of statistics of any integer type.
+use Rattle.std.specs.Prelude.{ℕ, ◌-◌, ◌==◌, ℤ, if◌then◌else◌, List, Option, None, Some}
+use Rattle.vx_base.specs.Digits.{digits}
+use Rattle.vx_base.specs.declared.ptype.PType.{PType}
+use Rattle.vx_base.specs.declared.ptype.PType.TheVariants as kinds
+use Rattle.vx_stats.specs.Stats.{Extremes, PlainTyped}
+use Rattle.vx_stats.specs.declared.integer.erased.ErasedStats.{ErasedStats}
+use Rattle.vx_stats.specs.declared.integer.erased.ErasedStats.TheVariants.{U8, U16, U32, U64, I8, I16, I32, I64}
+
+abbrev pub kind_of : ErasedStats → PType
+kind_of (U8 e) = kinds.U8
+kind_of (U16 e) = kinds.U16
+kind_of (U32 e) = kinds.U32
+kind_of (U64 e) = kinds.U64
+kind_of (I8 e) = kinds.I8
+kind_of (I16 e) = kinds.I16
+kind_of (I32 e) = kinds.I32
+kind_of (I64 e) = kinds.I64
+
+abbrev pub typed_of : ErasedStats → PlainTyped
+typed_of (U8 e) = e
+typed_of (U16 e) = e
+typed_of (U32 e) = e
+typed_of (U64 e) = e
+typed_of (I8 e) = e
+typed_of (I16 e) = e
+typed_of (I32 e) = e
+typed_of (I64 e) = e
+
+abbrev pub extremes_of : ErasedStats → Extremes
+extremes_of stats = (typed_of stats).extremes
+
+abbrev pub distinct_of : ErasedStats → Option (List (ℤ × ℕ))
+distinct_of stats = (typed_of stats).distinct
+
+-- the greatest k with 2^k at most n, of n below 2^64; none of 0
+abbrev pub log2_of : ℕ → Option ℕ
+log2_of n = if n == 0 then None else Some (digits n - 1)

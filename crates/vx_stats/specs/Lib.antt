@@ -1,0 +1,10 @@
+pub mod Counts
+pub mod Distinct
+pub mod Erased
+pub mod Frequent
+pub mod Options
+pub mod Runs
+pub mod Slots
+pub mod Stats
+pub mod Tables
+pub mod Tally

@@ -1,0 +1,101 @@
+//! Statistics of columns of integers.
+
+ghost use Rattle.std.specs.Prelude.{◌≡◌, ◌<◌, ◌≤ℤ◌, length, option_map};
+ghost use Rattle.vx_stats.specs.Frequent.{frequent_value};
+
+mod by_type;
+mod counting;
+mod counts;
+mod dense;
+mod distinct;
+mod erased;
+mod generating;
+mod range;
+mod slots;
+mod tally;
+mod typed;
+mod value;
+
+use counts::RowCounts;
+pub use distinct::{Counts, DistinctInfo, laws_of_distinct};
+pub use erased::ErasedStats;
+use std::marker::Model;
+pub use typed::TypedStats;
+pub use value::PValue;
+
+/// Statistics of a column of integers. Contracts see them as plain data.
+#[derive(Debug, Drop)]
+pub struct IntegerStats {
+    counts: RowCounts,
+    erased: ErasedStats,
+}
+
+impl Model for IntegerStats {
+    ghost use Rattle.std.specs.Prelude.{◌<◌, ◌≤ℤ◌};
+    ghost use Rattle.vx_stats.specs.Stats.{PlainStats};
+
+    ghost Value = { PlainStats };
+
+    ghost use Rattle.vx_stats.specs.Erased.{kind_of, extremes_of, distinct_of};
+
+    ghost view = { λ a. record { ptype = kind_of a.erased; null_count = a.counts.null_count; value_count = a.counts.value_count; average_run_length = a.counts.average_run_length; extremes = extremes_of a.erased; distinct = distinct_of a.erased } };
+
+    ghost invariant = { λ a. 0 < a.counts.value_count → (extremes_of a.erased).least ≤ℤ (extremes_of a.erased).greatest };
+}
+
+impl IntegerStats {
+    ghost use Rattle.vx_stats.specs.Erased.{kind_of, extremes_of, distinct_of};
+
+    fn new(counts: RowCounts, erased: ErasedStats) -> Self
+        requires { 0 < counts.value_count → (extremes_of erased).least ≤ℤ (extremes_of erased).greatest }
+        ensures { result ≡ record { ptype = kind_of erased; null_count = counts.null_count; value_count = counts.value_count; average_run_length = counts.average_run_length; extremes = extremes_of erased; distinct = distinct_of erased } }
+    {
+        IntegerStats { counts, erased }
+    }
+
+    /// How many rows are null.
+    pub fn null_count(&self) -> u32
+        ensures { result ≡ self.now.null_count }
+    {
+        self.counts.null_count
+    }
+
+    /// How many rows aren't null.
+    pub fn value_count(&self) -> u32
+        ensures { result ≡ self.now.value_count }
+    {
+        self.counts.value_count
+    }
+
+    /// How many values there are for each run of equal ones, rounded down. 0 without a value.
+    pub fn average_run_length(&self) -> u32
+        ensures { result ≡ self.now.average_run_length }
+    {
+        self.counts.average_run_length
+    }
+
+    /// How many distinct values there are, where they were asked for and there is a row.
+    pub fn distinct_count(&self) -> Option<u32>
+        ensures { result ≡ option_map length self.now.distinct }
+    {
+        self.erased.distinct_count()
+    }
+
+    /// The least of the most frequent values with its count, where distinct values are told. Without a value it is 0,
+    /// which occurs 0 times.
+    pub fn most_frequent_value_and_count(&self) -> Option<(PValue, u32)>
+        ensures { result ≡ frequent_value self.now.ptype self.now.distinct }
+    {
+        self.erased.most_frequent_value_and_count()
+    }
+
+    /// The least and the greatest value, and the distinct ones.
+    pub fn erased(&self) -> &ErasedStats
+        ensures ptype { kind_of result.now ≡ self.now.ptype }
+        ensures extremes { extremes_of result.now ≡ self.now.extremes }
+        ensures distinct { distinct_of result.now ≡ self.now.distinct }
+        ensures ordered { 0 < self.now.value_count → self.now.extremes.least ≤ℤ self.now.extremes.greatest }
+    {
+        &self.erased
+    }
+}

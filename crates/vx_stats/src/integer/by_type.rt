@@ -1,0 +1,96 @@
+//! The parts of statistics, over a list of integers of any type.
+
+ghost use Rattle.std.specs.Prelude.{◌≡◌, ◌<◌, ◌≤◌, ◌^◌, ◌≤ℤ◌, length, map, true};
+ghost use Rattle.vx_values.specs.IntsOf.{ptype_of, wholes_of};
+ghost use Rattle.vx_base.specs.Answers.{OrMemory};
+ghost use Rattle.vx_base.specs.PlainValue.{int};
+ghost use Rattle.vx_model.specs.Refusals.{validity_length};
+ghost use Rattle.vx_model.specs.Rows.{valid_rows};
+ghost use Rattle.vx_stats.specs.Counts.{counts_of};
+ghost use Rattle.vx_stats.specs.Erased.{kind_of, typed_of, extremes_of};
+ghost use Rattle.vx_stats.specs.Stats.{distinct_count, extremes_in, extremes_alone};
+ghost use Rattle.vx_stats.specs.Stats as stats;
+
+use crate::integer::counts::{RowCounts, summary, with_distinct};
+use crate::integer::erased::ErasedStats;
+use crate::integer::slots::distinct_at_least;
+use crate::options::GenerateStatsOptions;
+use std::alloc::Global;
+use vx_base::{Mask, VortexResult};
+use vx_values::Ints;
+
+macro_rules! summary_by_type {
+    ($values:expr, $valid:expr; $($kind:ident),*) => {
+        match $values {
+            $(Ints::$kind(items) => {
+                let (counts, extremes) = summary(items.as_slice(), $valid);
+                (counts, ErasedStats::from(extremes))
+            })*
+        }
+    };
+}
+
+/// The counts and the extremes of the valid rows.
+pub(crate) fn summary_of(values: &Ints, valid: &Option<Mask>) -> (RowCounts, ErasedStats)
+    requires mask { validity_length valid.now (length (wholes_of values.now)) ≡ true }
+    requires few { length (wholes_of values.now) < 2 ^ 32 }
+    ensures counts { result.0 ≡ counts_of (valid_rows valid.now (map int (wholes_of values.now))) }
+    ensures kind { kind_of result.1 ≡ ptype_of values.now }
+    ensures extremes { typed_of result.1 ≡ extremes_alone (extremes_in (ptype_of values.now) (valid_rows valid.now (map int (wholes_of values.now)))) }
+    ensures ordered { 0 < result.0.value_count → (extremes_of result.1).least ≤ℤ (extremes_of result.1).greatest }
+{
+    summary_by_type!(values, valid; U8, U16, U32, U64, I8, I16, I32, I64)
+}
+
+macro_rules! completed_by_type {
+    ($alloc:expr, $erased:expr, $values:expr, $valid:expr, $opts:expr; $($kind:ident),*) => {
+        match $values {
+            $(Ints::$kind(items) => match $erased {
+                ErasedStats::$kind(extremes) => {
+                    let typed = with_distinct($alloc, items.as_slice(), $valid, $opts, extremes)?;
+                    Ok(ErasedStats::$kind(typed))
+                }
+                _ => unreachable!(),
+            })*
+        }
+    };
+}
+
+/// The extremes of the valid rows, which are there already, and the distinct values where they are asked for.
+pub(crate) fn completed(
+    alloc: Global,
+    erased: &ErasedStats,
+    values: &Ints,
+    valid: &Option<Mask>,
+    opts: GenerateStatsOptions,
+) -> VortexResult<ErasedStats>
+    requires mask { validity_length valid.now (length (wholes_of values.now)) ≡ true }
+    requires few { length (wholes_of values.now) < 2 ^ 32 }
+    requires kind { kind_of erased.now ≡ ptype_of values.now }
+    requires extremes { typed_of erased.now ≡ extremes_alone (extremes_in (ptype_of values.now) (valid_rows valid.now (map int (wholes_of values.now)))) }
+    ensures kind { OrMemory result (λ erased. kind_of erased ≡ ptype_of values.now) }
+    ensures typed { OrMemory result (λ erased. typed_of erased ≡ stats.typed_of opts (ptype_of values.now) (valid_rows valid.now (map int (wholes_of values.now)))) }
+{
+    completed_by_type!(alloc, erased, values, valid, opts; U8, U16, U32, U64, I8, I16, I32, I64)
+}
+
+macro_rules! least_by_type {
+    ($alloc:expr, $values:expr, $valid:expr; $($kind:ident),*) => {
+        match $values {
+            $(Ints::$kind(items) => distinct_at_least($alloc, items.as_slice(), $valid),)*
+        }
+    };
+}
+
+/// As many as the distinct values of the valid rows, or fewer.
+pub(crate) fn least_distinct(
+    alloc: Global,
+    values: &Ints,
+    valid: &Option<Mask>,
+) -> VortexResult<usize>
+    requires mask { validity_length valid.now (length (wholes_of values.now)) ≡ true }
+    requires few { length (wholes_of values.now) < 2 ^ 32 }
+    ensures { OrMemory result (λ count. count ≤ distinct_count (valid_rows valid.now (map int (wholes_of values.now)))) }
+{
+    least_by_type!(alloc, values, valid; U8, U16, U32, U64, I8, I16, I32, I64)
+}

@@ -1,0 +1,176 @@
+//! The least, the greatest and the distinct integers of any type.
+
+ghost use Rattle.std.specs.Prelude.{◌≡◌, ◌≤ℤ◌, ◌-ℤ◌, pos, int_lt, length, option_map};
+ghost use Rattle.std.specs.Ordering.{int_eq};
+ghost use Rattle.vx_base.specs.Integers.{bits_in};
+ghost use Rattle.vx_stats.specs.Frequent.{frequent_value};
+
+use crate::integer::typed::TypedStats;
+use crate::integer::value::PValue;
+
+/// The least and the greatest of the valid integers of a type, and the distinct ones where they were asked for.
+#[derive(Debug, Drop)]
+pub enum ErasedStats {
+    U8(TypedStats<u8>),
+    U16(TypedStats<u16>),
+    U32(TypedStats<u32>),
+    U64(TypedStats<u64>),
+    I8(TypedStats<i8>),
+    I16(TypedStats<i16>),
+    I32(TypedStats<i32>),
+    I64(TypedStats<i64>),
+}
+
+// The same for each of the eight types.
+macro_rules! with_typed {
+    ($stats:expr, $typed:ident => $answer:expr) => {
+        match $stats {
+            ErasedStats::U8($typed) => $answer,
+            ErasedStats::U16($typed) => $answer,
+            ErasedStats::U32($typed) => $answer,
+            ErasedStats::U64($typed) => $answer,
+            ErasedStats::I8($typed) => $answer,
+            ErasedStats::I16($typed) => $answer,
+            ErasedStats::I32($typed) => $answer,
+            ErasedStats::I64($typed) => $answer,
+        }
+    };
+}
+
+impl ErasedStats {
+    ghost use Rattle.vx_stats.specs.Erased.{kind_of, extremes_of, distinct_of, log2_of};
+
+    /// The least integer; without a valid one the type's greatest.
+    pub fn least(&self) -> i128
+        ensures { result ≡ (extremes_of self.now).least }
+    {
+        with_typed!(self, typed => typed.least())
+    }
+
+    pub fn min_is_zero(&self) -> bool
+        ensures { result ≡ int_eq (extremes_of self.now).least (pos 0) }
+    {
+        self.least() == 0
+    }
+
+    pub fn min_is_negative(&self) -> bool
+        ensures { result ≡ int_lt (extremes_of self.now).least (pos 0) }
+    {
+        self.least() < 0
+    }
+
+    /// The greatest less the least, where there is a valid integer.
+    pub fn max_minus_min(&self) -> u64
+        requires { (extremes_of self.now).least ≤ℤ (extremes_of self.now).greatest }
+        ensures { pos result ≡ (extremes_of self.now).greatest -ℤ (extremes_of self.now).least }
+    {
+        with_typed!(self, typed => typed.span())
+    }
+
+    /// The place of the highest set bit of the greatest, read as unsigned bits. None where no bit is set.
+    pub fn max_ilog2(&self) -> Option<u32>
+        ensures { result ≡ log2_of (bits_in (kind_of self.now) (extremes_of self.now).greatest) }
+    {
+        let bits = with_typed!(self, typed => typed.greatest_bits());
+        if bits == 0 {
+            None
+        } else {
+            Some(63 - bits.leading_zeros())
+        }
+    }
+
+    /// How many distinct values there are, where they were asked for and there is a row.
+    pub fn distinct_count(&self) -> Option<u32>
+        ensures { result ≡ option_map length (distinct_of self.now) }
+    {
+        with_typed!(self, typed => typed.distinct_count())
+    }
+
+    /// The least of the most frequent values with its count, where distinct values are told. Without a value it is 0,
+    /// which occurs 0 times.
+    pub fn most_frequent_value_and_count(&self) -> Option<(PValue, u32)>
+        ensures { result ≡ frequent_value (kind_of self.now) (distinct_of self.now) }
+    {
+        with_typed!(self, typed => typed.most_frequent())
+    }
+}
+
+impl From<TypedStats<u8>> for ErasedStats {
+    ghost use Rattle.vx_stats.specs.declared.integer.erased.ErasedStats.TheVariants.{U8};
+
+    ghost from_gives = { λ typed r. r ≡ U8 typed };
+
+    fn from(typed: TypedStats<u8>) -> Self {
+        ErasedStats::U8(typed)
+    }
+}
+
+impl From<TypedStats<u16>> for ErasedStats {
+    ghost use Rattle.vx_stats.specs.declared.integer.erased.ErasedStats.TheVariants.{U16};
+
+    ghost from_gives = { λ typed r. r ≡ U16 typed };
+
+    fn from(typed: TypedStats<u16>) -> Self {
+        ErasedStats::U16(typed)
+    }
+}
+
+impl From<TypedStats<u32>> for ErasedStats {
+    ghost use Rattle.vx_stats.specs.declared.integer.erased.ErasedStats.TheVariants.{U32};
+
+    ghost from_gives = { λ typed r. r ≡ U32 typed };
+
+    fn from(typed: TypedStats<u32>) -> Self {
+        ErasedStats::U32(typed)
+    }
+}
+
+impl From<TypedStats<u64>> for ErasedStats {
+    ghost use Rattle.vx_stats.specs.declared.integer.erased.ErasedStats.TheVariants.{U64};
+
+    ghost from_gives = { λ typed r. r ≡ U64 typed };
+
+    fn from(typed: TypedStats<u64>) -> Self {
+        ErasedStats::U64(typed)
+    }
+}
+
+impl From<TypedStats<i8>> for ErasedStats {
+    ghost use Rattle.vx_stats.specs.declared.integer.erased.ErasedStats.TheVariants.{I8};
+
+    ghost from_gives = { λ typed r. r ≡ I8 typed };
+
+    fn from(typed: TypedStats<i8>) -> Self {
+        ErasedStats::I8(typed)
+    }
+}
+
+impl From<TypedStats<i16>> for ErasedStats {
+    ghost use Rattle.vx_stats.specs.declared.integer.erased.ErasedStats.TheVariants.{I16};
+
+    ghost from_gives = { λ typed r. r ≡ I16 typed };
+
+    fn from(typed: TypedStats<i16>) -> Self {
+        ErasedStats::I16(typed)
+    }
+}
+
+impl From<TypedStats<i32>> for ErasedStats {
+    ghost use Rattle.vx_stats.specs.declared.integer.erased.ErasedStats.TheVariants.{I32};
+
+    ghost from_gives = { λ typed r. r ≡ I32 typed };
+
+    fn from(typed: TypedStats<i32>) -> Self {
+        ErasedStats::I32(typed)
+    }
+}
+
+impl From<TypedStats<i64>> for ErasedStats {
+    ghost use Rattle.vx_stats.specs.declared.integer.erased.ErasedStats.TheVariants.{I64};
+
+    ghost from_gives = { λ typed r. r ≡ I64 typed };
+
+    fn from(typed: TypedStats<i64>) -> Self {
+        ErasedStats::I64(typed)
+    }
+}

@@ -1,0 +1,106 @@
+//! How many integers are distinct at least: no two of those that fall into different slots are one.
+
+ghost use Rattle.std.specs.Prelude.{◌≡◌, ◌<◌, ◌≤◌, ◌^◌, ◌/◌, ℤ, List, [], ◌∷◌, length, map, true};
+ghost use Rattle.vx_base.specs.Answers.{OrMemory};
+ghost use Rattle.vx_base.specs.Integers.{bits_in};
+ghost use Rattle.vx_base.specs.PlainValue.{int};
+ghost use Rattle.vx_base.specs.declared.ptype.PType.{PType};
+ghost use Rattle.vx_model.specs.Refusals.{validity_length};
+ghost use Rattle.vx_model.specs.Rows.{masked_rows, valid_rows};
+ghost use Rattle.vx_stats.specs.Distinct.{distinct};
+ghost use Rattle.vx_stats.specs.Slots.{slot_of, TakenBy};
+ghost use Rattle.vx_stats.specs.Stats.{valid_wholes, distinct_count};
+
+use std::alloc::Global;
+use vx_base::{Integer, Mask, VortexResult};
+
+// 2^64 over the golden ratio: its products with numbers near one another differ in their highest bits.
+const SPREAD: u64 = 0x9E37_79B9_7F4A_7C15;
+
+/// Which slots are taken, and how many of them were free when they were.
+#[derive(Drop)]
+pub(crate) struct Slots {
+    pub(crate) taken: Vec<bool>,
+    pub(crate) shift: u32,
+    pub(crate) count: usize,
+}
+
+// The slot of an item: the highest bits of a product.
+#[inline(always)]
+fn slot_of<T: Integer>(item: T, shift: u32) -> usize
+    ensures { result ≡ slot_of shift (bits_in T.kind (T.whole item)) }
+{
+    item.to_bits().wrapping_mul(SPREAD).wrapping_shr(shift) as usize
+}
+
+impl Slots {
+    // One to two slots for each of so many items, all of them free.
+    fn free(alloc: Global, items: u32) -> VortexResult<Self>
+        ensures { OrMemory result (λ slots. (p : PType) → TakenBy p [] slots) }
+    {
+        let bits = 32 - items.leading_zeros();
+        let taken = vec![in alloc; false; 1usize << bits]?;
+        Ok(Slots {
+            taken,
+            shift: 64 - bits,
+            count: 0,
+        })
+    }
+
+    // The slot of an item is taken, and counts where it was free.
+    #[inline(always)]
+    fn take<T: Integer>(&mut self, item: T)
+        ensures { (zs : List ℤ) → TakenBy T.kind zs self.old → TakenBy T.kind (T.whole item ∷ zs) self.new }
+    {
+        let slot = slot_of(item, self.shift);
+        if slot < self.taken.len() {
+            let free = !self.taken[slot];
+            self.taken[slot] = true;
+            self.count = self.count.saturating_add(usize::from(free));
+        }
+    }
+}
+
+// How many slots integers take.
+fn taken_by_all<T: Integer>(alloc: Global, items: &[T]) -> VortexResult<usize>
+    requires { length items.now < 2 ^ 32 }
+    ensures { OrMemory result (λ count. count ≤ length (distinct (map T.whole items.now))) }
+{
+    let mut slots = Slots::free(alloc, items.len() as u32)?;
+    for row in 0..items.len() {
+        slots.take(items[row]);
+    }
+    Ok(slots.count)
+}
+
+// How many slots the integers whose bit is true take.
+fn taken_by_valid<T: Integer>(alloc: Global, items: &[T], bits: &[bool]) -> VortexResult<usize>
+    requires few { length items.now < 2 ^ 32 }
+    requires bits { length bits.now ≡ length items.now }
+    ensures { OrMemory result (λ count. count ≤ length (distinct (valid_wholes (masked_rows bits.now (map int (map T.whole items.now)))))) }
+{
+    let mut slots = Slots::free(alloc, items.len() as u32)?;
+    for row in 0..items.len() {
+        let item = items[row];
+        if bits[row] {
+            slots.take(item);
+        }
+    }
+    Ok(slots.count)
+}
+
+/// As many as the distinct integers of the valid rows, or fewer: where nearly all are distinct, more than half of them.
+pub(crate) fn distinct_at_least<T: Integer>(
+    alloc: Global,
+    items: &[T],
+    valid: &Option<Mask>,
+) -> VortexResult<usize>
+    requires mask { validity_length valid.now (length items.now) ≡ true }
+    requires few { length items.now < 2 ^ 32 }
+    ensures { OrMemory result (λ count. count ≤ distinct_count (valid_rows valid.now (map int (map T.whole items.now)))) }
+{
+    match valid {
+        Some(mask) => taken_by_valid(alloc, items, mask.as_slice()),
+        None => taken_by_all(alloc, items),
+    }
+}
