@@ -7,7 +7,7 @@ use Rattle.vx_base.specs.declared.error.VortexError.{VortexError}
 use Rattle.vx_base.specs.PlainValue.{PlainValue}
 use Rattle.vx_scheme.specs.Asked.{most_rows}
 use Rattle.vx_scheme.specs.Bundle.{KeptOrDecided}
-use Rattle.vx_scheme.specs.Stats.{stats_refusal}
+use Rattle.vx_stats.specs.Stats.{stats_refusal}
 
 pub no_refusal : (vs : List PlainValue) → length vs ≤ most_rows → stats_refusal vs ≡ None
 no_refusal vs few = let within : nat_lt (length vs) 4294967296 ≡ true = lt-ltb _ _ (omega (arith, few)) in rw within refl

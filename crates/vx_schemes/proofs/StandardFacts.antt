@@ -14,12 +14,12 @@ use Rattle.vx_scheme.specs.Meaning.{kept}
 use Rattle.vx_scheme.specs.declared.estimate.CompressionEstimate.TheVariants.{Verdict, Deferred}
 use Rattle.vx_scheme.specs.declared.estimate.DeferredEstimate.TheVariants.{Sample}
 use Rattle.vx_scheme.specs.declared.estimate.EstimateVerdict.TheVariants.{Skip}
-use Rattle.vx_schemes.specs.CompressedPatches.{index_type, shared_value, compressed_patches}
-use Rattle.vx_schemes.specs.BitPacking.{bit_packing_made}
-use Rattle.vx_schemes.specs.BitPackingMeaning.{bit_packing_meaning}
-use Rattle.vx_schemes.specs.Dictionary.{dictionary_of}
+use Rattle.vx_schemes.specs.Patches.Compressed.{index_type, shared_value, compressed_patches}
+use Rattle.vx_schemes.specs.BitPacking.Tree.{bit_packing_made}
+use Rattle.vx_schemes.specs.BitPacking.Meaning.{bit_packing_meaning}
+use Rattle.vx_schemes.specs.Dictionary.Tree.{dictionary_of}
 use Rattle.vx_schemes.specs.Widths.{first_least, widths_of}
-use Rattle.vx_schemes.specs.declared.bit_packing_scheme.BitPackingScheme.{BitPackingScheme}
+use Rattle.vx_schemes.specs.declared.integer.bit_packing.BitPackingScheme.{BitPackingScheme}
 
 -- of costs 5, 3, 4 and 3 the second is the first least
 pub first_least-second : first_least (λ n. slice_index_or (5 ∷ 3 ∷ 4 ∷ 3 ∷ []) n 0) 3 ≡ 1

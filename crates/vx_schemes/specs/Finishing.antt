@@ -4,10 +4,10 @@ use Rattle.vx_model.specs.Column.{Column}
 use Rattle.vx_model.specs.Nodes.{encoding}
 use Rattle.vx_model.specs.Site.{Site}
 use Rattle.vx_model.specs.Tree.{Tree}
-use Rattle.vx_scheme.specs.Meaning.{Meaning, Made, kept, finished}
+use Rattle.vx_scheme.specs.Meaning.{Meaning, PlainSplit, kept, finished}
 
 -- the tree, where there is one; else the column stays plain
-abbrev pub finished_or_kept : Option Tree → Made
+abbrev pub finished_or_kept : Option Tree → PlainSplit
 finished_or_kept None = kept
 finished_or_kept (Some tree) = finished tree
 

@@ -5,12 +5,12 @@ use Rattle.std.specs.List.{list_all, range_with_len, position_or_len}
 use Rattle.vx_base.specs.declared.ptype.PType.{PType}
 use Rattle.vx_base.specs.Digits.{digits}
 use Rattle.vx_base.specs.Integers.{bits_of, bytes_of, bits_in}
-use Rattle.vx_base.specs.Packed.{fields}
+use Rattle.vx_base.specs.Packed.{kept_rows}
 use Rattle.vx_blocks.specs.Cost.{cost}
 
 -- how many rows have exactly w binary digits, for w from 0 to the type's bits; a null has none
 unfoldable pub widths_of : PType → List ℤ → List Bool → List ℕ
-widths_of p xs valid = map (λ w. count_by (λ row. digits row == w) (fields 64 (map (bits_in p) xs) valid)) (range_with_len 0 (bits_of p + 1))
+widths_of p xs valid = map (λ w. count_by (λ row. digits row == w) (kept_rows 64 (map (bits_in p) xs) valid)) (range_with_len 0 (bits_of p + 1))
 
 -- the first number from 0 to n where f is least
 unfoldable pub first_least : (ℕ → ℕ) → ℕ → ℕ

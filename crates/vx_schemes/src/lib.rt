@@ -1,30 +1,15 @@
-//! The schemes: each makes a tree of a column.
+//! The schemes: each makes a tree of a column. Those of integers stand in `integer`; those of texts and of times will
+//! stand in `text` and `time` beside it.
 #![tactic(auto)]
 
-mod bit_packing;
-mod bit_packing_scheme;
-mod dictionary;
-mod dictionary_encoding;
-mod dictionary_trees;
-mod differences;
-mod distinct_ints;
 mod exclusions;
 mod finishing;
-mod frame_of_reference;
-mod int_dict_scheme;
+mod integer;
 mod pairs;
 mod patches;
-mod recent_codes;
 mod widths;
-mod zig_zag;
-mod zig_zag_scheme;
 
-pub use bit_packing_scheme::BitPackingScheme;
-pub use dictionary_encoding::integer_dictionary_encode;
-pub use frame_of_reference::FoRScheme;
-pub use int_dict_scheme::IntDictScheme;
+pub use integer::{
+    BitPackingScheme, FoRScheme, IntDictScheme, ZigZagScheme, integer_dictionary_encode,
+};
 pub use patches::compress_patches;
-pub use zig_zag_scheme::ZigZagScheme;
-
-#[cfg(test)]
-mod tests;

@@ -9,13 +9,14 @@ ghost use Rattle.vx_model.specs.Column.{column_of};
 ghost use Rattle.vx_model.specs.Plain.{IsPlain, validity};
 ghost use Rattle.vx_model.specs.Refusals.{validity_length};
 ghost use Rattle.vx_model.specs.Rows.{rows, valid_rows};
-ghost use Rattle.vx_array.specs.IntsOf.{wholes_of};
-ghost use Rattle.vx_schemes.specs.CompressedPatches.{index_type, narrowed, shared_value, constant_or_plain, compressed_patches, PatchAlike};
+ghost use Rattle.vx_values.specs.IntsOf.{wholes_of};
+ghost use Rattle.vx_schemes.specs.Patches.Compressed.{index_type, narrowed, shared_value, constant_or_plain, compressed_patches, PatchAlike};
 
 use std::alloc::Global;
-use vx_array::{ArrayRef, Ints, Node, Patches};
+use vx_array::{ArrayRef, Node, Patches};
 use vx_base::{DType, ExecutionCtx, Mask, Nullability, PType, Scalar, VortexResult};
 use vx_blocks::narrow_type;
+use vx_values::Ints;
 
 /// The same patches with plain indices of the narrowest unsigned type that holds them, U8 where there are none, and
 /// with values as a constant where there are some and all are equal, null equal to null, else plain.

@@ -3,9 +3,9 @@ use Rattle.vx_base.proofs.MakesLemmas.{MakesSurely_ok, MakesSurely_err}
 use Rattle.vx_model.specs.Column.{column_of}
 use Rattle.vx_model.specs.Refusals.{patches_refusal}
 use Rattle.vx_model.specs.Tree.{patches}
-use Rattle.vx_schemes.specs.CompressedPatches.{constant_or_plain, compressed_patches, PatchAlike}
-use Rattle.vx_schemes.specs.Laws.Short.{short_alike}
-use Rattle.vx_schemes.proofs.ShortLemmas.{short_admitted}
+use Rattle.vx_schemes.specs.Patches.Compressed.{constant_or_plain, compressed_patches, PatchAlike}
+use Rattle.vx_schemes.specs.Patches.Laws.{short_alike}
+use Rattle.vx_schemes.proofs.PatchLemmas.{short_admitted}
 use Rattle.vx_schemes.proofs.patches.compress_patches.Goals as goal
 
 pub returns-in-Ok-clause-kept : goal.returns-in-Ok-clause-kept

@@ -8,8 +8,8 @@ use Rattle.vx_model.specs.Tree.{constant}
 use Rattle.vx_model.specs.TreeType.{tree_type}
 use Rattle.vx_model.proofs.MadeLemmas.{rows_fit}
 use Rattle.vx_model.proofs.PlainLemmas.{plain_is_plain, column_of-plain}
-use Rattle.vx_schemes.specs.CompressedPatches.{shared_value, shared_or_plain}
-use Rattle.vx_schemes.specs.Laws.Short.{shared-fits}
+use Rattle.vx_schemes.specs.Patches.Compressed.{shared_value, shared_or_plain}
+use Rattle.vx_schemes.specs.Patches.Laws.{shared-fits}
 use Rattle.vx_schemes.proofs.patches.constant_or_plain.Goals as goal
 
 pub shared_value-requires : goal.shared_value-requires

@@ -5,7 +5,7 @@ use Rattle.std.proofs.lemmas.Int.{to_z-of_z}
 use Rattle.vx_model.specs.Rows.{rows, row_at}
 use Rattle.vx_model.specs.TreeType.{tree_type}
 use Rattle.vx_model.proofs.MadeLemmas.{rows_fit}
-use Rattle.vx_schemes.proofs.ShortLemmas.{index_type-of, last_narrows, last_is_some}
+use Rattle.vx_schemes.proofs.PatchLemmas.{index_type-of, last_narrows, last_is_some}
 use Rattle.vx_schemes.proofs.patches.index_type.Goals as goal
 
 pub unreachable-requires : goal.unreachable-requires

@@ -3,8 +3,8 @@ use Rattle.vx_base.specs.PlainValue.{whole_or_zero}
 use Rattle.vx_model.specs.Column.{column_of}
 use Rattle.vx_model.specs.Rows.{rows}
 use Rattle.vx_array.specs.TreeOf.{tree_of}
-use Rattle.vx_array.specs.IntsOf.{wholes_of}
-use Rattle.vx_schemes.proofs.ShortLemmas.{plain_wholes, indices_held}
+use Rattle.vx_values.specs.IntsOf.{wholes_of}
+use Rattle.vx_schemes.proofs.PatchLemmas.{plain_wholes, indices_held}
 use Rattle.vx_schemes.proofs.patches.narrowed.Goals as goal
 
 pub in_unsigned-requires-clause-held : goal.in_unsigned-requires-clause-held

@@ -4,8 +4,8 @@ use Rattle.std.proofs.lemmas.Int.{to_z-of_z}
 use Rattle.vx_base.specs.PlainValue.{int}
 use Rattle.vx_model.specs.Rows.{valid_rows}
 use Rattle.vx_model.proofs.RowLemmas.{length-cells}
-use Rattle.vx_array.specs.IntsOf.{wholes_of}
-use Rattle.vx_schemes.proofs.ShortLemmas.{shared-first, shared-mixed, shared-nulls, some_null_of}
+use Rattle.vx_values.specs.IntsOf.{wholes_of}
+use Rattle.vx_schemes.proofs.PatchLemmas.{shared-first, shared-mixed, shared-nulls, some_null_of}
 use Rattle.vx_schemes.proofs.patches.shared_by.Goals as goal
 
 pub returns-then-each_null_or : goal.returns-then-each_null_or

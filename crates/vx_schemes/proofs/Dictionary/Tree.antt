@@ -1,0 +1,108 @@
+-- The values and the codes of a dictionary as plain trees.
+use Rattle.std.proofs.Common.{◌≡◌, ◌∙◌, ℕ, ℤ, pos, Bool, true, false, List, [], ◌∷◌, map, cond, Some, None, refl, sym, ap}
+use Rattle.std.specs.Prelude.{◌==◌}
+use Rattle.std.specs.List.{list_any}
+use Rattle.std.proofs.lemmas.Bool.{cond-true, cond-false}
+use Rattle.vx_base.specs.declared.ptype.PType.{PType}
+use Rattle.vx_base.specs.declared.dtype.Nullability.{Nullability}
+use Rattle.vx_base.proofs.IntegerLemmas.{by_integer}
+use Rattle.vx_base.specs.PlainType.{is_integer, integer_of, nullability_of}
+use Rattle.vx_base.specs.PlainType as types
+use Rattle.vx_base.specs.PlainValue.{PlainValue, int, is_null, whole_or_zero}
+use Rattle.vx_model.specs.Column.{Column, IsColumn, column, column_of}
+use Rattle.vx_model.specs.Plain.{plain, plain_of, validity, valid_bits, IsPlain}
+use Rattle.vx_model.specs.Refusals.{dict_refusal, kept}
+use Rattle.vx_model.specs.Rows.{rows, valid_rows}
+use Rattle.vx_model.specs.Tree.{Tree, Validity, primitive}
+use Rattle.vx_model.specs.TreeType.{tree_type}
+use Rattle.vx_model.specs.WellFormed.{WellFormed}
+use Rattle.vx_model.proofs.DecodeLemmas.{wholes-map-int, no_null-map-int, kept-validity}
+use Rattle.vx_model.proofs.EachIntLemmas.{validity-each_int}
+use Rattle.vx_scheme.specs.Asked.{FitParts}
+use Rattle.vx_stats.specs.Distinct.{times}
+use Rattle.vx_scheme.specs.Meaning.{parts}
+use Rattle.vx_scheme.specs.Meaning.{kept as nothing}
+use Rattle.vx_stats.specs.Stats.{valid_wholes, value_count, distinct_values, distinct_counts, distinct_count}
+use Rattle.vx_schemes.specs.Dictionary.Tree.{place_in, code_in, code_type, dictionary_values, dictionary_codes}
+use Rattle.vx_schemes.specs.Dictionary.Meaning.{values_found, dictionary_parts}
+use Rattle.vx_schemes.specs.Pairs.{pair_of}
+use Rattle.vx_schemes.specs.Dictionary.Laws.{dictionary-admitted}
+use Rattle.vx_schemes.proofs.ColumnLemmas.{validity_is}
+
+-- ---- the distinct values without their counts
+
+first-of : (f : ℤ → ℕ) (zs : List ℤ) → map (λ (c : ℤ × ℕ). c.0) (map (λ z. (z, f z)) zs) ≡ zs
+first-of f [] = refl
+first-of f (z ∷ zs) = ap (λ l. z ∷ l) (first-of f zs)
+
+pub uncounted-distinct : (vs : List PlainValue) → map (λ c. c.0) (distinct_counts vs) ≡ distinct_values vs
+uncounted-distinct vs = first-of (times (valid_wholes vs)) (distinct_values vs)
+
+pub found-none : (vs : List PlainValue) → (value_count vs == 0) ≡ true → None ≡ values_found vs
+found-none vs h = sym (cond-true (value_count vs == 0) None (Some (distinct_values vs)) h)
+
+pub found-some : (vs : List PlainValue) → (value_count vs == 0) ≡ false → Some (distinct_values vs) ≡ values_found vs
+found-some vs h = sym (cond-false (value_count vs == 0) None (Some (distinct_values vs)) h)
+
+-- ---- values
+
+pub values-plain : (c : Column) → is_integer c.dtype ≡ true → primitive (integer_of c.dtype) (distinct_values c.values) None (nullability_of c.dtype) ≡ plain (dictionary_values c)
+values-plain c = by_integer (λ t. primitive (integer_of t) ds None (nullability_of t) ≡ plain_of t (map int ds)) (λ p n i. primitive p (sym (wholes-map-int ds) i) (sym none i) n) c.dtype
+  where
+    ds : List ℤ
+    ds = distinct_values c.values
+
+    none : validity (map int ds) ≡ None
+    none = cond-false (list_any is_null (map int ds)) (Some (valid_bits (map int ds))) None (no_null-map-int ds)
+
+-- ---- codes
+
+module _ (t : Tree) (p : PType) (xs : List ℤ) (valid : Validity) (n : Nullability) (w : WellFormed t) (at : t ≡ primitive p xs valid n) (is_plain : IsPlain t) where
+  abbrev ds : List ℤ
+  ds = distinct_values (rows t)
+
+  abbrev coded : List PlainValue
+  coded = map (code_in ds) (rows t)
+
+  -- the rows, by what the node holds
+  pub rows-at : valid_rows valid (map int xs) ≡ rows t
+  rows-at = sym (ap rows at)
+
+  valid-codes : valid ≡ validity coded
+  valid-codes = validity_is t p xs valid n w at is_plain ∙ sym (validity-each_int (λ z. pos (place_in ds z)) (rows t))
+
+  own-type : dictionary_codes (column_of t) ≡ column (types.primitive (code_type (distinct_count (rows t))) n) coded
+  own-type = ap (λ s. column (types.primitive (code_type (distinct_count (rows t))) (nullability_of s)) coded) (ap tree_type at)
+
+  pub codes-plain : primitive (code_type (distinct_count (rows t))) (map whole_or_zero coded) (kept valid) n ≡ plain (dictionary_codes (column_of t))
+  codes-plain =
+      let stay : kept valid ≡ validity coded = ap kept valid-codes ∙ kept-validity coded in
+      ap (λ v. primitive (code_type (distinct_count (rows t))) (map whole_or_zero coded) v n) stay ∙ ap plain (sym own-type)
+
+-- ---- the two trees of the parts
+
+some_same : {A : Type 0} (a b : A) → Some a ≡ Some b → a ≡ b
+some_same a b e = cc
+
+heads : {A : Type 0} (a b c d : A) → a ∷ b ∷ [] ≡ c ∷ d ∷ [] → (a ≡ c) × (b ≡ d)
+heads a b c d e = (cc, cc)
+
+pair-fits : (trees : List Tree) (x y : Tree) (first second : Column) → Some (x, y) ≡ pair_of trees → map column_of trees ≡ first ∷ second ∷ [] → (column_of x ≡ first) × (column_of y ≡ second)
+pair-fits [] x y first second e fit = absurd cc
+pair-fits (s ∷ []) x y first second e fit = absurd cc
+pair-fits (s ∷ t ∷ []) x y first second e fit =
+    let pair : (x, y) ≡ (s, t) = some_same (x, y) (s, t) e in
+    let columns = heads (column_of s) (column_of t) first second fit in
+    (ap (λ p. column_of p.0) pair ∙ columns.0, ap (λ p. column_of p.1) pair ∙ columns.1)
+pair-fits (s ∷ t ∷ u ∷ us) x y first second e fit = absurd cc
+
+no_pair : (trees : List Tree) (x y : Tree) → Some (x, y) ≡ pair_of trees → map column_of trees ≡ [] → ⊥
+no_pair [] x y e fit = cc
+no_pair (t ∷ ts) x y e fit = cc
+
+pub pair-admitted : (c : Column) (trees : List Tree) (x y : Tree) → is_integer c.dtype ≡ true → IsColumn c → Some (x, y) ≡ pair_of trees → FitParts (dictionary_parts c) trees → dict_refusal y x ≡ None
+pair-admitted c trees x y j h e fit = by_test (value_count c.values == 0) fit
+  where
+    by_test : (b : Bool) → FitParts (cond b nothing (parts (dictionary_values c ∷ dictionary_codes c ∷ []))) trees → dict_refusal y x ≡ None
+    by_test true f = absurd (no_pair trees x y e f)
+    by_test false f = let both = pair-fits trees x y (dictionary_values c) (dictionary_codes c) e f in dictionary-admitted c y x j h both.0 both.1

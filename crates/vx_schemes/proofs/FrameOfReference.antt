@@ -1,0 +1,5 @@
+-- Lemmas of frames of reference.
+pub mod Facts
+pub mod Framed
+pub mod Least
+pub mod Tree

@@ -1,0 +1,2 @@
+-- Lemmas of zigzag.
+pub mod Tree

@@ -1,9 +1,0 @@
-use Rattle.std.proofs.Common.{◌≡◌, None, sym, subst}
-use Rattle.vx_model.specs.Column.{column_of}
-use Rattle.vx_model.specs.Refusals.{dict_refusal}
-use Rattle.vx_model.specs.Tree.{Tree}
-use Rattle.vx_schemes.proofs.DictionaryEncodingLemmas.{dictionary-accepted}
-use Rattle.vx_schemes.proofs.dictionary_encoding.plain_encoded.Goals as goal
-
-pub dictionary-requires : goal.dictionary-requires
-dictionary-requires c = subst (λ (pair : Tree × Tree). dict_refusal pair.1 pair.0 ≡ None) (sym c.in_ok-values.ensures) (dictionary-accepted (column_of c.args.array.now))

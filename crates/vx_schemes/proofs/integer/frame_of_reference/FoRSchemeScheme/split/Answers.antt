@@ -1,0 +1,11 @@
+use Rattle.std.proofs.Common.{◌∙◌, ap}
+use Rattle.vx_model.specs.Column.{column_of}
+use Rattle.vx_scheme.specs.Meaning.{split_of}
+use Rattle.vx_schemes.specs.FrameOfReference.Tree.{for_made}
+use Rattle.vx_schemes.specs.Finishing.{finished_or_kept}
+use Rattle.vx_schemes.proofs.integer.frame_of_reference.FoRSchemeScheme.split.Goals as goal
+
+pub returns-clause-answer : goal.returns-clause-answer
+returns-clause-answer g c = λ taken.
+    c.finished_or_kept.ensures
+    ∙ ap (λ made. split_of (finished_or_kept made)) (c.in_ok-tree.ensures.answer ∙ ap (λ t. for_made (column_of t)) (c.array-2.ensures.array ∙ c.in_ok-least.ensures.column.array))

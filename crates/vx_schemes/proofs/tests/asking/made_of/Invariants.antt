@@ -1,5 +1,0 @@
--- The count is of the ledger of the blank.
-use Rattle.vx_schemes.proofs.tests.asking.made_of.Given as goal
-
-abbrev pub ghosts-made : goal.ghosts-made
-ghosts-made g a = record { name = a.blank.name; parts = a.blank.parts }

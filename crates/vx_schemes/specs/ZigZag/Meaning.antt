@@ -1,0 +1,47 @@
+-- What the scheme of zigzag means.
+use Rattle.std.specs.Prelude.{◌==◌, not, ◌||◌, false, if◌then◌else◌, List, [], ◌∷◌, codes}
+use Rattle.vx_base.specs.IdNumber.{same_id}
+use Rattle.vx_base.specs.PlainType.{is_integer}
+use Rattle.vx_base.specs.declared.array_id.ArrayId.TheVariants.{ZigZag}
+use Rattle.vx_scheme.specs.Lawful.{Lawful}
+use Rattle.vx_scheme.specs.Meaning.{Meaning}
+use Rattle.vx_scheme.specs.Rules.{Rule}
+use Rattle.vx_scheme.specs.declared.estimate.CompressionEstimate.TheVariants.{Verdict, Deferred}
+use Rattle.vx_scheme.specs.declared.estimate.DeferredEstimate.TheVariants.{Sample}
+use Rattle.vx_scheme.specs.declared.estimate.EstimateVerdict.TheVariants.{Skip}
+use Rattle.vx_scheme.specs.declared.selection.ChildSelection.TheVariants.{All}
+use Rattle.vx_schemes.specs.BitPacking.Meaning.{has_negative}
+use Rattle.vx_schemes.specs.Exclusions.{not_in_codes}
+use Rattle.vx_schemes.specs.ZigZag.Tree.{zig_zag_made, zig_zag_over}
+use Rattle.vx_schemes.specs.ZigZag.Laws.{not_finished, joined-well, few-parts, small-parts}
+use Rattle.vx_schemes.specs.declared.integer.zig_zag.ZigZagScheme.{ZigZagScheme}
+
+-- no dictionary, runs or sparse values below: what equal values are worth, they are worth before their zigzag
+abbrev pub not_below : List Rule
+not_below =
+    record { scheme = codes "vortex.int.dict"; children = All } ∷ record { scheme = codes "vortex.int.runend"; children = All }
+    ∷ record { scheme = codes "vortex.int.sparse"; children = All } ∷ []
+
+-- a column without a negative value is skipped, as is any where no scheme may follow; another is judged by a sample
+abbrev pub zig_zag_meaning : ZigZagScheme → Meaning
+zig_zag_meaning s = record {
+  name = codes "vortex.int.zigzag";
+  takes = is_integer;
+  children = 1;
+  options = record { count_distinct_values = false };
+  produces = λ id. same_id id ZigZag;
+  descendants = not_below;
+  ancestors = not_in_codes;
+  estimate = λ c site. if site.budget == 0 || not (has_negative c) then Verdict Skip else Deferred Sample;
+  resolve = λ c site. Skip;
+  splits = λ c site. zig_zag_made c;
+  joined = λ c site trees. zig_zag_over c trees;
+}
+
+pub zig_zag_lawful : (s : ZigZagScheme) → Lawful (zig_zag_meaning s)
+zig_zag_lawful s = record {
+  finished_well = λ c site tree asked e. absurd (not_finished c tree e);
+  joined_well = λ c site columns trees asked e well fit. joined-well c columns trees asked.taken asked.column e well fit;
+  few_parts = λ c site columns asked e. few-parts c columns e;
+  small_parts = λ c site columns asked e. small-parts c columns asked.taken asked.column e;
+}

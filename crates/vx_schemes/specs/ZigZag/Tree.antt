@@ -1,0 +1,33 @@
+-- What zigzag makes of a column of integers: one part, with the zigzags of its rows.
+use Rattle.std.specs.Prelude.{ℤ, pos, if◌then◌else◌, List, [], ◌∷◌, map}
+use Rattle.vx_base.specs.Integers.{unsigned_of}
+use Rattle.vx_base.specs.PlainType.{integer_of, nullability_of, is_unsigned}
+use Rattle.vx_base.specs.PlainType as types
+use Rattle.vx_base.specs.PlainValue.{PlainValue}
+use Rattle.vx_base.specs.ZigZag.{zigzag}
+use Rattle.vx_model.specs.Column.{Column, column}
+use Rattle.vx_model.specs.Plain.{plain}
+use Rattle.vx_model.specs.Rows.{each_int}
+use Rattle.vx_model.specs.Tree.{Tree, zig_zag}
+use Rattle.vx_scheme.specs.Meaning.{PlainSplit, kept, parts}
+
+-- the zigzag as a whole number
+abbrev pub zigzag_whole : ℤ → ℤ
+zigzag_whole z = pos (zigzag z)
+
+-- the same of a row; null stays
+abbrev pub zigzagged : PlainValue → PlainValue
+zigzagged = each_int zigzag_whole
+
+-- the zigzags of a column's rows in the unsigned type of their width, as nullable as it is
+abbrev pub zigzags : Column → Column
+zigzags c = column (types.primitive (unsigned_of (integer_of c.dtype)) (nullability_of c.dtype)) (map zigzagged c.values)
+
+-- a column of an unsigned type stays plain
+abbrev pub zig_zag_made : Column → PlainSplit
+zig_zag_made c = if is_unsigned c.dtype then kept else parts (zigzags c ∷ [])
+
+-- zigzag over the part's tree
+abbrev pub zig_zag_over : Column → List Tree → Tree
+zig_zag_over c [] = plain c
+zig_zag_over c (tree ∷ trees) = zig_zag tree

@@ -1,0 +1,93 @@
+//! Integers as differences from a reference.
+
+ghost use Rattle.std.specs.Prelude.{◌≡◌, ◌≤◌, ◌^◌, length, IsTrue};
+ghost use Rattle.vx_base.specs.Answers.{Answers};
+ghost use Rattle.vx_base.specs.declared.dtype.Nullability.TheVariants.{NonNullable};
+ghost use Rattle.vx_base.specs.Integers.{lies_in};
+ghost use Rattle.vx_base.specs.PlainScalar.{scalar};
+ghost use Rattle.vx_base.specs.PlainType.{is_integer, integer_of};
+ghost use Rattle.vx_base.specs.PlainType as types;
+ghost use Rattle.vx_base.specs.PlainValue.{int};
+ghost use Rattle.vx_model.specs.Column.{column_of};
+ghost use Rattle.vx_model.specs.Plain.{IsPlain, plain};
+ghost use Rattle.vx_model.specs.Rows.{rows};
+ghost use Rattle.vx_model.specs.Tree.{frame_of_reference};
+ghost use Rattle.vx_model.specs.TreeType.{tree_type};
+ghost use Rattle.vx_model.specs.WellFormed.{differences_type};
+ghost use Rattle.vx_schemes.specs.FrameOfReference.Tree.{least_value, differences, packed_or_plain, for_made};
+
+use crate::integer::bit_packing::bit_packing_tree;
+use std::alloc::Global;
+use vx_array::{ArrayRef, Node};
+use vx_base::{ExecutionCtx, Nullability, PType, Scalar, VortexResult};
+use vx_values::copy_validity;
+
+/// A plain column of integers as differences from its least value, bit packed, or plain where bit packing makes nothing
+/// of them. None where there is no least value, since every row is null.
+pub(crate) fn frame_of_reference_tree(
+    array: &ArrayRef,
+    least: Option<i128>,
+    ctx: &mut ExecutionCtx,
+) -> VortexResult<Option<ArrayRef>>
+    requires plain { IsPlain array.now }
+    requires integer { IsTrue (is_integer (tree_type array.now)) }
+    requires least { least ≡ least_value (rows array.now) }
+    requires few { length (rows array.now) ≤ 2 ^ 32 }
+    ensures answer { Answers result (for_made (column_of array.now)) }
+    ensures ctx { ctx.new ≡ ctx.old }
+{
+    array.known();
+    let Some(reference) = least else {
+        return Ok(None);
+    };
+    let differences = differences(ctx.alloc(), array, reference)?;
+    let encoded = packed_or_plain(differences, ctx)?;
+    Ok(Some(framed(ctx.alloc(), encoded, array.dtype().ptype(), reference)?))
+}
+
+// The differences bit packed, or as they are where bit packing makes nothing of them.
+fn packed_or_plain(array: ArrayRef, ctx: &mut ExecutionCtx) -> VortexResult<ArrayRef>
+    requires plain { IsPlain array }
+    requires few { length (rows array) ≤ 2 ^ 32 }
+    ensures answer { Answers result (packed_or_plain (column_of array)) }
+    ensures ctx { ctx.new ≡ ctx.old }
+{
+    match bit_packing_tree(&array, ctx)? {
+        Some(packed) => Ok(packed),
+        None => Ok(array),
+    }
+}
+
+// The differences from a reference of the type, under it.
+fn framed(alloc: Global, encoded: ArrayRef, ptype: PType, reference: i128) -> VortexResult<ArrayRef>
+    requires held { IsTrue (lies_in ptype reference) }
+    requires of_type { tree_type encoded ≡ differences_type (types.primitive ptype NonNullable) (tree_type encoded) }
+    ensures { Answers result (frame_of_reference encoded (scalar (types.primitive ptype NonNullable) (int reference))) }
+{
+    let reference = Scalar::primitive(reference, ptype, Nullability::NonNullable)?;
+    match ArrayRef::frame_of_reference(alloc, encoded, reference) {
+        Ok(tree) => Ok(tree),
+        Err(refused) => Err(refused.error),
+    }
+}
+
+// The rows less a reference, 0 beneath nulls, as a plain tree of the unsigned type of their width.
+fn differences(alloc: Global, array: &ArrayRef, reference: i128) -> VortexResult<ArrayRef>
+    requires plain { IsPlain array.now }
+    requires held { IsTrue (lies_in (integer_of (tree_type array.now)) reference) }
+    ensures { Answers result (plain (differences (column_of array.now) reference)) }
+{
+    array.known();
+    match array.node() {
+        Node::Primitive(values, valid, nullability) => {
+            let wrapped = values.differences(alloc, reference)?;
+            let zeroed = wrapped.zeroed_by(valid)?;
+            let bits = copy_validity(valid, alloc)?;
+            match ArrayRef::primitive(zeroed, bits, *nullability) {
+                Ok(plain) => Ok(plain),
+                Err(refused) => Err(refused.error),
+            }
+        }
+        _ => unreachable!(),
+    }
+}
