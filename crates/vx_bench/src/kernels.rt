@@ -7,9 +7,10 @@ ghost use Rattle.vx_base.specs.Packed.{packed_size};
 use anyhow::{Result, bail};
 use std::alloc::{AllocError, Global};
 use std::time::CpuClock;
-use vx_array::{ArrayRef, Ints, Node};
+use vx_array::{ArrayRef, Node};
 use vx_base::{Bytes, Integer, Mask, Nullability, PType, VortexResult};
 use vx_blocks::{bit_width_histogram, pack, unpack};
+use vx_values::Ints;
 
 // The generator of values: each state is the one before it times MULTIPLIER plus INCREMENT.
 const SEED: u64 = 1;

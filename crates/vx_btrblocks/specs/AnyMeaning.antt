@@ -3,10 +3,10 @@ use Rattle.std.specs.Prelude.{◌≡◌, Bool, refl}
 use Rattle.vx_base.specs.declared.array_id.ArrayId.{ArrayId}
 use Rattle.vx_scheme.specs.Lawful.{Lawful}
 use Rattle.vx_scheme.specs.Meaning.{Meaning}
-use Rattle.vx_schemes.specs.BitPackingMeaning.{bit_packing_meaning, bit_packing_lawful}
-use Rattle.vx_schemes.specs.FrameOfReference.{for_meaning, for_meaning_lawful}
-use Rattle.vx_schemes.specs.IntDictMeaning.{int_dict_meaning, int_dict_lawful}
-use Rattle.vx_schemes.specs.ZigZagMeaning.{zig_zag_meaning, zig_zag_lawful}
+use Rattle.vx_schemes.specs.BitPacking.Meaning.{bit_packing_meaning, bit_packing_lawful}
+use Rattle.vx_schemes.specs.FrameOfReference.Meaning.{for_meaning, for_meaning_lawful}
+use Rattle.vx_schemes.specs.Dictionary.Meaning.{int_dict_meaning, int_dict_lawful}
+use Rattle.vx_schemes.specs.ZigZag.Meaning.{zig_zag_meaning, zig_zag_lawful}
 use Rattle.vx_btrblocks.specs.declared.any_scheme.AnyScheme.{AnyScheme}
 use Rattle.vx_btrblocks.specs.declared.any_scheme.AnyScheme.TheVariants.{FoR, ZigZag, BitPacking, IntDict, Own}
 

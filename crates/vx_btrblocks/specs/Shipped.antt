@@ -4,10 +4,10 @@ use Rattle.vx_model.specs.Cascade.{cascade}
 use Rattle.vx_model.specs.Column.{Column}
 use Rattle.vx_model.specs.Tree.{Tree}
 use Rattle.vx_scheme.specs.Meaning.{Meaning}
-use Rattle.vx_schemes.specs.BitPackingMeaning.{bit_packing_meaning}
-use Rattle.vx_schemes.specs.FrameOfReference.{for_meaning}
-use Rattle.vx_schemes.specs.IntDictMeaning.{int_dict_meaning}
-use Rattle.vx_schemes.specs.ZigZagMeaning.{zig_zag_meaning}
+use Rattle.vx_schemes.specs.BitPacking.Meaning.{bit_packing_meaning}
+use Rattle.vx_schemes.specs.FrameOfReference.Meaning.{for_meaning}
+use Rattle.vx_schemes.specs.Dictionary.Meaning.{int_dict_meaning}
+use Rattle.vx_schemes.specs.ZigZag.Meaning.{zig_zag_meaning}
 use Rattle.vx_compressor.specs.Cascade.{Setting, leaf_tree}
 
 -- in the order in which they are judged

@@ -6,6 +6,3 @@ mod compressor;
 
 pub use any_scheme::AnyScheme;
 pub use compressor::BtrBlocksCompressor;
-
-#[cfg(test)]
-mod tests;

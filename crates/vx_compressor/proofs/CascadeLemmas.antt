@@ -1,23 +1,23 @@
 -- The laws of compression, for every setting of lawful schemes, by induction on the budget.
 use Rattle.std.proofs.Common.{◌≡◌, ◌<◌, ◌≤◌, ℕ, zero, suc, ◌+◌, Bool, true, false, List, [], ◌∷◌, map, length, Option, Some, None, option_map, All, IfSome, refl, sym, ◌∙◌, ap, subst, arith}
-use Rattle.std.specs.Prelude.{◌==◌, nat_le}
-use Rattle.std.specs.List.{AllByRecursion, list_all}
-use Rattle.std.proofs.lemmas.Bool.{cond-true, eqb-false, leb-true, and_parts}
+use Rattle.std.specs.Prelude.{◌==◌}
+use Rattle.std.specs.List.{AllByRecursion}
+use Rattle.std.proofs.lemmas.Bool.{cond-true, eqb-false}
 use Rattle.std.proofs.lemmas.List.Elements.{All-from_recursion, recursion_from_All}
 use Rattle.vx_base.specs.PlainType.{PlainType, primitive, is_leaf}
-use Rattle.vx_base.specs.PlainValue.{PlainValue}
 use Rattle.vx_model.specs.Cascade.{Leaves, cascade}
 use Rattle.vx_model.specs.Column.{Column, column_of, IsColumn}
-use Rattle.vx_model.specs.Extents.{counts, row_limit}
+use Rattle.vx_model.specs.Extents.{row_limit}
 use Rattle.vx_model.specs.Laws.{NeverLarger, ByTheColumnAlone}
 use Rattle.vx_model.specs.Leaf.{Chooses, leaf}
 use Rattle.vx_model.specs.Site.{Site, fresh, down, max_cascade}
 use Rattle.vx_model.specs.Tree.{Tree}
 use Rattle.vx_model.specs.WellFormed.{WellFormed}
+use Rattle.vx_model.proofs.CountLemmas.{rows-few}
 use Rattle.vx_model.proofs.LeafLemmas.{leaf-cases, cascade-leaf, never_larger}
 use Rattle.vx_scheme.specs.Asked.{IsAsked}
 use Rattle.vx_scheme.specs.Lawful.{Lawful, IsPart}
-use Rattle.vx_scheme.specs.Meaning.{Meaning, Made, kept, finished, parts}
+use Rattle.vx_scheme.specs.Meaning.{Meaning, PlainSplit, kept, finished, parts}
 use Rattle.vx_compressor.specs.Cascade.{Setting, part_trees, made_tree, trial, choice, chosen, site_tree, child_tree, children_of, leaf_tree}
 use Rattle.vx_compressor.specs.CascadeLaws.{IsLawful, IsWithin, KeepsRowsAndType, AgainTheSame}
 use Rattle.vx_compressor.specs.Reach.{IsInReach, most_part_rows}
@@ -61,7 +61,7 @@ module _ (child : Leaves) (budget : ℕ) (keeps : Keeps child budget) where
   trial-stands : (m : Meaning) → Lawful m → (c : Column) (site : Site) → IsAsked m c → IsInReach c budget → StandsFor (trial child m c site) c
   trial-stands m lawful c site asked reach = of_made (m.splits c site) refl
     where
-      of_made : (made : Made) → m.splits c site ≡ made → StandsFor (made_tree child m c site made) c
+      of_made : (made : PlainSplit) → m.splits c site ≡ made → StandsFor (made_tree child m c site made) c
       of_made kept e = plain-stands c asked.column
       of_made (finished tree) e = lawful.finished_well c site tree asked e
       of_made (parts columns) e =
@@ -129,12 +129,9 @@ child_tree-keeps set lawful (suc budget) within c site own =
 leaf_types : (t : PlainType) → is_leaf t ≡ true
 leaf_types (primitive p n) = refl
 
-pub few_rows : (t : PlainType) (vs : List PlainValue) → list_all (λ count. nat_le count row_limit) (counts t vs) ≡ true → length vs ≤ row_limit
-few_rows (primitive p n) vs e = let l : length vs ≤ row_limit = leb-true _ _ (and_parts _ _ e).0 in omega (arith, l)
-
 cascade-column : (set : Setting) → IsLawful set → (c : Column) → IsWithin c → column_of (cascade (leaf_tree set) c) ≡ c
 cascade-column set lawful c within =
-    let few = few_rows c.dtype c.values within.counts_fit in
+    let few = rows-few c.dtype c.values row_limit within.counts_fit in
     let reach : IsInReach c max_cascade = record { few = omega (arith, few); within = omega arith } in
     let here : IsHere max_cascade c = record { column = within.column; leaf = leaf_types c.dtype; reach = reach } in
     ap column_of (cascade-leaf (leaf_tree set) c)

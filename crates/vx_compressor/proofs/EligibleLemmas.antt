@@ -9,11 +9,11 @@ use Rattle.vx_model.specs.Column.{Column}
 use Rattle.vx_model.specs.Site.{Site}
 use Rattle.vx_scheme.specs.Excluded.{History}
 use Rattle.vx_scheme.specs.Meaning.{Meaning}
-use Rattle.vx_scheme.specs.Options.{includes}
+use Rattle.vx_stats.specs.Options.{includes}
 use Rattle.vx_scheme.specs.declared.estimate.CompressionEstimate.{CompressionEstimate}
 use Rattle.vx_scheme.specs.declared.estimate.CompressionEstimate.TheVariants.{Verdict, Deferred}
 use Rattle.vx_scheme.specs.declared.estimate.DeferredEstimate.{DeferredEstimate}
-use Rattle.vx_scheme.specs.declared.options.GenerateStatsOptions.{GenerateStatsOptions}
+use Rattle.vx_stats.specs.declared.options.GenerateStatsOptions.{GenerateStatsOptions}
 use Rattle.vx_compressor.specs.declared.choice.Score.{Score}
 use Rattle.vx_compressor.specs.Choice.{is_always_score, is_greatest, or_else, choice_of}
 use Rattle.vx_model.specs.Leaf.{smaller_or_plain, chosen_or_plain}

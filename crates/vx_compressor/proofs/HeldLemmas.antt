@@ -11,8 +11,8 @@ use Rattle.vx_model.proofs.PlainLemmas.{column_of-plain, plain_is_plain}
 use Rattle.vx_scheme.specs.Asked.{IsSiteTree, HasValue}
 use Rattle.vx_scheme.specs.Bundle.{Bundle, SameArray}
 use Rattle.vx_scheme.specs.Meaning.{Meaning}
-use Rattle.vx_scheme.specs.Options.{includes}
-use Rattle.vx_scheme.specs.declared.options.GenerateStatsOptions.{GenerateStatsOptions}
+use Rattle.vx_stats.specs.Options.{includes}
+use Rattle.vx_stats.specs.declared.options.GenerateStatsOptions.{GenerateStatsOptions}
 use Rattle.vx_compressor.specs.Judging.{Holds, IsAskable, IsReady}
 
 -- a plain tree stands for its column

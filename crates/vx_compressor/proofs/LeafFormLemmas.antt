@@ -2,11 +2,12 @@
 use Rattle.std.proofs.Common.{◌≡◌, ◌≢◌, ◌∙◌, Bool, true, false, List, [], ◌∷◌, length, Option, None, Some, cond, refl, sym}
 use Rattle.std.specs.Prelude.{if◌then◌else◌, option_and_then}
 use Rattle.std.specs.List.{list_all, list_any}
-use Rattle.std.proofs.lemmas.Bool.{cond_both, and_parts}
+use Rattle.std.proofs.lemmas.Bool.{cond_both, and_parts, or_left}
 use Rattle.std.proofs.lemmas.List.{length-replicate}
 use Rattle.vx_base.specs.PlainScalar.{fits, scalar}
 use Rattle.vx_base.specs.PlainType.{PlainType, is_leaf, is_nullable}
-use Rattle.vx_base.specs.PlainValue.{PlainValue, null, int, is_null}
+use Rattle.vx_base.proofs.NullLemmas.{null-fitted}
+use Rattle.vx_base.specs.PlainValue.{PlainValue, null, is_null}
 use Rattle.vx_model.specs.Column.{Column, IsColumn, column, column_of}
 use Rattle.vx_model.specs.Leaf.{first_valid, each_null_or, one_value, one_value_tree}
 use Rattle.vx_model.specs.Plain.{plain, valid_bits}
@@ -29,8 +30,7 @@ plain-stands c fits = (plain_well_formed c fits, column_of-plain c)
 
 null_fits : (t : PlainType) (vs : List PlainValue) → length vs ≢ 0 → list_all is_null vs ≡ true → list_all (fits t) vs ≡ true → is_nullable t ≡ true
 null_fits t [] full e h = absurd (full refl)
-null_fits t (null ∷ vs) full e h = (and_parts (is_nullable t) (list_all (fits t) vs) h).0
-null_fits t (int z ∷ vs) full e h = absurd cc
+null_fits t (v ∷ vs) full e h = null-fitted t (v ∷ vs) h (or_left (is_null v) (list_any is_null vs) (and_parts (is_null v) (list_all is_null vs) e).0)
 
 pub nulls-stand : (c : Column) → IsColumn c → length c.values ≢ 0 → list_all is_null c.values ≡ true → StandsFor (constant (scalar c.dtype null) (length c.values)) c
 nulls-stand c fit full nulls =
@@ -51,11 +51,6 @@ first_of vs v = of_first (first_valid vs)
     of_first None e = absurd cc
     of_first (Some w) e = of_each w (each_null_or w vs) e
 
-some_null_fits : (t : PlainType) (vs : List PlainValue) → list_all (fits t) vs ≡ true → list_any is_null vs ≡ true → is_nullable t ≡ true
-some_null_fits t [] h some = absurd cc
-some_null_fits t (null ∷ vs) h some = (and_parts (is_nullable t) (list_all (fits t) vs) h).0
-some_null_fits t (int z ∷ vs) h some = some_null_fits t vs (and_parts (fits t (int z)) (list_all (fits t) vs) h).1 some
-
 pub one-stands : (c : Column) (v : PlainValue) → IsColumn c → is_leaf c.dtype ≡ true → one_value c.values ≡ Some v → StandsFor (one_value_tree c v) c
 one-stands c v fit leaf one =
     let first = first_of c.values v one in
@@ -63,6 +58,6 @@ one-stands c v fit leaf one =
     let alone : WellFormed (constant (scalar c.dtype v) (length c.values)) = constant_made (scalar c.dtype v) (length c.values) fitting in
     let well : WellFormed (one_value_tree c v) =
     cond_both (list_any is_null c.values) (masked (constant (scalar c.dtype v) (length c.values)) (valid_bits c.values)) (constant (scalar c.dtype v) (length c.values)) WellFormed
-    (λ some. masked_made (constant (scalar c.dtype v) (length c.values)) (valid_bits c.values) leaf (some_null_fits c.dtype c.values fit some) (length-valid_bits c.values ∙ sym (length-replicate (length c.values) v)) (any_null-replicate (length c.values) v (first_valid-valid c.values v first)) alone)
+    (λ some. masked_made (constant (scalar c.dtype v) (length c.values)) (valid_bits c.values) leaf (null-fitted c.dtype c.values fit some) (length-valid_bits c.values ∙ sym (length-replicate (length c.values) v)) (any_null-replicate (length c.values) v (first_valid-valid c.values v first)) alone)
     (λ none. alone) in
     (well, (λ i. column (type-one_value_tree c v i) (rows-one_value_tree c v (one_value-some c.values v one) i)))

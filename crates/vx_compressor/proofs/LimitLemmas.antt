@@ -7,7 +7,7 @@ use Rattle.std.proofs.lemmas.Bool.{leb-true, and_parts}
 use Rattle.vx_base.specs.Answers.{OrMemory, Decided, unless}
 use Rattle.vx_base.specs.declared.error.VortexError.{VortexError}
 use Rattle.vx_base.specs.declared.error.VortexError.TheVariants.{TooManyRows}
-use Rattle.vx_base.specs.PlainType.{PlainType, primitive}
+use Rattle.vx_base.specs.PlainType.{PlainType}
 use Rattle.vx_base.specs.PlainValue.{PlainValue}
 use Rattle.vx_model.specs.Column.{Column, column_of}
 use Rattle.vx_model.specs.Extents.{counts, extents, extents_fit, row_limit}
@@ -18,16 +18,20 @@ use Rattle.vx_model.specs.Site.{Site, fresh}
 use Rattle.vx_model.specs.Tree.{Tree}
 use Rattle.vx_model.specs.TreeType.{tree_type}
 use Rattle.vx_model.specs.WellFormed.{WellFormed}
+use Rattle.vx_model.proofs.CountLemmas.{counts-first}
 use Rattle.vx_model.proofs.LeafLemmas.{counts_within_extents}
 use Rattle.vx_scheme.specs.Asked.{most_rows}
 use Rattle.vx_compressor.specs.Reach.{IsInReach}
 
 within_limit : (t : PlainType) (vs : List PlainValue) (es : List ℕ) → AreWithin (counts t vs) es → list_all (λ e. nat_le e row_limit) es ≡ true → length vs ≤ row_limit
-within_limit (primitive p n) vs [] h fit = absurd h
-within_limit (primitive p n) vs (e ∷ es) h fit =
-    let first : length vs ≤ e = h.0 in
-    let limit : e ≤ row_limit = leb-true e row_limit (and_parts _ _ fit).0 in
-    omega arith
+within_limit t vs es h fit = let first = counts-first t vs in of_counts first.0 es (subst (λ cs. AreWithin cs es) first.1 h) fit
+  where
+    of_counts : (rest es : List ℕ) → AreWithin (length vs ∷ rest) es → list_all (λ e. nat_le e row_limit) es ≡ true → length vs ≤ row_limit
+    of_counts rest [] h fit = absurd h
+    of_counts rest (e ∷ es) h fit =
+        let first : length vs ≤ e = h.0 in
+        let limit : e ≤ row_limit = leb-true e row_limit (and_parts _ _ fit).0 in
+        omega arith
 
 -- it may stand at a fresh site
 pub reach_fresh : (t : Tree) (site : Site) → WellFormed t → extents_fit t ≡ true → site ≡ fresh → IsInReach (column_of t) site.budget

@@ -1,7 +1,7 @@
 -- Trees of nulls alone, and of one value behind a node's validity.
-use Rattle.std.proofs.Common.{◌≡◌, ◌≢◌, ◌∙◌, ℤ, List, [], ◌∷◌, length, map, true, Some, None, refl, sym, ap, subst}
+use Rattle.std.proofs.Common.{◌≡◌, ◌≢◌, ◌∙◌, ℤ, Bool, List, [], ◌∷◌, length, map, true, false, cond, Some, None, refl, sym, ap, subst}
 use Rattle.std.specs.Prelude.{Result, ◌==◌, replicate}
-use Rattle.std.specs.List.{list_all}
+use Rattle.std.specs.List.{list_all, list_any}
 use Rattle.std.proofs.lemmas.List.{length-replicate, length-map}
 use Rattle.std.proofs.lemmas.Bool.{and_parts, eq-eqb}
 use Rattle.vx_base.specs.declared.error.VortexError.{VortexError}
@@ -11,7 +11,8 @@ use Rattle.vx_base.specs.Answers.{Answers}
 use Rattle.vx_base.specs.PlainScalar.{fits, scalar}
 use Rattle.vx_base.specs.PlainType.{PlainType, is_nullable, allows_null}
 use Rattle.vx_base.specs.PlainType as types
-use Rattle.vx_base.specs.PlainValue.{PlainValue, null, int}
+use Rattle.vx_base.proofs.NullLemmas.{by_null, null-fitted}
+use Rattle.vx_base.specs.PlainValue.{PlainValue, int, is_null}
 use Rattle.vx_model.specs.Tree.{Tree, Validity, primitive, constant}
 use Rattle.vx_model.specs.Column.{column_of}
 use Rattle.vx_model.specs.Leaf.{first_valid, one_value_tree}
@@ -31,8 +32,13 @@ answers_along result x y e h = subst (λ z. Answers result z) e h
 
 pub nulls_fit : (t : PlainType) (vs : List PlainValue) → length vs ≢ 0 → first_valid vs ≡ None → list_all (fits t) vs ≡ true → is_nullable t ≡ true
 nulls_fit t [] full e h = absurd (full refl)
-nulls_fit t (null ∷ vs) full e h = (and_parts (is_nullable t) (list_all (fits t) vs) h).0
-nulls_fit t (int z ∷ vs) full e h = absurd cc
+nulls_fit t (v ∷ vs) full e h = null-fitted t (v ∷ vs) h (first v e)
+  where
+    some : (w : PlainValue) → Some w ≡ None → ⊥
+    some w q = cc
+
+    first : (w : PlainValue) → first_valid (w ∷ vs) ≡ None → list_any is_null (w ∷ vs) ≡ true
+    first = by_null (λ w. first_valid (w ∷ vs) ≡ None → list_any is_null (w ∷ vs) ≡ true) (λ q. refl) (λ w f q. absurd (some w (rw f at q)))
 
 -- a tree of nulls alone has a nullable type
 pub nulls_nullable : (t : Tree) → WellFormed t → length (rows t) ≢ 0 → first_valid (rows t) ≡ None → is_nullable (tree_type t) ≡ true
@@ -40,8 +46,11 @@ nulls_nullable t w full e = nulls_fit (tree_type t) (rows t) full e (rows_fit t 
 
 pub first_fits_in : (t : PlainType) (vs : List PlainValue) (v : PlainValue) → first_valid vs ≡ Some v → list_all (fits t) vs ≡ true → fits t v ≡ true
 first_fits_in t [] v e h = absurd cc
-first_fits_in t (null ∷ vs) v e h = first_fits_in t vs v e (and_parts (fits t null) (list_all (fits t) vs) h).1
-first_fits_in t (int z ∷ vs) v e h = let same : int z ≡ v = cc in subst (λ w. fits t w ≡ true) same (and_parts (fits t (int z)) (list_all (fits t) vs) h).0
+first_fits_in t (w ∷ vs) v e h = let b = and_parts (fits t w) (list_all (fits t) vs) h in by_test (is_null w) e (λ q. first_fits_in t vs v q b.1) b.0
+  where
+    by_test : (is : Bool) → cond is (first_valid vs) (Some w) ≡ Some v → (first_valid vs ≡ Some v → fits t v ≡ true) → fits t w ≡ true → fits t v ≡ true
+    by_test true q later k = later q
+    by_test false q later k = let same : w ≡ v = cc in subst (λ u. fits t u ≡ true) same k
 
 -- the first valid value fits the type
 pub first_fits : (t : Tree) (v : PlainValue) → WellFormed t → first_valid (rows t) ≡ Some v → fits (tree_type t) v ≡ true

@@ -11,7 +11,9 @@ use Rattle.vx_base.specs.Masks.{rows_between}
 use Rattle.vx_base.specs.PlainScalar.{fits}
 use Rattle.vx_base.specs.PlainType.{PlainType}
 use Rattle.vx_model.specs.Column.{Column, IsColumn, column}
+use Rattle.vx_model.specs.Extents.{row_limit}
 use Rattle.vx_model.specs.Site.{Site, down}
+use Rattle.vx_model.proofs.CountLemmas.{rows-few}
 use Rattle.vx_scheme.specs.Asked.{IsAsked}
 use Rattle.vx_scheme.specs.Excluded.{History, excluded}
 use Rattle.vx_scheme.specs.Lawful.{Lawful, IsPart}
@@ -22,7 +24,6 @@ use Rattle.vx_compressor.specs.CascadeLaws.{IsLawful, IsWithin}
 use Rattle.vx_compressor.specs.Distinct.{are_distinct}
 use Rattle.vx_compressor.specs.Reached.{IsReached, begun, by_sample, by_part, IsBounded, SitesAreBounded}
 use Rattle.vx_compressor.specs.Sampling.{sample, is_short, slices}
-use Rattle.vx_compressor.proofs.CascadeLemmas.{few_rows}
 use Rattle.vx_compressor.proofs.EligibleLemmas.{all_both, all_filter}
 use Rattle.vx_compressor.proofs.SampleSizes.{sample-fewer}
 
@@ -125,7 +126,7 @@ of_part m d part site number may bounded some is =
 
 module _ (set : Setting) (lawful : IsLawful set) (c : Column) (within : IsWithin c) where
   sound : (d : Column) (site : Site) → IsReached set c d site → IsSound d site
-  sound d site begun = let few = few_rows c.dtype c.values within.counts_fit in record { column = within.column; bounded = record { rows = omega (arith, few); names = refl; levels = refl } }
+  sound d site begun = let few = rows-few c.dtype c.values row_limit within.counts_fit in record { column = within.column; bounded = record { rows = omega (arith, few); names = refl; levels = refl } }
   sound d site (by_sample e at reached) =
       let own = sound e at reached in
       let fewer = sample-fewer at.sampled set.words e in

@@ -9,7 +9,8 @@ use Rattle.vx_base.specs.declared.ptype.PType.{PType}
 use Rattle.vx_base.specs.declared.dtype.Nullability.{Nullability}
 use Rattle.vx_base.specs.Gathered.{gathered, are_parts}
 use Rattle.vx_base.specs.Masks.{is_part, rows_between}
-use Rattle.vx_base.specs.PlainValue.{PlainValue, null, int, is_null, whole_or_zero}
+use Rattle.vx_base.proofs.NullLemmas.{all-not_null}
+use Rattle.vx_base.specs.PlainValue.{PlainValue, is_null, whole_or_zero}
 use Rattle.vx_base.proofs.GatherLemmas.{map-gathered}
 use Rattle.vx_model.specs.Column.{column, column_of}
 use Rattle.vx_model.specs.Plain.{plain, IsPlain, validity, valid_bits}
@@ -68,13 +69,8 @@ none-gathered p (r ∷ rs) xs e =
     list_any-append p (rows_between xs r.0 r.1) (gathered rs xs)
     ∙ (λ i. none-take p (r.1 - r.0) (drop r.0 xs) (none-drop p r.0 xs e) i || none-gathered p rs xs e i)
 
-all-valid_bits : (vs : List PlainValue) → list_all (λ bit. bit) (valid_bits vs) ≡ not (list_any is_null vs)
-all-valid_bits [] = refl
-all-valid_bits (null ∷ vs) = refl
-all-valid_bits (int z ∷ vs) = all-valid_bits vs
-
 kept-valid_bits : (vs : List PlainValue) → kept (Some (valid_bits vs)) ≡ validity vs
-kept-valid_bits vs = ap (λ b. cond b None (Some (valid_bits vs))) (all-valid_bits vs) ∙ turned (list_any is_null vs)
+kept-valid_bits vs = ap (λ b. cond b None (Some (valid_bits vs))) (all-not_null vs) ∙ turned (list_any is_null vs)
   where
     turned : (b : Bool) → cond (not b) None (Some (valid_bits vs)) ≡ cond b (Some (valid_bits vs)) None
     turned true = refl

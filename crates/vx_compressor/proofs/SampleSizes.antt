@@ -22,7 +22,7 @@ use Rattle.vx_model.proofs.PlainLemmas.{length-valid_bits}
 use Rattle.vx_scheme.specs.Asked.{IsSiteTree}
 use Rattle.vx_scheme.specs.Contexts.{sample_site}
 use Rattle.vx_scheme.specs.Meaning.{Meaning}
-use Rattle.vx_scheme.specs.declared.options.GenerateStatsOptions.{GenerateStatsOptions}
+use Rattle.vx_stats.specs.declared.options.GenerateStatsOptions.{GenerateStatsOptions}
 use Rattle.vx_compressor.specs.declared.choice.Score.{Score}
 use Rattle.vx_compressor.specs.Cascade.{trial, size_score, sample_score}
 use Rattle.vx_compressor.specs.Judging.{IsAskable, IsReady}

@@ -15,7 +15,7 @@ use Rattle.vx_model.specs.Tree.{Tree, constant}
 use Rattle.vx_scheme.specs.Asked.{most_rows}
 use Rattle.vx_scheme.specs.Contexts.{leaf_site}
 use Rattle.vx_scheme.specs.Excluded.{root_name}
-use Rattle.vx_scheme.specs.Meaning.{Meaning, Made, kept, finished, parts}
+use Rattle.vx_scheme.specs.Meaning.{Meaning, PlainSplit, kept, finished, parts}
 use Rattle.vx_scheme.specs.declared.estimate.CompressionEstimate.{CompressionEstimate}
 use Rattle.vx_scheme.specs.declared.estimate.CompressionEstimate.TheVariants.{Verdict, Deferred}
 use Rattle.vx_scheme.specs.declared.estimate.DeferredEstimate.TheVariants.{Sample, Callback}
@@ -90,7 +90,7 @@ one_above = refl
 
 -- ---- a site, of schemes that tell and make the same of every column
 
-abbrev telling : List ℕ → CompressionEstimate → EstimateVerdict → Made → Meaning
+abbrev telling : List ℕ → CompressionEstimate → EstimateVerdict → PlainSplit → Meaning
 telling name estimate resolve made = record {
   name = name;
   takes = λ t. true;

@@ -18,7 +18,7 @@ use Rattle.vx_model.proofs.MadeLemmas.{rows_fit}
 use Rattle.vx_model.proofs.PlainLemmas.{column_of-plain, plain_is_plain}
 use Rattle.vx_scheme.specs.Asked.{FitParts, IsAsked, IsSiteTree}
 use Rattle.vx_scheme.specs.Lawful.{Lawful}
-use Rattle.vx_scheme.specs.Meaning.{Meaning, Made, kept, finished, parts, parts_of, split_of}
+use Rattle.vx_scheme.specs.Meaning.{Meaning, PlainSplit, kept, finished, parts, parts_of, split_of}
 use Rattle.vx_scheme.specs.declared.split.Split.TheVariants as splits
 use Rattle.vx_compressor.specs.Cascade.{Setting, setting, part_trees, made_tree, trial, site_tree, child_tree, children_of, leaf_tree}
 use Rattle.vx_compressor.specs.Reach.{IsInReach, IsPartInReach}
@@ -36,7 +36,7 @@ module _ (child : Leaves) (m : Meaning) (c : Column) (site : Site) where
   pub trial-kept : splits.Kept ≡ split_of (m.splits c site) → plain c ≡ trial child m c site
   trial-kept = of_made (m.splits c site)
     where
-      of_made : (made : Made) → splits.Kept ≡ split_of made → plain c ≡ made_tree child m c site made
+      of_made : (made : PlainSplit) → splits.Kept ≡ split_of made → plain c ≡ made_tree child m c site made
       of_made kept e = refl
       of_made (finished tree) e = absurd cc
       of_made (parts columns) e = absurd cc
@@ -44,7 +44,7 @@ module _ (child : Leaves) (m : Meaning) (c : Column) (site : Site) where
   pub trial-finished : (tree : Tree) → splits.Finished tree ≡ split_of (m.splits c site) → tree ≡ trial child m c site
   trial-finished tree = of_made (m.splits c site)
     where
-      of_made : (made : Made) → splits.Finished tree ≡ split_of made → tree ≡ made_tree child m c site made
+      of_made : (made : PlainSplit) → splits.Finished tree ≡ split_of made → tree ≡ made_tree child m c site made
       of_made kept e = absurd cc
       of_made (finished tree') e = cc
       of_made (parts columns) e = absurd cc
@@ -52,11 +52,11 @@ module _ (child : Leaves) (m : Meaning) (c : Column) (site : Site) where
 -- ---- parts
 
 -- they are the plain trees of the meaning's columns
-record ArePartsOf (ps : List Tree) (made : Made) : Type 0 where
+record ArePartsOf (ps : List Tree) (made : PlainSplit) : Type 0 where
   columns : made ≡ parts (map column_of ps)
   plain : All IsPlain ps
 
-are_parts_of : (ps : List Tree) (made : Made) → splits.Parts ps ≡ split_of made → ArePartsOf ps made
+are_parts_of : (ps : List Tree) (made : PlainSplit) → splits.Parts ps ≡ split_of made → ArePartsOf ps made
 are_parts_of ps kept e = absurd cc
 are_parts_of ps (finished tree) e = absurd cc
 are_parts_of ps (parts columns) e =

@@ -12,7 +12,7 @@ use Rattle.vx_model.specs.Leaf.{Chooses, leaf}
 use Rattle.vx_model.specs.Cascade.{Leaves}
 use Rattle.vx_scheme.specs.Contexts.{sample_site}
 use Rattle.vx_scheme.specs.Excluded.{History, excluded}
-use Rattle.vx_scheme.specs.Meaning.{Meaning, Made, kept, finished, parts}
+use Rattle.vx_scheme.specs.Meaning.{Meaning, PlainSplit, kept, finished, parts}
 use Rattle.vx_scheme.specs.declared.estimate.CompressionEstimate.{CompressionEstimate}
 use Rattle.vx_scheme.specs.declared.estimate.CompressionEstimate.TheVariants.{Verdict, Deferred}
 use Rattle.vx_scheme.specs.declared.estimate.DeferredEstimate.{DeferredEstimate}
@@ -40,7 +40,7 @@ abbrev pub part_trees : Leaves → List ℕ → Site → ℕ → List Column →
 part_trees child name site number [] = []
 part_trees child name site number (c ∷ cs) = child c (down site name number) ∷ part_trees child name site (number + 1) cs
 
-abbrev pub made_tree : Leaves → Meaning → Column → Site → Made → Tree
+abbrev pub made_tree : Leaves → Meaning → Column → Site → PlainSplit → Tree
 made_tree child m c site kept = plain c
 made_tree child m c site (finished tree) = tree
 made_tree child m c site (parts columns) = m.joined c site (part_trees child m.name site 0 columns)

@@ -7,11 +7,11 @@ use Rattle.vx_model.specs.Site.{Site}
 use Rattle.vx_scheme.specs.Asked.{most_rows}
 use Rattle.vx_scheme.specs.Bundle.{Bundle}
 use Rattle.vx_scheme.specs.Meaning.{Meaning}
-use Rattle.vx_scheme.specs.Options.{includes}
+use Rattle.vx_stats.specs.Options.{includes}
 use Rattle.vx_scheme.specs.declared.estimate.CompressionEstimate.{CompressionEstimate}
 use Rattle.vx_scheme.specs.declared.estimate.CompressionEstimate.TheVariants.{Verdict, Deferred}
 use Rattle.vx_scheme.specs.declared.estimate.DeferredEstimate.{DeferredEstimate}
-use Rattle.vx_scheme.specs.declared.options.GenerateStatsOptions.{GenerateStatsOptions}
+use Rattle.vx_stats.specs.declared.options.GenerateStatsOptions.{GenerateStatsOptions}
 use Rattle.vx_compressor.specs.declared.choice.Score.{Score}
 use Rattle.vx_compressor.specs.Cascade.{verdict_score, deferred_score}
 

@@ -11,4 +11,3 @@ pub mod Reached
 pub mod Sampling
 pub mod SamplingLaws
 pub mod Shared
-pub mod WholeMeaning

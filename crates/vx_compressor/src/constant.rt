@@ -12,13 +12,14 @@ ghost use Rattle.vx_model.specs.Refusals.{validity_length};
 ghost use Rattle.vx_model.specs.Rows.{rows, valid_rows};
 ghost use Rattle.vx_model.specs.Tree.{constant};
 ghost use Rattle.vx_model.specs.TreeType.{tree_type};
-ghost use Rattle.vx_array.specs.IntsOf.{wholes_of};
+ghost use Rattle.vx_values.specs.IntsOf.{wholes_of};
 ghost use Rattle.vx_compressor.specs.Behind.{behind, behind_refusal};
 ghost use Rattle.vx_compressor.specs.Shared.{IsShared};
 
 use std::alloc::Global;
-use vx_array::{ArrayRef, Ints, Node};
+use vx_array::ArrayRef;
 use vx_base::{DType, Mask, Scalar, VortexResult};
+use vx_values::Ints;
 
 /// What the valid rows of a column share.
 #[derive(Clone, Copy, Debug)]
@@ -47,14 +48,13 @@ fn shared_by(values: &Ints, valid: &Option<Mask>) -> Shared
 }
 
 /// What the valid rows of a plain tree share.
+#[tactic(auto, using(vx_model::proofs::PrimitiveLemmas::plain_roots))]
 pub(crate) fn shared_of(plain: &ArrayRef) -> Shared
     requires { IsPlain plain.now }
     ensures { IsShared (rows plain.now) result }
 {
-    match plain.node() {
-        Node::Primitive(values, valid, _) => shared_by(values, valid),
-        _ => unreachable!(),
-    }
+    let (values, valid, _) = plain.as_primitive();
+    shared_by(values, valid)
 }
 
 /// The constant null in every row.
@@ -98,6 +98,7 @@ fn behind(alloc: Global, child: ArrayRef, valid: &Option<Mask>) -> VortexResult<
 }
 
 /// The integer in every row, masked where rows are null.
+#[tactic(auto, using(vx_model::proofs::PrimitiveLemmas::plain_roots))]
 pub(crate) fn whole_tree(alloc: Global, plain: &ArrayRef, whole: i128) -> VortexResult<ArrayRef>
     requires plain { IsPlain plain.now }
     requires first { first_valid (rows plain.now) ≡ Some (int whole) }
@@ -105,8 +106,6 @@ pub(crate) fn whole_tree(alloc: Global, plain: &ArrayRef, whole: i128) -> Vortex
 {
     plain.known();
     let every = ArrayRef::constant(scalar_of(plain.dtype(), whole), plain.len());
-    match plain.node() {
-        Node::Primitive(_, valid, _) => behind(alloc, every, valid),
-        _ => unreachable!(),
-    }
+    let (_, valid, _) = plain.as_primitive();
+    behind(alloc, every, valid)
 }

@@ -4,7 +4,7 @@ ghost use Rattle.std.specs.Prelude.{◌≡◌, true, All, map};
 ghost use Rattle.vx_base.specs.Answers.{OrMemory};
 ghost use Rattle.vx_base.specs.TypeOf.{type_of};
 ghost use Rattle.vx_scheme.specs.Contexts.{site_of};
-ghost use Rattle.vx_scheme.specs.Options.{includes};
+ghost use Rattle.vx_stats.specs.Options.{includes};
 ghost use Rattle.vx_compressor.specs.Cascade.{is_eligible, eligible};
 
 use crate::compressor::{CascadingCompressor, Schemes};

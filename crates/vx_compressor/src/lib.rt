@@ -24,10 +24,3 @@ pub use sampling::{
     SAMPLE_COUNT, SAMPLE_SIZE, laws_of_sampling, partition_indices,
     sample_count_approx_one_percent, stratified_slices,
 };
-
-#[cfg(test)]
-mod cascade_tests;
-#[cfg(test)]
-mod tests;
-#[cfg(test)]
-mod whole_tests;

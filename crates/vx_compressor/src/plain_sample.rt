@@ -3,7 +3,7 @@
 ghost use Rattle.std.specs.Prelude.{◌≡◌, ◌<◌, ◌≤◌, ◌^◌, length, IsTrue, IfSome, option_map};
 ghost use Rattle.vx_base.specs.Answers.{Answers, OrMemory};
 ghost use Rattle.vx_base.specs.Gathered.{gathered, are_parts};
-ghost use Rattle.vx_array.specs.IntsOf.{ptype_of, wholes_of};
+ghost use Rattle.vx_values.specs.IntsOf.{ptype_of, wholes_of};
 ghost use Rattle.vx_model.specs.Column.{column_of};
 ghost use Rattle.vx_model.specs.Plain.{plain, IsPlain};
 ghost use Rattle.vx_model.specs.Refusals.{kept};
@@ -14,10 +14,12 @@ ghost use Rattle.vx_compressor.specs.Sampling.{sample};
 
 use crate::sampling::{is_short, slices};
 use std::alloc::Global;
-use vx_array::{ArrayRef, Ints, Node};
+use vx_array::ArrayRef;
 use vx_base::{Mask, Nullability, VortexResult};
+use vx_values::Ints;
 
 // The plain tree of the sample's rows. A short column is its own sample, and so is a sample.
+#[tactic(auto, using(vx_model::proofs::PrimitiveLemmas::plain_roots))]
 pub(crate) fn sample(
     alloc: Global,
     words: &[u64],
@@ -33,12 +35,8 @@ pub(crate) fn sample(
         return tree.copy(alloc);
     }
     let ranges = slices(alloc, tree.len(), words)?;
-    match tree.node() {
-        Node::Primitive(values, valid, nullability) => {
-            gathered(alloc, ranges.as_slice(), values, valid, *nullability)
-        }
-        _ => unreachable!(),
-    }
+    let (values, valid, nullability) = tree.as_primitive();
+    gathered(alloc, ranges.as_slice(), values, valid, nullability)
 }
 
 // The rows of the ranges as a tree of their own.

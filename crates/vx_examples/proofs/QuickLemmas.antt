@@ -8,12 +8,12 @@ use Rattle.vx_base.specs.declared.ptype.PType.{PType}
 use Rattle.vx_base.specs.Digits.{digits}
 use Rattle.vx_base.specs.Fractions.{numerator, divisor}
 use Rattle.vx_base.specs.Integers.{bits_in}
-use Rattle.vx_scheme.specs.Erased.{log2_of}
+use Rattle.vx_stats.specs.Erased.{log2_of}
 use Rattle.vx_scheme.specs.Scores.{ratio_of}
-use Rattle.vx_scheme.specs.Stats.{Extremes}
+use Rattle.vx_stats.specs.Stats.{Extremes}
 use Rattle.vx_scheme.specs.declared.estimate.EstimateVerdict.TheVariants.{Skip, Ratio}
 use Rattle.vx_scheme.proofs.RatioLemmas.{Ratio-parts}
-use Rattle.vx_schemes.proofs.WideLemmas.{digits-some}
+use Rattle.vx_schemes.proofs.WidthLemmas.{digits-some}
 use Rattle.vx_examples.specs.QuickPacking.{quick_verdict}
 
 none_greater : (low : ℤ) (n : ℕ) → low ≤ℤ negsuc n → int_lt low (pos 0) ≡ false → ⊥

@@ -13,7 +13,7 @@ use Rattle.vx_model.specs.Size.{size}
 use Rattle.vx_model.specs.Tree.{Tree, primitive, frame_of_reference, dict}
 use Rattle.vx_scheme.specs.Meaning.{Meaning, parts}
 use Rattle.vx_scheme.specs.Scores.{ratio_of}
-use Rattle.vx_scheme.specs.Stats.{Extremes}
+use Rattle.vx_stats.specs.Stats.{Extremes}
 use Rattle.vx_scheme.specs.declared.estimate.EstimateVerdict.TheVariants.{Skip}
 use Rattle.vx_schemes.specs.Widths.{first_least, widths_of}
 use Rattle.vx_btrblocks.specs.Shipped.{shipped_schemes}

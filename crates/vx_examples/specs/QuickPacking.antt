@@ -10,14 +10,14 @@ use Rattle.vx_model.specs.Plain.{plain}
 use Rattle.vx_scheme.specs.Lawful.{Lawful}
 use Rattle.vx_scheme.specs.Meaning.{Meaning}
 use Rattle.vx_scheme.specs.Scores.{ratio_of}
-use Rattle.vx_scheme.specs.Stats.{Extremes, extremes_in}
+use Rattle.vx_stats.specs.Stats.{Extremes, extremes_in}
 use Rattle.vx_scheme.specs.declared.estimate.CompressionEstimate.TheVariants.{Verdict}
 use Rattle.vx_scheme.specs.declared.estimate.EstimateVerdict.{EstimateVerdict}
 use Rattle.vx_scheme.specs.declared.estimate.EstimateVerdict.TheVariants.{Skip}
-use Rattle.vx_schemes.specs.BitPacking.{bit_packing_made}
+use Rattle.vx_schemes.specs.BitPacking.Tree.{bit_packing_made}
 use Rattle.vx_schemes.specs.Finishing.{finished_or_kept}
-use Rattle.vx_schemes.specs.Laws.Finishing.{finishing-lawful}
-use Rattle.vx_schemes.specs.Laws.Packing.{bit_packing-lawful}
+use Rattle.vx_schemes.specs.FinishingLaws.{finishing-lawful}
+use Rattle.vx_schemes.specs.BitPacking.Laws.{bit_packing-lawful}
 use Rattle.vx_btrblocks.specs.Shipped.{shipped_schemes}
 
 -- the bits of a value to the binary digits of the greatest; no ratio with a negative value, or where there are no digits

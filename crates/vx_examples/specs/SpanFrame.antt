@@ -11,11 +11,11 @@ use Rattle.vx_model.specs.Column.{Column}
 use Rattle.vx_model.specs.Plain.{plain}
 use Rattle.vx_model.specs.Tree.{Tree, frame_of_reference}
 use Rattle.vx_scheme.specs.Meaning.{Meaning, parts}
-use Rattle.vx_scheme.specs.Stats.{least_in}
+use Rattle.vx_stats.specs.Stats.{least_in}
 use Rattle.vx_scheme.specs.declared.estimate.CompressionEstimate.TheVariants.{Verdict}
 use Rattle.vx_scheme.specs.declared.estimate.EstimateVerdict.TheVariants.{Skip}
-use Rattle.vx_schemes.specs.Differences.{differences}
-use Rattle.vx_schemes.specs.FrameOfReference.{for_estimate}
+use Rattle.vx_schemes.specs.FrameOfReference.Tree.{differences}
+use Rattle.vx_schemes.specs.FrameOfReference.Meaning.{for_estimate}
 use Rattle.vx_btrblocks.specs.Shipped.{shipped_schemes}
 
 -- the least value, or the type's greatest where every row is null

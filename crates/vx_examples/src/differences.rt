@@ -3,11 +3,11 @@
 ghost use Rattle.std.specs.Prelude.{◌≡◌, IsTrue};
 ghost use Rattle.vx_base.specs.Answers.{Answers};
 ghost use Rattle.vx_base.specs.Integers.{lies_in};
-ghost use Rattle.vx_base.specs.PlainType.{integer_of};
+ghost use Rattle.vx_base.specs.PlainType.{is_integer, integer_of};
 ghost use Rattle.vx_model.specs.Column.{column_of};
 ghost use Rattle.vx_model.specs.Plain.{IsPlain, plain};
 ghost use Rattle.vx_model.specs.TreeType.{tree_type};
-ghost use Rattle.vx_schemes.specs.Differences.{differences};
+ghost use Rattle.vx_schemes.specs.FrameOfReference.Tree.{differences};
 ghost use Rattle.vx_examples.specs.SpanFrame.{reference_of};
 
 use std::alloc::Global;
@@ -16,7 +16,8 @@ use vx_base::{Mask, VortexResult};
 
 /// The least value, or the type's greatest where every row is null.
 pub(crate) fn reference(array: &ArrayRef) -> i128
-    requires { IsPlain array.now }
+    requires plain { IsPlain array.now }
+    requires integer { IsTrue (is_integer (tree_type array.now)) }
     ensures value { result ≡ reference_of (column_of array.now) }
     ensures held { IsTrue (lies_in (integer_of (tree_type array.now)) result) }
 {

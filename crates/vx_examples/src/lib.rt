@@ -9,6 +9,3 @@ mod span_frame;
 pub use building::{compressor, compressor_with_frames};
 pub use quick_packing::QuickPacking;
 pub use span_frame::SpanFrame;
-
-#[cfg(test)]
-mod tests;

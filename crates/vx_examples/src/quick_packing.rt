@@ -98,7 +98,9 @@ impl Scheme for QuickPacking {
         _site: &CompressorContext,
         _ctx: &mut ExecutionCtx,
     ) -> VortexResult<CompressionEstimate> {
-        let dtype = column.array().dtype();
+        let array = column.array();
+        array.known();
+        let dtype = array.dtype();
         if !dtype.is_integer() {
             return Ok(CompressionEstimate::Verdict(EstimateVerdict::Skip));
         }

@@ -6,6 +6,7 @@ ghost use Rattle.vx_base.specs.declared.dtype.Nullability.TheVariants.{NonNullab
 ghost use Rattle.vx_base.specs.Integers.{lies_in};
 ghost use Rattle.vx_base.specs.PlainScalar.{scalar};
 ghost use Rattle.vx_base.specs.PlainType as types;
+ghost use Rattle.vx_base.specs.PlainType.{is_integer};
 ghost use Rattle.vx_base.specs.PlainValue.{int};
 ghost use Rattle.vx_model.specs.Column.{column_of};
 ghost use Rattle.vx_model.specs.Plain.{IsPlain};
@@ -36,7 +37,8 @@ pub struct SpanFrame;
 
 // The differences from the least value, as the one part.
 fn parts(alloc: Global, array: &ArrayRef) -> VortexResult<Split>
-    requires { IsPlain array.now }
+    requires plain { IsPlain array.now }
+    requires integer { IsTrue (is_integer (tree_type array.now)) }
     ensures { Answers result (split_of (parts (above_least (column_of array.now) ∷ []))) }
 {
     let part = differences(alloc, array, reference(array))?;
@@ -60,6 +62,7 @@ fn framed(alloc: Global, encoded: ArrayRef, ptype: PType, reference: i128) -> Vo
 // The part's tree under the least value.
 fn joined(alloc: Global, array: &ArrayRef, trees: Arrays) -> VortexResult<ArrayRef>
     requires plain { IsPlain array.now }
+    requires integer { IsTrue (is_integer (tree_type array.now)) }
     requires trees { FitParts (parts (above_least (column_of array.now) ∷ [])) trees }
     ensures { Answers result (frame_over (column_of array.now) trees) }
 {
@@ -143,6 +146,9 @@ impl Scheme for SpanFrame {
         steps: &mut Steps<L>,
     ) -> VortexResult<Split> {
         steps.tick();
+        if !self.matches(column.array().dtype()) {
+            return Ok(Split::Kept);
+        }
         parts(ctx.alloc(), column.array())
     }
 
@@ -153,6 +159,10 @@ impl Scheme for SpanFrame {
         trees: Arrays,
         ctx: &mut ExecutionCtx,
     ) -> VortexResult<ArrayRef> {
-        joined(ctx.alloc(), column.array(), trees)
+        let array = column.array();
+        if !self.matches(array.dtype()) {
+            return array.copy(ctx.alloc());
+        }
+        joined(ctx.alloc(), array, trees)
     }
 }

@@ -2,12 +2,11 @@
 use Rattle.std.proofs.Common.{◌≡◌, ◌<◌, ◌≤◌, ◌^◌, ℕ, Bool, true, false, List, [], ◌∷◌, length, Ok, Err, None, refl, sym, ap, ◌∙◌, arith}
 use Rattle.std.specs.Prelude.{nat_le}
 use Rattle.std.specs.List.{list_all}
-use Rattle.std.proofs.lemmas.Bool.{and_parts, leb-true}
 use Rattle.std.proofs.lemmas.List.{length-map}
 use Rattle.vx_base.specs.declared.error.VortexError.{VortexError}
 use Rattle.vx_base.specs.declared.error.VortexError.TheVariants.{NoMemory, TooManyRows}
 use Rattle.vx_base.specs.Answers.{Decided, unless}
-use Rattle.vx_base.specs.ErrorName.{name_of}
+use Rattle.vx_base.specs.ErrorName.{error_name}
 use Rattle.vx_base.specs.PlainType.{PlainType, primitive}
 use Rattle.vx_base.specs.PlainValue.{whole_or_zero}
 use Rattle.vx_model.specs.Tree.{Tree}
@@ -16,6 +15,7 @@ use Rattle.vx_model.specs.Column.{Column, column_of}
 use Rattle.vx_model.specs.Extents.{counts, extents, extents_fit, row_limit}
 use Rattle.vx_model.specs.Plain.{plain, plain_of, IsPlain}
 use Rattle.vx_model.specs.Refusals.{compress_refusal}
+use Rattle.vx_model.proofs.CountLemmas.{rows-few}
 use Rattle.vx_model.proofs.SizeLemmas.{small_plain}
 use Rattle.vx_compressor.proofs.CascadeLemmas.{never_larger_by}
 use Rattle.vx_btrblocks.specs.Shipped.{shipped_setting, shipped_tree}
@@ -33,10 +33,7 @@ extents_fit-plain t e = ap extents_fit e ∙ ap (list_all (λ count. nat_le coun
 
 -- the first count is that of the column itself
 few_rows : (c : Column) → counts_fit c ≡ true → length c.values ≤ row_limit
-few_rows c e = of_type c.dtype e
-  where
-    of_type : (t : PlainType) → list_all (λ count. nat_le count row_limit) (counts t c.values) ≡ true → length c.values ≤ row_limit
-    of_type (primitive p n) h = leb-true _ _ (and_parts _ _ h).0
+few_rows c e = rows-few c.dtype c.values row_limit e
 
 size-shipped_tree : (words : List ℕ) (c : Column) → size (shipped_tree words c) ≤ size (plain c)
 size-shipped_tree words c = never_larger_by (shipped_setting words) c
@@ -81,7 +78,7 @@ module _ (words : List ℕ) (t tree : Tree) (e : IsPlain t) (answer : Decided (c
       rw (p.0, p.1, whole) refl
 
 pub reply_refused : (words : List ℕ) (t : Tree) (error : VortexError) → IsPlain t → Decided (compress_refusal t) (λ u. u ≡ shipped_tree words (column_of t)) (Err error) → (error ≡ NoMemory → ⊥)
-    → refusal 4 (name_of error) ≡ of_column words (column_of t)
+    → refusal 4 (error_name error) ≡ of_column words (column_of t)
 unfolding of_column
 reply_refused words t error e h other =
     let p = refused words t error e h other in

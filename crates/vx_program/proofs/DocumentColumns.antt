@@ -1,6 +1,6 @@
 -- The tree that a document's rows make is the plain one of their column.
 use Rattle.std.proofs.Common.{◌≡◌, List, [], ◌∷◌, length, map, ℤ, Bool, true, false, cond, Option, Some, None, option_map, refl, sym, ap, ◌∙◌, arith}
-use Rattle.std.specs.Prelude.{Result, Ok, ◌&&◌, ◌==◌, option_and_then}
+use Rattle.std.specs.Prelude.{Result, Ok, ◌==◌, option_and_then}
 use Rattle.std.specs.List.{list_all, list_any}
 use Rattle.std.proofs.lemmas.Bool.Decides.{nat_tests}
 use Rattle.std.proofs.lemmas.List.{length-map}
@@ -13,12 +13,14 @@ use Rattle.vx_base.specs.PlainType as types
 use Rattle.vx_base.specs.declared.error.Refused.{Refused}
 use Rattle.vx_base.specs.Answers.{MakesSurely}
 use Rattle.vx_base.specs.PlainScalar.{fits}
-use Rattle.vx_base.specs.PlainValue.{PlainValue, null, int, is_null, whole_or_zero}
+use Rattle.vx_base.proofs.NullLemmas.{all-not_null}
+use Rattle.vx_base.specs.PlainValue.{PlainValue, is_null, whole_or_zero}
 use Rattle.vx_model.specs.Tree.{Tree, Validity, primitive}
 use Rattle.vx_model.specs.Plain.{valid_bits, validity, plain_of, IsPlain}
 use Rattle.vx_model.specs.Column.{column}
 use Rattle.vx_model.specs.Rows.{rows}
 use Rattle.vx_model.specs.Refusals.{kept, primitive_refusal}
+use Rattle.vx_model.proofs.DecodeLemmas.{null_allowed}
 use Rattle.vx_model.proofs.PlainLemmas.{length-valid_bits, list_all-valid_bits, rows-plain_of, plain_is_plain}
 use Rattle.vx_program.specs.Document.{all_by, row_of, cell_of, when, AreRows, bits_of}
 
@@ -48,15 +50,6 @@ fits-rows t (item d ds) vs e = fits-parts t (row_of t d) (all_by (row_of t) ds) 
 
 -- ---- the constructor admits it
 
-no_null : (p : PType) (vs : List PlainValue) → list_all (fits (types.primitive p NonNullable)) vs ≡ true → list_any is_null vs ≡ false
-no_null p [] h = refl
-no_null p (null ∷ vs) h = absurd cc
-no_null p (int z ∷ vs) h = no_null p vs (second (fits (types.primitive p NonNullable) (int z)) h)
-  where
-    second : (b : Bool) → (b && list_all (fits (types.primitive p NonNullable)) vs) ≡ true → list_all (fits (types.primitive p NonNullable)) vs ≡ true
-    second true e = e
-    second false e = absurd cc
-
 admitted : (n : Nullability) (vs : List PlainValue) → primitive_refusal (length (map whole_or_zero vs)) (bits_of n vs) n ≡ None
 admitted NonNullable vs = refl
 admitted Nullable vs = rw same_length refl
@@ -64,19 +57,14 @@ admitted Nullable vs = rw same_length refl
     same_length : (length (valid_bits vs) == length (map whole_or_zero vs)) ≡ true
     same_length = let a = length-valid_bits vs in let b = length-map vs whole_or_zero in grind (arith, nat_tests)
 
-all_valid : (vs : List PlainValue) → list_any is_null vs ≡ false → list_all (λ bit. bit) (valid_bits vs) ≡ true
-all_valid [] e = refl
-all_valid (null ∷ vs) e = absurd cc
-all_valid (int z ∷ vs) e = all_valid vs e
-
 -- what it keeps of the truth values is the validity
 kept-bits : (p : PType) (n : Nullability) (vs : List PlainValue) → list_all (fits (types.primitive p n)) vs ≡ true → kept (bits_of n vs) ≡ validity vs
-kept-bits p NonNullable vs h = rw (no_null p vs h) refl
+kept-bits p NonNullable vs h = rw (null_allowed p vs h) refl
 kept-bits p Nullable vs h = by_any (list_any is_null vs) refl
   where
     by_any : (b : Bool) → list_any is_null vs ≡ b → kept (Some (valid_bits vs)) ≡ cond b (Some (valid_bits vs)) None
     by_any true e = rw (list_all-valid_bits vs e) refl
-    by_any false e = rw (all_valid vs e) refl
+    by_any false e = rw (all-not_null vs, e) refl
 
 -- ---- the tree that it makes
 

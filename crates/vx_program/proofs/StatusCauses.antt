@@ -4,7 +4,7 @@ use Rattle.std.specs.Prelude.{◌↔◌, ◌⊎◌}
 use Rattle.std.proofs.lemmas.Bool.{ltb-true, ltb-false}
 use Rattle.std.proofs.lemmas.Option.{IfSome_then}
 use Rattle.vx_base.specs.declared.error.VortexError.TheVariants.{TooManyRows}
-use Rattle.vx_base.specs.ErrorName.{name_of}
+use Rattle.vx_base.specs.ErrorName.{error_name}
 use Rattle.vx_model.specs.Plain.{plain}
 use Rattle.vx_model.specs.Size.{size}
 use Rattle.vx_btrblocks.specs.Shipped.{shipped_tree}
@@ -26,7 +26,7 @@ unfolding of_document of_column
 not_too_long None reply e k = let status = ap (λ r. r.0) e in omega (arith, status, k)
 not_too_long (Some d) reply e k = by (counts_fit d.column) e
   where
-    by : (fit : Bool) → reply ≡ cond fit (report (size (plain d.column)) (shipped_tree d.words d.column)) (refusal 4 (name_of TooManyRows)) → ⊥
+    by : (fit : Bool) → reply ≡ cond fit (report (size (plain d.column)) (shipped_tree d.words d.column)) (refusal 4 (error_name TooManyRows)) → ⊥
     by true f = let status = ap (λ r. r.0) f in omega (arith, status, k)
     by false f = let status = ap (λ r. r.0) f in omega (arith, status, k)
 
@@ -47,7 +47,7 @@ module _ (words : List (List ℕ)) (bytes : List ℕ) where
 
   -- a document, by its counts
   of_counts : IsRead words bytes → (d : PlainDocument) → document bytes ≡ Some d → (fit : Bool) → counts_fit d.column ≡ fit
-      → Causes words bytes (cond fit (report (size (plain d.column)) (shipped_tree d.words d.column)) (refusal 4 (name_of TooManyRows))).0
+      → Causes words bytes (cond fit (report (size (plain d.column)) (shipped_tree d.words d.column)) (refusal 4 (error_name TooManyRows))).0
   of_counts read d e true f =
       record {
         answered = (λ k. omega (arith, k), λ k. omega (arith, k), λ k. omega (arith, k));

@@ -4,7 +4,7 @@ use Rattle.std.specs.declared.alloc.Global.{Global}
 use Rattle.std.specs.List.{concat, list_all}
 use Rattle.std.specs.Str.{bytes_eq}
 use Rattle.vx_base.specs.declared.error.VortexError.TheVariants.{TooManyRows}
-use Rattle.vx_base.specs.ErrorName.{name_of}
+use Rattle.vx_base.specs.ErrorName.{error_name}
 use Rattle.vx_model.specs.Tree.{Tree}
 use Rattle.vx_model.specs.Column.{Column}
 use Rattle.vx_model.specs.Extents.{counts, row_limit}
@@ -44,7 +44,7 @@ report plain_size tree = (0, listing [] tree ++ sizes_line plain_size (size tree
 
 -- the reply to a document's column, whose samples the words place
 unfoldable pub of_column : List ℕ → Column → Reply
-of_column words c = if counts_fit c then report (size (plain c)) (shipped_tree words c) else refusal 4 (name_of TooManyRows)
+of_column words c = if counts_fit c then report (size (plain c)) (shipped_tree words c) else refusal 4 (error_name TooManyRows)
 
 -- the reply to the document that bytes are, or to none
 unfoldable pub of_document : Option PlainDocument → Reply

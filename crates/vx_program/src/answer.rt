@@ -2,7 +2,7 @@
 
 ghost use Rattle.std.specs.Prelude.{◌≡◌, ◌≢◌, ◌<◌, ◌+◌, ◌^◌, ◌++◌, ◌↔◌, [], List, ℕ, Option, IfOk, IfSome, OnErr, string_bytes, length, map};
 ghost use Rattle.vx_base.specs.declared.error.VortexError.TheVariants.{NoMemory};
-ghost use Rattle.vx_base.specs.ErrorName.{name_of};
+ghost use Rattle.vx_base.specs.ErrorName.{error_name};
 ghost use Rattle.vx_model.specs.Column.{column_of};
 ghost use Rattle.vx_model.specs.Plain.{IsPlain};
 ghost use Rattle.vx_model.specs.Size.{size};
@@ -101,7 +101,7 @@ fn report(alloc: Global, plain: u128, tree: ArrayRef) -> Result<Reply, AllocErro
 // The reply to an error of the library. Want of memory stays one.
 fn refuse_document(alloc: Global, error: VortexError) -> Result<Reply, AllocError>
     ensures { IfOk result (λ r. (error ≢ NoMemory) × ((r.status, string_bytes r.text)
-        ≡ refusal 4 (name_of error))) }
+        ≡ refusal 4 (error_name error))) }
 {
     match error {
         VortexError::NoMemory => Err(AllocError),

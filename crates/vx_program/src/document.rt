@@ -146,6 +146,3 @@ pub fn read_document(alloc: Global, bytes: Vec<u8>) -> Result<Document, Unread>
     let value = value_of(alloc, bytes)?;
     document_of(alloc, &value)
 }
-
-#[cfg(test)]
-mod tests;

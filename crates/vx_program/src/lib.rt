@@ -22,6 +22,3 @@ pub use running::{run, run_in_memory};
 pub use std_edge::{StdSink, StdSource};
 pub use sure::{SureSink, SureSource};
 pub use writing::{Stop, deliver};
-
-#[cfg(test)]
-mod tests;

@@ -6,15 +6,16 @@ ghost use Rattle.vx_base.specs.PlainType.{primitive};
 ghost use Rattle.vx_model.specs.Plain.{IsPlain};
 ghost use Rattle.vx_model.specs.Rows.{rows};
 ghost use Rattle.vx_model.specs.TreeType.{tree_type};
-ghost use Rattle.vx_array.specs.IntsOf.{ptype_of, wholes_of};
+ghost use Rattle.vx_values.specs.IntsOf.{ptype_of, wholes_of};
 ghost use Rattle.vx_program.specs.Document.{Gives, GivesForm, AreRows, all_by, row_of, rows_of};
 
 use crate::document::rows::read_rows;
 use crate::document::unread::Unread;
 use serde_json::Value;
 use std::alloc::Global;
-use vx_array::{ArrayRef, Ints};
+use vx_array::ArrayRef;
 use vx_base::{Mask, Nullability, PType};
+use vx_values::Ints;
 
 // Rows of one integer type that the value tells.
 #[derive(Drop)]

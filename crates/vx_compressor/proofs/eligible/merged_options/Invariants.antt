@@ -1,5 +1,5 @@
 use Rattle.std.proofs.Common.{◌≡◌, true, All, take}
-use Rattle.vx_scheme.specs.Options.{includes}
+use Rattle.vx_stats.specs.Options.{includes}
 use Rattle.vx_compressor.proofs.eligible.merged_options.Given as goal
 
 -- those so far are included

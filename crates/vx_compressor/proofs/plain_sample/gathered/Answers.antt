@@ -1,5 +1,5 @@
 use Rattle.std.proofs.Common.{◌∙◌, length}
-use Rattle.vx_array.specs.IntsOf.{ptype_of, wholes_of}
+use Rattle.vx_values.specs.IntsOf.{ptype_of, wholes_of}
 use Rattle.vx_base.proofs.MakesLemmas.{MakesSurely_err}
 use Rattle.vx_model.specs.Refusals.{primitive_refusal}
 use Rattle.vx_compressor.proofs.SampleLemmas.{sample_refusal, bits_are_parts}

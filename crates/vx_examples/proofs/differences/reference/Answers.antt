@@ -8,7 +8,7 @@ use Rattle.vx_model.specs.Column.{column_of}
 use Rattle.vx_model.specs.Rows.{rows}
 use Rattle.vx_model.specs.TreeType.{tree_type}
 use Rattle.vx_model.proofs.MadeLemmas.{rows_fit}
-use Rattle.vx_scheme.specs.Stats.{valid_wholes}
+use Rattle.vx_stats.specs.Stats.{valid_wholes}
 use Rattle.vx_examples.specs.SpanFrame.{reference_of}
 use Rattle.vx_examples.specs.SpanFrameLaws.{reference-held}
 use Rattle.vx_examples.proofs.differences.reference.Goals as goal
@@ -19,4 +19,4 @@ returns-clause-held c =
     let least = to_z w128 c.loop-row.least-bits in
     let none_left = at_drop_all (λ vs. fold int_min least (valid_wholes vs)) (rows t) c.loop-row.row (omega arith) in
     let same : least ≡ reference_of (column_of t) = sym none_left ∙ c.loop-row.invariant in
-    subst (λ (z : ℤ). lies_in (integer_of (tree_type t)) z ≡ true) (sym same) (reference-held (column_of t) (rows_fit t c.known.ensures))
+    subst (λ (z : ℤ). lies_in (integer_of (tree_type t)) z ≡ true) (sym same) (reference-held (column_of t) c.requires.integer (rows_fit t c.known.ensures))

@@ -3,7 +3,7 @@ use Rattle.std.specs.Prelude.{fold}
 use Rattle.std.specs.Int.{int_min}
 use Rattle.vx_model.specs.Column.{column_of}
 use Rattle.vx_model.specs.Rows.{rows}
-use Rattle.vx_scheme.specs.Stats.{valid_wholes}
+use Rattle.vx_stats.specs.Stats.{valid_wholes}
 use Rattle.vx_examples.specs.SpanFrame.{reference_of}
 use Rattle.vx_examples.proofs.differences.reference.Given as goal
 

@@ -1,6 +1,6 @@
 use Rattle.std.proofs.Common.{◌≡◌, ◌∙◌, ◌+◌, false, pos, sym, ap}
 use Rattle.std.specs.Prelude.{int_lt}
-use Rattle.vx_scheme.specs.Erased.{kind_of, extremes_of}
+use Rattle.vx_stats.specs.Erased.{kind_of, extremes_of}
 use Rattle.vx_examples.proofs.QuickLemmas.{quick-some, quick-none}
 use Rattle.vx_examples.proofs.quick_packing.verdict.Goals as goal
 

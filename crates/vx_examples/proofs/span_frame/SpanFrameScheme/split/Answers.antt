@@ -8,4 +8,4 @@ use Rattle.vx_examples.proofs.span_frame.SpanFrameScheme.split.Goals as goal
 
 pub returns-clause-answer : goal.returns-clause-answer
 returns-clause-answer g c = λ taken.
-    subst (λ (t : Tree). Answers c.parts.result (split_of (parts (above_least (column_of t) ∷ [])))) c.array.ensures.array c.parts.ensures
+    subst (λ (t : Tree). Answers c.parts.result (split_of (parts (above_least (column_of t) ∷ [])))) c.array-2.ensures.array c.parts.ensures
