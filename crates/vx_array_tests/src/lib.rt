@@ -1,0 +1,17 @@
+//! Tests of trees: each node worked by hand, and each call that takes memory once.
+#![tactic(auto)]
+
+#[cfg(test)]
+mod bit_packed;
+#[cfg(test)]
+mod dict;
+#[cfg(test)]
+mod frame_of_reference;
+#[cfg(test)]
+mod leaves;
+#[cfg(test)]
+mod lists;
+#[cfg(test)]
+mod patches;
+#[cfg(test)]
+mod zig_zag;

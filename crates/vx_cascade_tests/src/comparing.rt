@@ -1,0 +1,89 @@
+//! What a compressor makes of a column, as plain data.
+
+use std::alloc::Global;
+use vx_array::ArrayRef;
+use vx_base::{ArrayId, Nullability, PType, VortexResult};
+use vx_btrblocks::BtrBlocksCompressor;
+use vx_fixtures::{column, context, flat};
+use vx_scheme::{NoScheme, Scheme};
+
+/// The root's encoding, the bytes, and the encoding of the first child.
+pub(crate) type Form = (ArrayId, u128, Option<ArrayId>);
+
+pub(crate) fn form_of(tree: &ArrayRef) -> Form {
+    let child = tree.child(0).map(|child| child.encoding_id());
+    (tree.encoding_id(), tree.nbytes(), child)
+}
+
+// The form by the shipped schemes, and by a list with schemes of a caller's.
+pub(crate) fn by_both<X: Scheme>(
+    alloc: Global,
+    compressor: &BtrBlocksCompressor<X>,
+    array: &ArrayRef,
+) -> VortexResult<(Form, Form)> {
+    let mut ctx = context(alloc)?;
+    let shipped = BtrBlocksCompressor::<NoScheme>::shipped(alloc)?;
+    let without = shipped.compress(array, &mut ctx)?;
+    let with = compressor.compress(array, &mut ctx)?;
+    Ok((form_of(&without), form_of(&with)))
+}
+
+// The same of a column without nulls, and of one with nulls.
+pub(crate) fn wholes_by_both<X: Scheme>(
+    alloc: Global,
+    compressor: &BtrBlocksCompressor<X>,
+    ptype: PType,
+    wholes: &[i128],
+) -> VortexResult<(Form, Form)> {
+    let array = flat(alloc, ptype, Nullability::NonNullable, wholes)?;
+    by_both(alloc, compressor, &array)
+}
+
+pub(crate) fn rows_by_both<X: Scheme>(
+    alloc: Global,
+    compressor: &BtrBlocksCompressor<X>,
+    ptype: PType,
+    rows: &[Option<i128>],
+) -> VortexResult<(Form, Form)> {
+    let array = column(alloc, ptype, rows)?;
+    by_both(alloc, compressor, &array)
+}
+
+// The same of a thousand rows, ten numbers in turn from the first on.
+pub(crate) fn tens_by_both<X: Scheme>(
+    alloc: Global,
+    compressor: &BtrBlocksCompressor<X>,
+    first: i128,
+) -> VortexResult<(Form, Form)> {
+    let wholes = tens(alloc, 1000, first)?;
+    wholes_by_both(alloc, compressor, PType::I32, wholes.as_slice())
+}
+
+// The same of waves from the least on.
+pub(crate) fn waves_by_both<X: Scheme>(
+    alloc: Global,
+    compressor: &BtrBlocksCompressor<X>,
+    least: i128,
+) -> VortexResult<(Form, Form)> {
+    let wholes = waves(alloc, least)?;
+    wholes_by_both(alloc, compressor, PType::I32, wholes.as_slice())
+}
+
+// So many rows of whole numbers, ten in turn from the first on.
+pub(crate) fn tens(alloc: Global, rows: u16, first: i128) -> VortexResult<Vec<i128>> {
+    let mut wholes = Vec::new(alloc);
+    for row in 0..rows {
+        wholes.push(first.saturating_add(i128::from(row % 10)))?;
+    }
+    Ok(wholes)
+}
+
+// 2,048 rows: of each 128 the first 64, which are the sample by the word 0, are the least, and then 1 to 7 more come.
+fn waves(alloc: Global, least: i128) -> VortexResult<Vec<i128>> {
+    let mut wholes = Vec::new(alloc);
+    for row in 0..2048_u16 {
+        let more = if row % 128 < 64 { 0 } else { row % 7 + 1 };
+        wholes.push(least.saturating_add(i128::from(more)))?;
+    }
+    Ok(wholes)
+}

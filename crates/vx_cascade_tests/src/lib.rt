@@ -1,0 +1,19 @@
+//! Tests of the cascade: samples, children, the shipped compressor, and schemes of a caller's own.
+#![tactic(auto)]
+
+#[cfg(test)]
+mod children;
+#[cfg(test)]
+mod comparing;
+#[cfg(test)]
+mod own_schemes;
+#[cfg(test)]
+mod quick_packing;
+#[cfg(test)]
+mod sampling;
+#[cfg(test)]
+mod shipped;
+#[cfg(test)]
+mod span_frame;
+#[cfg(test)]
+mod whole;

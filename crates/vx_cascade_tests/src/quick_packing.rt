@@ -1,0 +1,37 @@
+//! What quick packing tells and makes of columns, and where it is chosen, with ample memory.
+
+use crate::comparing::{form_of, tens_by_both, waves_by_both};
+use std::test::Fail;
+use vx_base::ArrayId::{BitPacked, Dict, FoR, Primitive};
+use vx_base::PType::I32;
+use vx_examples::{QuickPacking, compressor};
+use vx_fixtures::{Told, made_of, told_of};
+use vx_scheme::{CompressorContext, Scheme};
+
+#[test]
+fn the_ratio_is_of_the_greatest_value(rt: HostRuntime) -> Result<(), Fail> {
+    let scheme = QuickPacking::new();
+    for (rows, estimate, encoding, nbytes) in [
+        ([Some(3), Some(1)], Told::Ratio(32, 2), BitPacked, 256),
+        ([Some(5), Some(-3)], Told::Nothing, Primitive, 8),
+    ] {
+        let told = told_of(rt.alloc(), &scheme, &CompressorContext::new(), I32, &rows)?;
+        assert!(rt; told == (estimate, Told::Nothing));
+        let (parts, tree) = made_of(rt.alloc(), &scheme, I32, &rows)?;
+        assert!(rt; parts == 0 && form_of(&tree) == (encoding, nbytes, None));
+    }
+    assert!(rt; scheme.descendant_exclusions(rt.alloc())?.len() == 0);
+    assert!(rt; scheme.ancestor_exclusions(rt.alloc())?.len() == 0);
+    Ok(())
+}
+
+#[test]
+fn it_is_chosen_where_a_sample_sees_nothing_but_zeros(rt: HostRuntime) -> Result<(), Fail> {
+    let compressor = compressor(rt.alloc())?;
+    let waves = waves_by_both(rt.alloc(), &compressor, 0)?;
+    let tens = tens_by_both(rt.alloc(), &compressor, -3)?;
+    let frame = (FoR, 512, Some(BitPacked));
+    assert!(rt; waves == ((Dict, 2080, Some(Primitive)), (BitPacked, 768, None)));
+    assert!(rt; tens == (frame, frame));
+    Ok(())
+}

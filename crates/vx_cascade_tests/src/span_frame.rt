@@ -1,0 +1,79 @@
+//! What span frames tell of columns, and what becomes of their part, with ample memory.
+
+use crate::comparing::{Form, form_of, rows_by_both, tens_by_both, waves_by_both, wholes_by_both};
+use std::alloc::Global;
+use std::test::Fail;
+use vx_base::ArrayId::{BitPacked, Dict, FoR, Primitive};
+use vx_base::PType::{I64, U16};
+use vx_base::VortexResult;
+use vx_btrblocks::BtrBlocksCompressor;
+use vx_examples::{SpanFrame, compressor_with_frames};
+use vx_fixtures::{Told, made_of, told_of};
+use vx_scheme::{CompressorContext, Scheme};
+
+#[test]
+fn differences_are_one_part(rt: HostRuntime) -> Result<(), Fail> {
+    let rows = [Some(1001), None, Some(1000)];
+    let told = told_of(
+        rt.alloc(),
+        &SpanFrame,
+        &CompressorContext::new(),
+        U16,
+        &rows,
+    )?;
+    assert!(rt; told == (Told::Ratio(16, 1), Told::Nothing));
+    let (parts, tree) = made_of(rt.alloc(), &SpanFrame, U16, &rows)?;
+    assert!(rt; parts == 1 && form_of(&tree) == (FoR, 7, Some(Primitive)));
+    assert!(rt; SpanFrame.descendant_exclusions(rt.alloc())?.len() == 0);
+    assert!(rt; SpanFrame.ancestor_exclusions(rt.alloc())?.len() == 0);
+    Ok(())
+}
+
+// The shipped frame packs without a trial. In the last row bit packing takes no byte on the sample of the part, so it
+// has no score, and a dictionary stands.
+#[test]
+fn the_part_becomes_whatever_is_best_for_its_sample(rt: HostRuntime) -> Result<(), Fail> {
+    let compressor = compressor_with_frames(rt.alloc())?;
+    let framed = tens_by_both(rt.alloc(), &compressor, -3)?;
+    let packed = tens_by_both(rt.alloc(), &compressor, 0)?;
+    let coded = waves_by_both(rt.alloc(), &compressor, 1000)?;
+    let frame = (FoR, 512, Some(BitPacked));
+    assert!(rt; framed == (frame, frame));
+    assert!(rt; packed == ((BitPacked, 512, None), (BitPacked, 512, None)));
+    assert!(rt; coded == ((FoR, 768, Some(BitPacked)), (FoR, 2080, Some(Dict))));
+    Ok(())
+}
+
+// 10^12 and the nineteen tens behind it, five times.
+fn twenties(alloc: Global) -> VortexResult<Vec<i128>> {
+    let mut wholes = Vec::new(alloc);
+    for row in 0..100_u16 {
+        wholes.push(1_000_000_000_000 + i128::from(row % 20) * 10)?;
+    }
+    Ok(wholes)
+}
+
+fn twenties_by_both<X: Scheme>(
+    alloc: Global,
+    compressor: &BtrBlocksCompressor<X>,
+) -> VortexResult<(Form, Form)> {
+    let wholes = twenties(alloc)?;
+    wholes_by_both(alloc, compressor, I64, wholes.as_slice())
+}
+
+// The differences of the first column would fill a block of 1,024 bytes, more than they take plain; their dictionary has
+// 20 values of 8 bytes, and 100 codes of one byte. That of the second, 1,000 to 1,002 and a null, has 9 codes, 2 bytes of
+// bits, and 3 values of 2 bytes.
+#[test]
+fn the_part_becomes_a_dictionary(rt: HostRuntime) -> Result<(), Fail> {
+    let compressor = compressor_with_frames(rt.alloc())?;
+    let of_twenties = twenties_by_both(rt.alloc(), &compressor)?;
+    let three = [Some(1000), Some(1001), Some(1002)];
+    let rows = [
+        three[0], three[1], three[2], three[0], three[1], three[2], three[1], three[2], None,
+    ];
+    let of_three = rows_by_both(rt.alloc(), &compressor, U16, &rows)?;
+    assert!(rt; of_twenties == ((Primitive, 800, None), (FoR, 260, Some(Dict))));
+    assert!(rt; of_three == ((Primitive, 20, None), (FoR, 17, Some(Dict))));
+    Ok(())
+}

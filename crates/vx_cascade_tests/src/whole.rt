@@ -1,0 +1,106 @@
+//! A scheme of a caller's own, which is always judged: its one part is the column itself.
+
+use std::alloc::Global;
+use std::sync::ledger::Ledger;
+use vx_array::{ArrayRef, Arrays};
+use vx_base::{DType, ExecutionCtx, Fraction, IdSet, Steps, VortexResult};
+use vx_scheme::{
+    AllowedIds, AncestorRules, ArrayAndStats, CompressionEstimate, CompressorContext,
+    DescendantRules, EstimateVerdict, GenerateStatsOptions, Scheme, Split,
+};
+
+// A scheme that tells this of every column. Its tree is the column's own, so it never is smaller.
+#[derive(Clone, Copy, Debug)]
+pub(crate) struct Whole {
+    pub(crate) estimate: CompressionEstimate,
+}
+
+impl Scheme for Whole {
+    ghost use Rattle.vx_cascade_tests.specs.WholeMeaning.{whole_meaning, whole_lawful};
+    ghost use Rattle.std.specs.Prelude.{refl};
+
+    ghost meaning = { λ s. whole_meaning s.estimate };
+
+    ghost refined = { λ s allowed. s };
+
+    ghost lawful = { λ s. whole_lawful s.estimate };
+
+    ghost keeps_name = { λ s allowed. refl };
+
+    fn scheme_name(&self) -> &'static str {
+        "test.whole"
+    }
+
+    fn matches(&self, _dtype: &DType) -> bool {
+        true
+    }
+
+    fn produced_encodings(&self) -> IdSet {
+        IdSet::empty()
+    }
+
+    fn refine(&self, _allowed: &AllowedIds) -> Self {
+        *self
+    }
+
+    fn stats_options(&self) -> GenerateStatsOptions {
+        GenerateStatsOptions::default()
+    }
+
+    fn num_children(&self) -> usize {
+        1
+    }
+
+    fn descendant_exclusions(&self, alloc: Global) -> VortexResult<DescendantRules> {
+        Ok(DescendantRules::new_in(alloc))
+    }
+
+    fn ancestor_exclusions(&self, alloc: Global) -> VortexResult<AncestorRules> {
+        Ok(AncestorRules::new_in(alloc))
+    }
+
+    fn expected_compression_ratio(
+        &self,
+        _column: &mut ArrayAndStats,
+        _site: &CompressorContext,
+        _ctx: &mut ExecutionCtx,
+    ) -> VortexResult<CompressionEstimate> {
+        Ok(self.estimate)
+    }
+
+    fn resolve_estimate(
+        &self,
+        _column: &mut ArrayAndStats,
+        _threshold: Option<Fraction>,
+        _site: &CompressorContext,
+        _ctx: &mut ExecutionCtx,
+    ) -> VortexResult<EstimateVerdict> {
+        Ok(EstimateVerdict::AlwaysUse)
+    }
+
+    fn split<L: Ledger>(
+        &self,
+        column: &mut ArrayAndStats,
+        _site: &CompressorContext,
+        ctx: &mut ExecutionCtx,
+        steps: &mut Steps<L>,
+    ) -> VortexResult<Split> {
+        steps.tick();
+        let mut parts = Vec::new(ctx.alloc());
+        parts.push(column.array().copy(ctx.alloc())?)?;
+        Ok(Split::Parts(Arrays::from_vec(parts)))
+    }
+
+    fn join(
+        &self,
+        column: &mut ArrayAndStats,
+        _site: &CompressorContext,
+        trees: Arrays,
+        ctx: &mut ExecutionCtx,
+    ) -> VortexResult<ArrayRef> {
+        match trees.get(0) {
+            Some(tree) => tree.copy(ctx.alloc()),
+            None => column.array().copy(ctx.alloc()),
+        }
+    }
+}

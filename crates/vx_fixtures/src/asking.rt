@@ -1,0 +1,152 @@
+//! What any scheme answers of a short column.
+
+ghost use Rattle.std.specs.Prelude.{◌≡◌, ◌<◌, length, IsTrue, true};
+ghost use Rattle.vx_base.specs.PlainType.{is_integer};
+ghost use Rattle.vx_model.specs.Column.{column_of};
+ghost use Rattle.vx_model.specs.Rows.{rows};
+ghost use Rattle.vx_model.specs.TreeType.{tree_type};
+ghost use Rattle.vx_scheme.specs.Asked.{IsSiteTree, HasValue};
+
+use crate::columns::{bundle, context};
+use std::alloc::Global;
+use std::marker::Brand;
+use std::sync::ledger::{Blank, Ledger};
+use vx_array::{ArrayRef, Arrays};
+use vx_base::{ExecutionCtx, PType, Steps, VortexError, VortexResult};
+use vx_scheme::{
+    ArrayAndStats, CompressionEstimate, CompressorContext, DeferredEstimate, EstimateVerdict,
+    Scheme, Split,
+};
+
+// The most rows of a column that is asked about.
+const MOST_ROWS: u64 = 4096;
+
+/// A scheme's answer on a column, as data that is compared by its parts.
+#[derive(Clone, Copy, Debug, PartialEq, Eq)]
+pub enum Told {
+    /// It can't serve the column.
+    Nothing,
+    /// It is to be chosen.
+    Always,
+    /// Bytes to bytes.
+    Ratio(u64, u64),
+    /// What a sample shows.
+    Sampled,
+    /// What it tells when it is asked again.
+    Later,
+}
+
+// The same by the verdict.
+fn told_by_verdict(verdict: EstimateVerdict) -> Told {
+    match verdict {
+        EstimateVerdict::Skip => Told::Nothing,
+        EstimateVerdict::AlwaysUse => Told::Always,
+        EstimateVerdict::Ratio(ratio) => Told::Ratio(ratio.num(), ratio.den()),
+    }
+}
+
+// The same by the estimate.
+fn told_by_estimate(estimate: CompressionEstimate) -> Told {
+    match estimate {
+        CompressionEstimate::Verdict(verdict) => told_by_verdict(verdict),
+        CompressionEstimate::Deferred(DeferredEstimate::Sample) => Told::Sampled,
+        CompressionEstimate::Deferred(DeferredEstimate::Callback) => Told::Later,
+    }
+}
+
+// Whether a column has a first row, with a value.
+#[tactic(auto, using(vx_scheme::proofs::NullLemmas::some_value))]
+fn begins_with_a_value(array: &ArrayRef) -> bool
+    requires { IsTrue (is_integer (tree_type array.now)) }
+    ensures some { IsTrue result → 0 < length (rows array.now) }
+    ensures value { IsTrue result → HasValue (column_of array.now) }
+{
+    array.len() > 0 && array.integer_at(0).is_some()
+}
+
+// What a scheme expects of a column at a site, and the verdict that it put off.
+fn answers<S: Scheme>(
+    scheme: &S,
+    site: &CompressorContext,
+    column: &mut ArrayAndStats,
+    ctx: &mut ExecutionCtx,
+) -> VortexResult<(Told, Told)>
+    requires integer { IsTrue (is_integer (tree_type column.old.array)) }
+    requires options { column.old.options.count_distinct_values ≡ true }
+{
+    let array = column.array();
+    if array.len() > MOST_ROWS || !begins_with_a_value(array) {
+        return Err(VortexError::MismatchedTypes);
+    }
+    let estimate = scheme.expected_compression_ratio(column, site, ctx)?;
+    let verdict = scheme.resolve_estimate(column, None, site, ctx)?;
+    Ok((told_by_estimate(estimate), told_by_verdict(verdict)))
+}
+
+/// What a scheme expects of a column at a site, and the verdict that it put off. Refuses MismatchedTypes where the first
+/// row has no value or more than 4,096 rows come.
+pub fn told_of<S: Scheme>(
+    alloc: Global,
+    scheme: &S,
+    site: &CompressorContext,
+    ptype: PType,
+    rows: &[Option<i128>],
+) -> VortexResult<(Told, Told)> {
+    let mut ctx = context(alloc)?;
+    let mut column = bundle(alloc, ptype, rows)?;
+    answers(scheme, site, &mut column, &mut ctx)
+}
+
+// The number of parts of a column, and its tree by the scheme with the parts as they are.
+fn made<S: Scheme, L: Ledger>(
+    scheme: &S,
+    column: &mut ArrayAndStats,
+    ctx: &mut ExecutionCtx,
+    blank: Blank,
+) -> VortexResult<(u64, ArrayRef)>
+    requires column { IsSiteTree column.old.array }
+    requires options { column.old.options.count_distinct_values ≡ true }
+    requires takes { (S.meaning scheme.now).takes (tree_type column.old.array) ≡ true }
+    requires name { blank.name ≡ L.name }
+    requires parts { blank.parts ≡ L.parts }
+    requires some { 0 < L.parts }
+{
+    let mut steps = Steps::<L>::new(blank);
+    let site = CompressorContext::new();
+    match scheme.split(column, &site, ctx, &mut steps)? {
+        Split::Kept => Ok((
+            0,
+            scheme.join(column, &site, Arrays::new_in(ctx.alloc()), ctx)?,
+        )),
+        Split::Finished(tree) => Ok((0, tree)),
+        Split::Parts(parts) => Ok((parts.len(), scheme.join(column, &site, parts, ctx)?)),
+    }
+}
+
+// The same of a short column that the scheme takes.
+fn made_of_taken<S: Scheme>(
+    scheme: &S,
+    column: &mut ArrayAndStats,
+    ctx: &mut ExecutionCtx,
+) -> VortexResult<(u64, ArrayRef)>
+    requires { column.old.options.count_distinct_values ≡ true }
+{
+    let array = column.array();
+    if array.len() == 0 || array.len() > MOST_ROWS || !scheme.matches(array.dtype()) {
+        return Err(VortexError::MismatchedTypes);
+    }
+    made::<S, Brand>(scheme, column, ctx, Blank::new(1))
+}
+
+/// How many parts a scheme makes of a column at a fresh site, and its tree with the parts as they are. Refuses
+/// MismatchedTypes where the scheme doesn't take the column, or this has no row or more than 4,096.
+pub fn made_of<S: Scheme>(
+    alloc: Global,
+    scheme: &S,
+    ptype: PType,
+    rows: &[Option<i128>],
+) -> VortexResult<(u64, ArrayRef)> {
+    let mut ctx = context(alloc)?;
+    let mut column = bundle(alloc, ptype, rows)?;
+    made_of_taken(scheme, &mut column, &mut ctx)
+}

@@ -1,0 +1,12 @@
+//! What tests of several crates share: masks, integers and trees made of plain slices, and what is told of them.
+#![tactic(auto)]
+
+mod asking;
+mod columns;
+mod making;
+mod rows;
+
+pub use asking::{Told, made_of, told_of};
+pub use columns::{bundle, column, context};
+pub use making::{accepted, bits, flat, integers, list, packed, with_nulls};
+pub use rows::{has_rows, has_wholes};

@@ -1,0 +1,17 @@
+//! Tests of the crates below the trees: texts, scalars, lists, packing and the kernels of integers.
+#![tactic(auto)]
+
+#[cfg(test)]
+mod bounds;
+#[cfg(test)]
+mod ints;
+#[cfg(test)]
+mod lists;
+#[cfg(test)]
+mod packing;
+#[cfg(test)]
+mod scalars;
+#[cfg(test)]
+mod texts;
+#[cfg(test)]
+mod widths;

@@ -1,0 +1,47 @@
+//! What goes through whole, with ample memory.
+
+use std::alloc::{AllocError, Global};
+use std::test::Fail;
+use vx_base::Bytes;
+use vx_program::{Input, SureSink, SureSource, deliver, read_all, run_in_memory};
+
+#[test]
+fn what_is_read_whole_is_delivered_whole(rt: HostRuntime) -> Result<(), Fail> {
+    let text = "seven\n";
+    let bytes = Vec::from_slice(rt.alloc(), text.as_bytes())?;
+    let mut source = SureSource::new(Bytes::from_vec(bytes));
+    match read_all(rt.alloc(), &mut source)? {
+        Input::Whole(got) => assert_eq!(rt; got.as_slice(), text.as_bytes()),
+        _ => assert!(rt; false, "not read whole"),
+    }
+    let mut sink = SureSink::new(rt.alloc());
+    assert!(rt; deliver(&mut sink, text).is_ok());
+    assert!(rt; deliver(&mut sink, "8").is_ok());
+    assert_eq!(rt; sink.bytes().as_slice(), b"seven\n8".as_slice());
+    assert_eq!(rt; sink.into_bytes().as_slice(), b"seven\n8".as_slice());
+    Ok(())
+}
+
+/// One word.
+pub(crate) fn word(alloc: Global, text: &str) -> Result<Vec<String>, AllocError> {
+    let mut words = Vec::new(alloc);
+    words.push(String::from_str(alloc, text)?)?;
+    Ok(words)
+}
+
+/// Three sevens.
+pub(crate) fn document(alloc: Global) -> Result<Bytes, AllocError> {
+    let text = b"{\"type\":\"i64\",\"rows\":[7,7,7],\"words\":[0]}".as_slice();
+    Ok(Bytes::from_vec(Vec::from_slice(alloc, text)?))
+}
+
+#[test]
+fn a_column_is_listed(rt: HostRuntime) -> Result<(), Fail> {
+    let words = word(rt.alloc(), "compress")?;
+    let bytes = document(rt.alloc())?;
+    let (status, sink) = run_in_memory(rt.alloc(), words.as_slice(), bytes);
+    assert_eq!(rt; status, 0);
+    let listing = b"vortex.constant i64 len=3 size=9 value=7\nplain=24 tree=9\n".as_slice();
+    assert_eq!(rt; sink.bytes().as_slice(), listing);
+    Ok(())
+}

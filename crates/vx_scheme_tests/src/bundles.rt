@@ -1,0 +1,58 @@
+//! What bundles tell of small columns worked by hand. A bundle has one way out of each function that owns it, since its
+//! drop is proved at each.
+
+ghost use Rattle.std.specs.Prelude.{IsTrue};
+ghost use Rattle.vx_base.specs.PlainType.{is_integer};
+ghost use Rattle.vx_model.specs.TreeType.{tree_type};
+
+use std::test::Fail;
+use vx_base::PType::I64;
+use vx_base::{ExecutionCtx, VortexResult};
+use vx_fixtures::{bundle, context};
+use vx_scheme::ArrayAndStats;
+
+// How many values and how many distinct ones a summary has, and then the statistics.
+fn counts_of(
+    column: &mut ArrayAndStats,
+    ctx: &mut ExecutionCtx,
+) -> VortexResult<[(u32, Option<u32>); 2]>
+    requires { IsTrue (is_integer (tree_type column.old.array)) }
+{
+    let summary = column.integer_summary()?;
+    let of_summary = (summary.value_count(), summary.distinct_count());
+    let stats = column.integer_stats(ctx)?;
+    Ok([of_summary, (stats.value_count(), stats.distinct_count())])
+}
+
+#[test]
+fn a_bundle_tells_its_statistics(rt: HostRuntime) -> Result<(), Fail> {
+    let mut ctx = context(rt.alloc())?;
+    let mut column = bundle(rt.alloc(), I64, &[Some(5), Some(5), None])?;
+    let counts = counts_of(&mut column, &mut ctx);
+    drop(column);
+    assert!(rt; counts? == [(2, None), (2, Some(1))]);
+    Ok(())
+}
+
+const FAR: Option<i128> = Some(1_000_000_007);
+
+#[test]
+fn more_than_half_of_the_values_are_most(rt: HostRuntime) -> Result<(), Fail> {
+    let mut ctx = context(rt.alloc())?;
+    for (rows, most) in [
+        // Three of four, far apart, and half of them.
+        (&[Some(0), FAR, Some(-7), FAR][..], true),
+        (&[Some(0), FAR, Some(0), FAR], false),
+        // Close together.
+        (&[Some(7), Some(8), Some(7)], true),
+        // A null is neither a value nor distinct.
+        (&[FAR, None, FAR, None], false),
+        (&[], false),
+    ] {
+        let mut column = bundle(rt.alloc(), I64, rows)?;
+        let told = column.is_mostly_distinct(&mut ctx);
+        drop(column);
+        assert!(rt; told? == most, "{rows:?}");
+    }
+    Ok(())
+}

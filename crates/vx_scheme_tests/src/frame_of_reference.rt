@@ -1,0 +1,45 @@
+//! The scheme of frames of reference, over columns worked by hand.
+
+use crate::shapes::is_tree;
+use std::test::Fail;
+use vx_base::ArrayId::{BitPacked, FoR, Primitive};
+use vx_base::PType::{I8, I16, I32, U8, U32};
+use vx_fixtures::{Told, made_of, told_of};
+use vx_scheme::CompressorContext;
+use vx_schemes::FoRScheme;
+
+#[test]
+fn columns_without_a_gain_are_skipped(rt: HostRuntime) -> Result<(), Fail> {
+    let top = CompressorContext::new();
+    for (site, ptype, rows, estimate) in [
+        (top, U8, [Some(9), Some(6)], Told::Ratio(8, 2)),
+        (top, I16, [Some(-1), Some(0)], Told::Ratio(16, 1)),
+        // As many digits, from 0 already, no span, and no scheme may follow.
+        (top, U8, [Some(3), Some(1)], Told::Nothing),
+        (top, U8, [Some(9), Some(0)], Told::Nothing),
+        (top, I16, [Some(-9), None], Told::Nothing),
+        (top.as_leaf(), U8, [Some(9), Some(6)], Told::Nothing),
+    ] {
+        let told = told_of(rt.alloc(), &FoRScheme::v1(), &site, ptype, &rows)?;
+        assert!(rt; told == (estimate, Told::Nothing), "{rows:?}");
+    }
+    Ok(())
+}
+
+#[test]
+fn differences_are_of_the_unsigned_type(rt: HostRuntime) -> Result<(), Fail> {
+    let scheme = FoRScheme::v1();
+    // Two bits of each difference from 1,000, in a block of 1,024 rows.
+    let rows = &[Some(1000), Some(1001), Some(1003)];
+    let (_, tree) = made_of(rt.alloc(), &scheme, I32, rows)?;
+    let packed = (BitPacked, U32, 256, &[Some(0), Some(1), Some(3)][..]);
+    assert!(rt; is_tree(&tree, (FoR, I32, 256, rows), &[packed]));
+    // From -128 on; 255 takes all bits of the unsigned type.
+    let rows = &[Some(127), Some(-128), None];
+    let (_, tree) = made_of(rt.alloc(), &scheme, I8, rows)?;
+    let plain = (Primitive, U8, 4, &[Some(255), Some(0), None][..]);
+    assert!(rt; is_tree(&tree, (FoR, I8, 4, rows), &[plain]));
+    let (parts, tree) = made_of(rt.alloc(), &scheme, I32, &[None, None])?;
+    assert!(rt; parts == 0 && is_tree(&tree, (Primitive, I32, 9, &[None, None]), &[]));
+    Ok(())
+}

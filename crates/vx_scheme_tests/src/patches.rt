@@ -1,0 +1,60 @@
+//! Patches in their short form: the type of the indices, and what becomes of the values.
+
+use crate::shapes::{Shape, has_shape};
+use std::alloc::Global;
+use std::test::Fail;
+use vx_array::Patches;
+use vx_base::ArrayId::{Constant, Primitive};
+use vx_base::PType::{I16, U8, U16, U32, U64};
+use vx_base::VortexResult;
+use vx_fixtures::{accepted, column, context};
+use vx_schemes::compress_patches;
+
+// The rows that are patched.
+const ROWS: u64 = 5_000_000_000;
+
+// Whether the short form of patches of five billion rows has the same rows and offset, and these indices and values.
+fn shortens(alloc: Global, offset: u64, indices: Shape, values: Shape) -> VortexResult<bool> {
+    let (_, _, _, places) = indices;
+    let (_, _, _, items) = values;
+    let places = column(alloc, U64, places)?;
+    let items = column(alloc, I16, items)?;
+    let patches = accepted(Patches::new(ROWS, offset, places, items))?;
+    let short = compress_patches(&patches, &mut context(alloc)?)?;
+    Ok(
+        short.array_len() == ROWS
+            && short.offset() == offset
+            && has_shape(short.indices(), &indices)
+            && has_shape(short.values(), &values),
+    )
+}
+
+#[test]
+fn the_last_index_decides_on_the_type(rt: HostRuntime) -> Result<(), Fail> {
+    for (last, ptype, nbytes) in [
+        (255, U8, 2),
+        (256, U16, 4),
+        (65_536, U32, 8),
+        (4_294_967_296, U64, 16),
+    ] {
+        let indices = (Primitive, ptype, nbytes, &[Some(7), Some(last)][..]);
+        let values = (Primitive, I16, 4, &[Some(9), Some(8)][..]);
+        assert!(rt; shortens(rt.alloc(), 7, indices, values)?, "{last}");
+    }
+    Ok(())
+}
+
+#[test]
+fn equal_values_are_one_scalar(rt: HostRuntime) -> Result<(), Fail> {
+    // Null is equal to null, and to no value.
+    for (values, encoding, nbytes) in [
+        (&[Some(9), Some(9)], Constant, 3),
+        (&[None, None], Constant, 1),
+        (&[None, Some(0)], Primitive, 5),
+    ] {
+        let indices = (Primitive, U16, 4, &[Some(1), Some(300)][..]);
+        let values = (encoding, I16, nbytes, &values[..]);
+        assert!(rt; shortens(rt.alloc(), 0, indices, values)?, "{nbytes}");
+    }
+    Ok(())
+}
