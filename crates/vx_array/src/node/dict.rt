@@ -166,7 +166,7 @@ pub(crate) fn decoded_by_codes(
     ensures { OrMemory result (AreRows (kind_in values.values) (zeroed_by (default_in (kind_in values.values)) valid (map (λ code. picked (ptype_of codes) (values_of values.values) (default_in (kind_in values.values)) code) (wholes_of codes))) (validity_by_codes (ptype_of codes) (wholes_of codes) valid values.valid)) }
 {
     let picked = values.values.picked(alloc, &codes)?;
-    let picked = picked.zeroed_by(&valid)?;
+    let picked = picked.zeroed_by(&valid);
     let valid = valid_codes(alloc, &codes, valid, &values.valid)?;
     Ok(Decoded {
         values: picked,

@@ -126,5 +126,5 @@ pub(crate) fn decoded_moved(
     ensures { OrMemory result (AreRows (ints (integer_of reference.now.dtype)) (map int (zeroed_by (pos 0) valid (map (summed reference.now) (wholes_of differences)))) valid) }
 {
     let values = moved(alloc, reference, &differences)?;
-    behind(values, valid)
+    Ok(behind(values, valid))
 }
