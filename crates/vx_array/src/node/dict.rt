@@ -28,16 +28,29 @@ impl ArrayRef {
     /// rows; child 1: `values`. The type is the values', nullable where the values or the codes are. Refuses
     /// MismatchedTypes where the codes are no integers or the values not of a leaf type, then OutOfBounds where a code
     /// that isn't null is no place of a value.
-    #[tactic(auto, using(crate::proofs::Making::dict_array))]
     pub fn dict(alloc: Global, codes: ArrayRef, values: ArrayRef) -> Made<(ArrayRef, ArrayRef)>
         ensures { Makes (dict_refusal codes values) (dict codes values) (codes, values) result }
     {
-        if let Some(error) = refusal(alloc, &codes, &values) {
-            return Err(Refused {
+        match refusal(alloc, &codes, &values) {
+            Some(error) => Err(Refused {
                 error,
                 inputs: (codes, values),
-            });
+            }),
+            None => ArrayRef::dict_of_places(alloc, codes, values),
         }
+    }
+
+    /// The same of codes that are known to be null or places in `values`. It looks at no row, and only want of memory
+    /// hands both back.
+    #[tactic(auto, using(crate::proofs::Making::dict_array))]
+    pub fn dict_of_places(
+        alloc: Global,
+        codes: ArrayRef,
+        values: ArrayRef,
+    ) -> Made<(ArrayRef, ArrayRef)>
+        requires { dict_refusal codes values ≡ None }
+        ensures { Makes None (dict codes values) (codes, values) result }
+    {
         let nullability = values.dtype().nullability().or(codes.dtype().nullability());
         let own_type = match values.dtype().with_nullability(alloc, nullability) {
             Ok(own_type) => own_type,
