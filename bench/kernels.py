@@ -5,6 +5,7 @@ README.md tells what is measured and what the limits are.
 import os
 import platform
 import shutil
+import statistics
 import subprocess
 import sys
 from typing import NamedTuple
@@ -68,19 +69,25 @@ def built(name, directory):
     return program
 
 
-class Best:
-    """The best time of each body of a kernel, in microseconds, and the digests of what they answered."""
+class Times:
+    """The times of each body of a kernel, in microseconds, and the digests of what they answered.
+
+    Each run tells the least of its repeats; what counts is the median of the runs.
+    """
 
     def __init__(self):
-        self.micros, self.digests = {}, set()
+        self.told, self.digests = {}, set()
 
     def keep(self, body, micros, digest):
-        self.micros[body] = min(micros, self.micros.get(body, micros))
+        self.told.setdefault(body, []).append(micros)
         self.digests.add(digest)
+
+    def micros(self, body):
+        return statistics.median(self.told[body])
 
     def ratio(self, other):
         """The proved body's time over another's."""
-        return self.micros['proved'] / self.micros[other] if other in self.micros else None
+        return self.micros('proved') / self.micros(other) if other in self.told else None
 
 
 def run(table, body, command, case, size):
@@ -91,8 +98,8 @@ def run(table, body, command, case, size):
         sys.exit('bench/run: %s ended with status %d' % (' '.join(command + words), done.returncode))
     for line in done.stdout.splitlines():
         name, type_, width, rows, micros, digest = line.split()
-        best = table.setdefault((Kernel(name, type_, int(width)), int(rows)), Best())
-        best.keep(body, int(micros), digest)
+        times = table.setdefault((Kernel(name, type_, int(width)), int(rows)), Times())
+        times.keep(body, int(micros), digest)
 
 
 def go_round(table, commands, jobs):
@@ -114,7 +121,7 @@ def missed(table):
 
 
 def measure(proved, peer):
-    """The best of each kernel and number of rows. What misses a limit is measured once more, before it is judged."""
+    """The times of each kernel and number of rows. What misses a limit is measured once more, before it is judged."""
     commands = {'proved': proved}
     if peer:
         commands.update(plain=[peer, 'plain'], unrolled=[peer, 'unrolled'])
@@ -134,7 +141,7 @@ def kernels_of(cases):
 def growth(table, kernel, place):
     """How many times the time ten times the rows take, by this size and the next smaller one."""
     rows, before = SIZES[place].rows, SIZES[place - 1].rows
-    more = table[kernel, rows].micros['proved'] / table[kernel, before].micros['proved']
+    more = table[kernel, rows].micros('proved') / table[kernel, before].micros('proved')
     return 10 * more * before / rows
 
 
@@ -153,8 +160,8 @@ def lines_of(table):
     for kernel in kernels_of(CASES):
         line = [kernel.name, kernel.type, '%d' % kernel.width]
         for place, size in enumerate(SIZES):
-            best = table[kernel, size.rows]
-            line += ['%d' % best.micros['proved'], *(figure(best.ratio(body)) for body in size.bodies[1:])]
+            times = table[kernel, size.rows]
+            line += ['%d' % times.micros('proved'), *(figure(times.ratio(body)) for body in size.bodies[1:])]
             line += [figure(growth(table, kernel, place))] * (place > 0)
         lines.append(line)
     return heads, lines
@@ -168,10 +175,10 @@ def faults_of(table):
 def faults_at(table, kernel, place):
     """Those of a kernel at one number of rows."""
     rows = SIZES[place].rows
-    best = table[kernel, rows]
-    plain, unrolled = best.ratio('plain'), best.ratio('unrolled')
+    times = table[kernel, rows]
+    plain, unrolled = times.ratio('plain'), times.ratio('unrolled')
     found = []
-    if len(best.digests) > 1:
+    if len(times.digests) > 1:
         found.append('other bytes than those of the Rust loops')
     if rows == JUDGED and plain is not None and plain > PLAIN:
         found.append('%.2f times the time of the plain loop' % plain)
