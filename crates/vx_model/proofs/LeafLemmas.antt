@@ -1,8 +1,8 @@
 -- The tree of a leaf column is never larger than the plain one.
-use Rattle.std.proofs.Common.{◌≡◌, ◌≢◌, ◌<◌, ◌≤◌, ◌+◌, ◌*◌, ℕ, Bool, true, false, List, [], ◌∷◌, map, length, Option, Some, None, cond, refl, ap, ◌∙◌, subst, arith}
-use Rattle.std.specs.Prelude.{IfSome, ◌==◌, nat_lt, replicate, if◌then◌else◌, option_and_then}
+use Rattle.std.proofs.Common.{◌≡◌, ◌≢◌, ◌<◌, ◌≤◌, ◌+◌, ◌*◌, ℕ, Bool, true, false, List, [], ◌∷◌, map, length, Option, Some, None, refl, arith}
+use Rattle.std.specs.Prelude.{◌==◌, nat_lt, replicate, if◌then◌else◌}
 use Rattle.std.specs.List.{list_all}
-use Rattle.std.proofs.lemmas.Bool.{cond_both, cond-true, cond-false, eqb-false, eq-eqb, ne_eqb, ltb-true}
+use Rattle.std.proofs.lemmas.Bool.{cond_both, eqb-false, ltb-true}
 use Rattle.std.proofs.lemmas.List.{length-map, length-replicate}
 use Rattle.std.proofs.lemmas.List.FromFn.{length-map-range_with_len}
 use Rattle.vx_base.specs.PlainType.{PlainType, primitive}
@@ -13,15 +13,13 @@ use Rattle.vx_model.specs.Tree as trees
 use Rattle.vx_model.specs.Rows.{rows, masked_rows, valid_rows, below, patched, packed_at, moved, unzigzagged, looked_up}
 use Rattle.vx_model.specs.TreeType.{tree_type}
 use Rattle.vx_model.specs.Size.{size}
-use Rattle.vx_model.specs.Column.{Column, column, column_of}
+use Rattle.vx_model.specs.Column.{Column, column}
 use Rattle.vx_model.specs.Extents.{counts, extents}
 use Rattle.vx_model.specs.Plain.{plain}
 use Rattle.vx_model.specs.Site.{Site, fresh}
-use Rattle.vx_model.specs.Leaf.{Chooses, no_scheme, first_valid, each_null_or, one_value, one_value_tree, smaller_or_plain, chosen_or_plain, by_value, leaf}
+use Rattle.vx_model.specs.Leaf.{Chooses, one_value, one_value_tree, smaller_or_plain, chosen_or_plain, by_value, leaf}
 use Rattle.vx_model.specs.Cascade.{Leaves, cascade, cascade_of}
 use Rattle.vx_model.specs.Laws.{NeverLarger, AreWithin, CountsWithinExtents}
-use Rattle.vx_model.proofs.PlainLemmas.{rows-plain_of, type-plain_of}
-use Rattle.vx_model.proofs.OneValueLemmas.{first_valid-none, first_valid-some, replicate-nulls, one_value-some, rows-one_value_tree, type-one_value_tree}
 use Rattle.vx_model.proofs.SizeLemmas.{size-plain_of-ge}
 
 -- what holds of each tree that the leaf may be holds of the leaf

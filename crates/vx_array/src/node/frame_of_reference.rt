@@ -64,9 +64,12 @@ impl ArrayRef {
 fn refusal(encoded: &ArrayRef, reference: &Scalar) -> Option<VortexError>
     ensures { result ≡ for_refusal encoded.now reference.now }
 {
+    if !reference.dtype().is_integer() || reference.is_null() {
+        return Some(VortexError::MismatchedTypes);
+    }
     let unsigned = reference.dtype().ptype().to_unsigned();
     let differences = DType::primitive(unsigned, encoded.dtype().nullability());
-    if reference.dtype().is_integer() && !reference.is_null() && *encoded.dtype() == differences {
+    if *encoded.dtype() == differences {
         None
     } else {
         Some(VortexError::MismatchedTypes)
