@@ -1,7 +1,7 @@
 -- What a look at a place of the indices of patches reads, and what it leaves.
 use Rattle.std.proofs.Common.{◌≡◌, ◌<◌, ◌≤◌, ◌∙◌, ◌+◌, ◌-◌, ◌*◌, ℕ, ℤ, length, true, sym, ap, subst, arith, Some, None}
 use Rattle.std.specs.Prelude.{Option}
-use Rattle.vx_base.specs.CellValue.{integer_in}
+use Rattle.vx_base.specs.IntegersIn.{integer_in}
 use Rattle.vx_base.specs.PlainValue.{PlainValue, cell}
 use Rattle.vx_model.specs.Rows.{rows, row_at, index_of, place_of}
 use Rattle.vx_model.specs.Tree.{PlainPatches}

@@ -31,7 +31,6 @@ pub enum Node {
 /// Values, and the rows of an array where they stand in place of its own: the value whose index is x stands at row
 /// x less the offset. Contracts see them as plain data.
 #[cycle(tree)]
-#[derive(Drop)]
 pub struct Patches {
     pub(crate) array_len: u64,
     pub(crate) offset: u64,
@@ -80,6 +79,19 @@ impl Drop for ArrayRef {
             node: _,
             own_type: _,
             len: _,
+        } = self;
+    }
+}
+
+// Likewise of patches.
+impl Drop for Patches {
+    #[cycle(letting_go)]
+    fn drop(self) {
+        let Patches {
+            array_len: _,
+            offset: _,
+            indices: _,
+            values: _,
         } = self;
     }
 }

@@ -1,7 +1,7 @@
 -- The cells of integer types.
 use Rattle.std.proofs.Common.{◌≡◌, refl}
 use Rattle.std.specs.Prelude.{IsTrue}
-use Rattle.vx_base.specs.CellValue.{integer_in}
+use Rattle.vx_base.specs.IntegersIn.{integer_in}
 use Rattle.vx_base.specs.PlainScalar.{fits}
 use Rattle.vx_base.specs.PlainType.{PlainType, primitive, is_leaf, is_integer}
 use Rattle.vx_base.specs.PlainValue.{PlainValue, null, int, cell}

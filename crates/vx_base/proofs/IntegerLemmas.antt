@@ -1,14 +1,15 @@
 -- Integer types and their values: what such a type looks like, and that each value that fits it is null or an integer.
 use Rattle.std.proofs.Common.{◌≡◌, ◌≤◌, ℕ, zero, suc, ℤ, pos, List, [], ◌∷◌, map, length, true, false, refl, subst, arith, Some, None}
-use Rattle.std.specs.Prelude.{Option, slice_index_or, unwrap_or}
+use Rattle.std.specs.Prelude.{Option, not, slice_index_or, unwrap_or}
 use Rattle.std.specs.List.{list_all, cons_option}
 use Rattle.std.proofs.lemmas.Bool.{and_from, and_parts}
+use Rattle.vx_base.proofs.CellLemmas.{cell-integer_in}
 use Rattle.vx_base.specs.declared.ptype.PType.{PType}
 use Rattle.vx_base.specs.declared.dtype.Nullability.{Nullability}
-use Rattle.vx_base.specs.Integers.{lies_in}
+use Rattle.vx_base.specs.Integers.{lies_in, is_signed}
 use Rattle.vx_base.specs.IntegersIn.{integer_in, integers_in}
 use Rattle.vx_base.specs.PlainScalar.{fits}
-use Rattle.vx_base.specs.PlainType.{PlainType, primitive, is_integer, is_leaf, integer_of, nullability_of}
+use Rattle.vx_base.specs.PlainType.{PlainType, primitive, is_integer, is_leaf, is_unsigned, integer_of, nullability_of}
 use Rattle.vx_base.specs.PlainValue.{PlainValue, null, int, cell, is_null, whole_or_zero}
 
 pub integer_type : (t : PlainType) → is_integer t ≡ true → t ≡ primitive (integer_of t) (nullability_of t)
@@ -25,15 +26,15 @@ integer-is_leaf (primitive p n) h = refl
 pub integer-fitted : (t : PlainType) (z : ℤ) → fits t (int z) ≡ true → is_integer t ≡ true
 integer-fitted (primitive p n) z h = refl
 
--- ---- values
+-- an unsigned type is an integer type
+pub is_unsigned-is_integer : (t : PlainType) → is_unsigned t ≡ true → is_integer t ≡ true
+is_unsigned-is_integer t h = (and_parts (is_integer t) (not (is_signed (integer_of t))) h).0
 
-pub cell-integer_in : (p : PType) (n : Nullability) (v : PlainValue) → fits (primitive p n) v ≡ true → cell (integer_in v) ≡ v
-cell-integer_in p n null h = refl
-cell-integer_in p n (int z) h = refl
+-- ---- values
 
 cells-integer_in : (p : PType) (n : Nullability) (vs : List PlainValue) → list_all (fits (primitive p n)) vs ≡ true → map cell (map integer_in vs) ≡ vs
 cells-integer_in p n [] h = refl
-cells-integer_in p n (v ∷ vs) h = let b = and_parts (fits (primitive p n) v) (list_all (fits (primitive p n)) vs) h in λ i. cell-integer_in p n v b.0 i ∷ cells-integer_in p n vs b.1 i
+cells-integer_in p n (v ∷ vs) h = let b = and_parts (fits (primitive p n) v) (list_all (fits (primitive p n)) vs) h in λ i. cell-integer_in (primitive p n) v refl b.0 i ∷ cells-integer_in p n vs b.1 i
 
 -- what holds of all nulls and integers that fit holds of all values that fit
 pub by_cells : (p : PType) (n : Nullability) (P : List PlainValue → Type 0) → ((os : List (Option ℤ)) → list_all (fits (primitive p n)) (map cell os) ≡ true → P (map cell os)) → (vs : List PlainValue) → list_all (fits (primitive p n)) vs ≡ true → P vs
@@ -44,7 +45,7 @@ by_cells p n P each vs h =
 -- a row of values that fit is null or an integer
 pub row-integer_in : (p : PType) (n : Nullability) (vs : List PlainValue) (i : ℕ) → list_all (fits (primitive p n)) vs ≡ true → cell (integer_in (slice_index_or vs i null)) ≡ slice_index_or vs i null
 row-integer_in p n [] i h = refl
-row-integer_in p n (v ∷ vs) zero h = cell-integer_in p n v (and_parts (fits (primitive p n) v) (list_all (fits (primitive p n)) vs) h).0
+row-integer_in p n (v ∷ vs) zero h = cell-integer_in (primitive p n) v refl (and_parts (fits (primitive p n) v) (list_all (fits (primitive p n)) vs) h).0
 row-integer_in p n (v ∷ vs) (suc i) h = row-integer_in p n vs i (and_parts (fits (primitive p n) v) (list_all (fits (primitive p n)) vs) h).1
 
 -- the whole number of a value is the integer that it is, and 0 where it is none

@@ -34,7 +34,7 @@ is_leaf (primitive p n) = true
 abbrev pub is_integer : PlainType → Bool
 is_integer (primitive p n) = true
 
--- the integer type of a column's values
+-- the integer type of a column's values; of integer types alone, nothing asks it of others
 abbrev pub integer_of : PlainType → PType
 integer_of (primitive p n) = p
 

@@ -1,7 +1,8 @@
 //! One row of a column of a leaf type.
 
 ghost use Rattle.std.specs.Prelude.{◌≡◌};
-ghost use Rattle.vx_base.specs.CellValue.{cell_value, integer_in};
+ghost use Rattle.vx_base.specs.CellValue.{cell_value};
+ghost use Rattle.vx_base.specs.IntegersIn.{integer_in};
 ghost use Rattle.vx_base.specs.PlainValue.{is_null};
 
 /// What stands in a row of a leaf type: null, or a value. It owns nothing.

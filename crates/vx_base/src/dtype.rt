@@ -102,6 +102,7 @@ impl DType {
 
     /// The type of its integers.
     pub fn ptype(&self) -> PType
+        requires integer { IsTrue (is_integer (type_of self.now)) }
         ensures { result ≡ integer_of (type_of self.now) }
     {
         match self {

@@ -66,14 +66,14 @@ impl Mask {
     pub fn all_true(&self) -> bool
         ensures { result ≡ list_all (λ bit. bit) self.now }
     {
-        self.bits.iter().all(|bit| *bit)
+        are_true(self.bits.as_slice())
     }
 
     /// How many rows are true.
     pub fn true_count(&self) -> u64
         ensures { result ≡ true_count self.now }
     {
-        self.bits.iter().filter(|bit| **bit).count() as u64
+        true_bits(self.bits.as_slice())
     }
 
     /// How many rows before this one are true.
@@ -81,7 +81,7 @@ impl Mask {
         requires { row ≤ length self.now }
         ensures { result ≡ rank self.now row }
     {
-        self.bits[..row as usize].iter().filter(|bit| **bit).count() as u64
+        true_bits(&self.bits[..row as usize])
     }
 
     /// The first true row.
@@ -112,6 +112,40 @@ impl Mask {
             bits: Vec::from_slice(alloc, self.bits.as_slice())?,
         })
     }
+}
+
+// How many bits are true: a sum, without a branch a row.
+fn true_bits(bits: &[bool]) -> u64
+    ensures { result ≡ true_count bits.now }
+{
+    let mut count = 0;
+    for bit in bits {
+        count += u64::from(*bit);
+    }
+    count
+}
+
+// Whether each bit is true: one test for 64 rows.
+fn are_true(bits: &[bool]) -> bool
+    ensures { result ≡ list_all (λ bit. bit) bits.now }
+{
+    for rows in bits.chunks(64) {
+        if !each_true(rows) {
+            return false;
+        }
+    }
+    true
+}
+
+// The same of a few rows, all of which are looked at.
+fn each_true(bits: &[bool]) -> bool
+    ensures { result ≡ list_all (λ bit. bit) bits.now }
+{
+    let mut all = true;
+    for bit in bits {
+        all &= *bit;
+    }
+    all
 }
 
 fn first_set(bits: &[bool]) -> Option<usize>

@@ -14,13 +14,19 @@ use Rattle.vx_blocks.specs.Histogram.{AreByZeros, IsHistogram}
 use Rattle.vx_blocks.proofs.Rows.{kept_row-fits}
 use mir.Val.{bool_byte}
 
-digits-le : (bits k : ℕ) → bits < 2 ^ 64 → bits < 2 ^ k → digits bits ≤ k
+pub digits-le : (bits k : ℕ) → bits < 2 ^ 64 → bits < 2 ^ k → digits bits ≤ k
 digits-le bits k h small =
     let m = leading_length 64 bits h in
     elim (cases_lt k m.0) [
       | inl lt ↦ let p = nat.pow-le-pow_right {n = 2} (lit< tt) lt in let q = nat.pow-suc 2 k in absurd (omega (arith, m.3, p, q))
       | inr le ↦ omega (arith, m.1)
     ]
+
+pub le-digits : (bits k : ℕ) → bits < 2 ^ 64 → digits bits ≤ k → bits < 2 ^ k
+le-digits bits k h few =
+    let m = leading_length 64 bits h in
+    let within : m.0 ≤ k = omega (arith, m.1) in
+    nat.lt_of_lt_of_le m.2 (nat.pow-le-pow_right {n = 2} (lit< tt) within)
 
 -- ---- one row more
 by_zeros-counted : (width : ℕ) (rows counts : List ℕ) (row place : ℕ) → AreByZeros width rows counts → length counts ≡ 65 → place ≡ count_leading_zeros 64 row → digits row ≤ width

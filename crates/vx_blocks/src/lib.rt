@@ -11,7 +11,7 @@ mod unpacking;
 mod widths;
 mod zig_zag;
 
-pub use laws::{unpack_gives_back, unzigzag_gives_back};
+pub use laws::{digits_are_fewest, unpack_gives_back, unzigzag_gives_back};
 pub use narrowing::narrow_type;
 pub use packing::pack;
 pub use reading::get;

@@ -1,6 +1,7 @@
 //! How wide rows are, which rows a width leaves out, and which width costs least.
 
-ghost use Rattle.std.specs.Prelude.{◌≡◌, ◌<◌, ◌≤◌, ◌+◌, ◌-◌, ◌^◌, ◌++◌, ◌∷◌, [], ℕ, List, length, map, sum};
+ghost use Rattle.std.specs.Prelude.{◌≡◌, ◌<◌, ◌≤◌, ◌+◌, ◌-◌, ◌^◌, ◌++◌, ◌∷◌, [], ℕ, List, length, map, filter, slice_index, slice_index_or, sum, false};
+ghost use Rattle.std.specs.List.{range_with_len};
 ghost use Rattle.vx_base.specs.Answers.{OrMemory};
 ghost use Rattle.vx_base.specs.Integers.{bits_in, bits_of, bytes_of};
 ghost use Rattle.vx_base.specs.Packed.{is_wide, kept_row, kept_rows, wide_rows};
@@ -123,6 +124,45 @@ fn is_wide(bits: u64, valid: bool, width: u32) -> bool
     }
 }
 
+// False only where none of the rows from `start` to `end - 1` is wider, null or not. It tests them all at once.
+#[inline(always)]
+fn may_be_wide<T: Integer>(values: &[T], width: u32, start: usize, end: usize) -> bool
+    requires within { width ≤ 64 }
+    requires order { start ≤ end }
+    requires room { end ≤ length values.now }
+    ensures { result ≡ false → (k : ℕ) → start ≤ k → k < end → slice_index (map (bits_in T.kind) (map T.whole values.now)) k < 2 ^ width }
+{
+    let mut bits = 0;
+    for i in start..end {
+        bits |= values[i].to_bits();
+    }
+    is_wide(bits, true, width)
+}
+
+// Adds those of the rows from `start` to `end - 1` to those before.
+fn push_wide<T: Integer>(
+    rows: &mut Vec<u64>,
+    values: &[T],
+    valid: &[bool],
+    width: u32,
+    start: usize,
+    end: usize,
+) -> VortexResult<()>
+    requires within { width ≤ 64 }
+    requires same { length valid.now ≡ length values.now }
+    requires order { start ≤ end }
+    requires room { end ≤ length values.now }
+    requires before { rows.old.items ≡ filter (λ i. is_wide width (slice_index_or (map (bits_in T.kind) (map T.whole values.now)) i 0) (slice_index_or valid.now i false)) (range_with_len 0 start) }
+    ensures { OrMemory result (λ _. rows.new.items ≡ filter (λ i. is_wide width (slice_index_or (map (bits_in T.kind) (map T.whole values.now)) i 0) (slice_index_or valid.now i false)) (range_with_len 0 end)) }
+{
+    for i in start..end {
+        if is_wide(values[i].to_bits(), valid[i], width) {
+            rows.push(i as u64)?;
+        }
+    }
+    Ok(())
+}
+
 fn wide_rows_of<T: Integer>(
     alloc: Global,
     values: &[T],
@@ -134,11 +174,14 @@ fn wide_rows_of<T: Integer>(
     ensures { OrMemory result (λ rows. rows.items ≡ wide_rows width (map (bits_in T.kind) (map T.whole values.now)) valid.now) }
 {
     let mut rows = Vec::new(alloc);
-    for i in 0..values.len() {
-        if is_wide(values[i].to_bits(), valid[i], width) {
-            rows.push(i as u64)?;
+    let groups = values.len() / 64;
+    for group in 0..groups {
+        let start = 64 * group;
+        if may_be_wide(values, width, start, start + 64) {
+            push_wide(&mut rows, values, valid, width, start, start + 64)?;
         }
     }
+    push_wide(&mut rows, values, valid, width, 64 * groups, values.len())?;
     Ok(rows)
 }
 

@@ -55,7 +55,7 @@ pub(crate) fn differences(
     match array.node() {
         Node::Primitive(values, valid, nullability) => {
             let wrapped = values.differences(alloc, reference)?;
-            let zeroed = wrapped.zeroed_by(valid)?;
+            let zeroed = wrapped.zeroed_by(valid);
             let bits = copied(alloc, valid)?;
             match ArrayRef::primitive(zeroed, bits, *nullability) {
                 Ok(plain) => Ok(plain),

@@ -1,7 +1,7 @@
 -- The row at a place as a cell: an integer type's is an integer or null, and one that is decoded further is a word.
 use Rattle.std.proofs.Common.{◌≡◌, ◌<◌, ℕ, ℤ, length, true, refl}
 use Rattle.std.specs.Prelude.{IsTrue}
-use Rattle.vx_base.specs.CellValue.{integer_in}
+use Rattle.vx_base.specs.IntegersIn.{integer_in}
 use Rattle.vx_base.specs.declared.dtype.Nullability.TheVariants.{Nullable}
 use Rattle.vx_base.specs.declared.ptype.PType.TheVariants.{U64}
 use Rattle.vx_base.specs.Integers.{lies_in}

@@ -1,17 +1,50 @@
 -- Patches: the test that their indices ascend, and the search for the patch of a row.
-use Rattle.std.proofs.Common.{◌≡◌, ◌<◌, ◌≤◌, ◌+◌, ◌&&◌, ℕ, zero, suc, pos, negsuc, List, [], ◌∷◌, length, drop, drop-cons, refl, arith, add-one, below_more, ⊎_elim, Bool, true, false, Some, None}
+use Rattle.std.proofs.Common.{◌≡◌, ◌<◌, ◌≤◌, ◌+◌, ◌&&◌, ℕ, zero, suc, pos, negsuc, List, [], ◌∷◌, length, drop, drop-cons, refl, arith, add-one, below_more, ⊎_elim, Bool, inl, inr, sym, ◌∙◌, true, false, Some, None}
 use Rattle.std.specs.Prelude.{nat_lt, nat_le}
-use Rattle.std.specs.List.{position_or_len}
+use Rattle.std.specs.List.{list_all, position_or_len}
 use Rattle.std.proofs.lemmas.Bool.{cond-true, cond-false, ltb-true, lt-ltb, le-ltb, le-leb, leb-true, and_from, eq-eqb, ne_eqb, cases_lt}
+use Rattle.std.proofs.lemmas.Bool.Decides.{nat_tests}
 use Rattle.std.proofs.lemmas.List.Sums.{position_or_len_is}
 use Rattle.vx_base.specs.PlainValue.{PlainValue, null, int}
 use Rattle.vx_model.specs.Rows.{row_at, is_index, index_of, place_of}
-use Rattle.vx_model.specs.WellFormed.{ascend}
+use Rattle.vx_model.specs.WellFormed.{ascend, lies_between, rises}
 
 -- ---- one step of the test that indices ascend
 
+join : (x a b r : Bool) → (a && r) ≡ (b && r) → (x && a && r) ≡ (x && b && r)
+join true a b r e = e
+join false a b r e = refl
+
+never : (b : Bool) → (b && false) ≡ false
+never true = refl
+never false = refl
+
+-- what rises behind a number lies above it, wherever else it lies
+above : (low n high : ℕ) (is : List PlainValue) → low ≤ n → (list_all (lies_between low high) is && rises (int (pos n) ∷ is)) ≡ (list_all (lies_between (n + 1) high) is && rises is)
+above low n high [] h = refl
+above low n high (null ∷ is) h = refl
+above low n high (int (negsuc m) ∷ is) h = refl
+above low n high (int (pos m) ∷ is) h =
+    elim (cases_lt n m) [
+      | inl less ↦
+          rw (le-leb low m (omega arith), le-leb (n + 1) m (omega arith), lt-ltb n m less)
+          (join (nat_lt m high) _ _ (rises (int (pos m) ∷ is)) (above low m high is (omega arith) ∙ sym (above (n + 1) m high is (omega arith))))
+      | inr more ↦
+          let not_above : nat_le (n + 1) m ≡ false = grind (arith, nat_tests) in
+          rw (le-ltb n m more, not_above) (never (nat_le low m && nat_lt m high && list_all (lies_between low high) is))
+    ]
+
+by_test : (a l x r y : Bool) → (a ≡ true → (x && r) ≡ y) → (a && l && x && r) ≡ (a && l && y)
+by_test true true x r y e = e refl
+by_test true false x r y e = refl
+by_test false l x r y e = refl
+
+-- a number in front of others: it lies between the ends, and they lie above it
+ascend-cons : (low high n : ℕ) (is : List PlainValue) → ascend low high (int (pos n) ∷ is) ≡ (nat_le low n && nat_lt n high && ascend (n + 1) high is)
+ascend-cons low high n is = by_test (nat_le low n) (nat_lt n high) _ _ _ (λ t. above low n high is (leb-true low n t))
+
 ascend_head : (low high : ℕ) (v : PlainValue) (vs : List PlainValue) (n : ℕ) → index_of v ≡ Some n → ascend low high (v ∷ vs) ≡ (nat_le low n && nat_lt n high && ascend (n + 1) high vs)
-ascend_head low high (int (pos m)) vs n e = let same : m ≡ n = cc in rw same
+ascend_head low high (int (pos m)) vs n e = let same : m ≡ n = cc in ascend-cons low high m vs ∙ (λ i. nat_le low (same i) && nat_lt (same i) high && ascend (same i + 1) high vs)
 ascend_head low high (int (negsuc m)) vs n e = absurd cc
 ascend_head low high null vs n e = absurd cc
 
@@ -43,10 +76,10 @@ three false b c e = absurd cc
 
 -- and what each step of it says
 pub ascend_parts : (low high n : ℕ) (is : List PlainValue) → ascend low high (int (pos n) ∷ is) ≡ true → (low ≤ n) × (n < high) × (ascend (n + 1) high is ≡ true)
-ascend_parts low high n is e = let t = three (nat_le low n) (nat_lt n high) (ascend (n + 1) high is) e in (leb-true _ _ t.0, ltb-true _ _ t.1, t.2)
+ascend_parts low high n is e = let t = three (nat_le low n) (nat_lt n high) (ascend (n + 1) high is) (sym (ascend-cons low high n is) ∙ e) in (leb-true _ _ t.0, ltb-true _ _ t.1, t.2)
 
 pub ascend_from : (low high n : ℕ) (is : List PlainValue) → low ≤ n → n < high → ascend (n + 1) high is ≡ true → ascend low high (int (pos n) ∷ is) ≡ true
-ascend_from low high n is a b c = and_from _ _ (and_from _ _ (le-leb low n a) (lt-ltb n high b)) c
+ascend_from low high n is a b c = ascend-cons low high n is ∙ and_from _ _ (and_from _ _ (le-leb low n a) (lt-ltb n high b)) c
 
 -- each is a whole number from low on, below high
 pub ascend-within : (low high : ℕ) (is : List PlainValue) (i n : ℕ) → ascend low high is ≡ true → i < length is → index_of (row_at is i) ≡ Some n → (low ≤ n) × (n < high)

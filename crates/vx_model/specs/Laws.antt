@@ -1,5 +1,5 @@
 -- What holds of the trees that columns become, by the way in which a leaf column's tree is made.
-use Rattle.std.specs.Prelude.{◌≡◌, ◌≤◌, ℕ, List, IfSome}
+use Rattle.std.specs.Prelude.{◌≡◌, ◌≤◌, ℕ, List}
 use Rattle.std.specs.List.{AllZip}
 use Rattle.vx_model.specs.Tree.{Tree}
 use Rattle.vx_model.specs.TreeType.{tree_type}
@@ -9,25 +9,11 @@ use Rattle.vx_model.specs.Column.{Column, column_of}
 use Rattle.vx_model.specs.WellFormed.{WellFormed}
 use Rattle.vx_model.specs.Extents.{counts, extents}
 use Rattle.vx_model.specs.Plain.{plain}
-use Rattle.vx_model.specs.Site.{Site}
-use Rattle.vx_model.specs.Leaf.{Chooses}
 use Rattle.vx_model.specs.Cascade.{Leaves, cascade}
-
--- every tree that it chooses has the column's rows and type
-abbrev pub KeepsColumns : Chooses → Type 0
-KeepsColumns chooses = (c : Column) (site : Site) → IfSome (chooses c site) (λ t. (rows t ≡ c.values) × (tree_type t ≡ c.dtype))
-
--- the tree of a column has its rows and its type
-abbrev pub KeepsRowsAndType : Leaves → Type 0
-KeepsRowsAndType leaves = (c : Column) → (rows (cascade leaves c) ≡ c.values) × (tree_type (cascade leaves c) ≡ c.dtype)
 
 -- the tree of a column is no larger than its plain one
 abbrev pub NeverLarger : Leaves → Type 0
 NeverLarger leaves = (c : Column) → size (cascade leaves c) ≤ size (plain c)
-
--- compressing what is compressed gives the same tree
-abbrev pub AgainTheSame : Leaves → Type 0
-AgainTheSame leaves = (c : Column) → cascade leaves (column_of (cascade leaves c)) ≡ cascade leaves c
 
 -- trees that stand for one column become one tree, however they are encoded
 abbrev pub ByTheColumnAlone : Leaves → Type 0

@@ -1,5 +1,5 @@
 -- When a tree is well formed: each node's own conditions hold, and every row fits the type.
-use Rattle.std.specs.Prelude.{◌≡◌, ℕ, ◌+◌, ℤ, pos, negsuc, Bool, true, false, ◌&&◌, nat_lt, nat_le, IsTrue, List, [], ◌∷◌, length, Some, None}
+use Rattle.std.specs.Prelude.{◌≡◌, ℕ, ◌+◌, ℤ, pos, negsuc, Bool, true, false, ◌&&◌, nat_lt, nat_le, int_lt, IsTrue, List, [], ◌∷◌, length, Some, None}
 use Rattle.std.specs.List.{list_all, list_any}
 use Rattle.vx_base.specs.declared.ptype.PType.{PType}
 use Rattle.vx_base.specs.declared.dtype.Nullability.{Nullability}
@@ -9,7 +9,7 @@ use Rattle.vx_base.specs.Packed.{packed_size}
 use Rattle.vx_base.specs.PlainType.{PlainType, is_nullable, is_leaf, is_integer, is_unsigned, integer_of, nullability_of}
 use Rattle.vx_base.specs.PlainType as types
 use Rattle.vx_base.specs.PlainScalar.{PlainScalar, fits}
-use Rattle.vx_base.specs.PlainValue.{PlainValue, null, int, is_null}
+use Rattle.vx_base.specs.PlainValue.{PlainValue, null, int, is_null, whole_or_zero}
 use Rattle.vx_model.specs.Tree.{Tree, Validity, PlainPacked, PlainPatches, primitive, constant, masked, bit_packed, bit_packed_with, frame_of_reference, zig_zag, dict}
 use Rattle.vx_model.specs.Rows.{rows}
 use Rattle.vx_model.specs.TreeType.{tree_type}
@@ -29,12 +29,21 @@ pub record IsMasked (child : Tree) (valid : List Bool) : Type 0 where
   pub lengths : length valid ≡ length (rows child)
   pub no_null : list_any is_null (rows child) ≡ false
 
--- whole numbers from low on, below high, each above the one before
+-- a whole number from low on, below high
+abbrev pub lies_between : ℕ → ℕ → PlainValue → Bool
+lies_between low high (int (pos n)) = nat_le low n && nat_lt n high
+lies_between low high (int (negsuc n)) = false
+lies_between low high null = false
+
+-- each number is less than its neighbour behind
+abbrev pub rises : List PlainValue → Bool
+rises [] = true
+rises (v ∷ []) = true
+rises (v ∷ w ∷ vs) = int_lt (whole_or_zero v) (whole_or_zero w) && rises (w ∷ vs)
+
+-- whole numbers from low on, below high, each less than its neighbour behind
 abbrev pub ascend : ℕ → ℕ → List PlainValue → Bool
-ascend low high [] = true
-ascend low high (int (pos n) ∷ is) = nat_le low n && nat_lt n high && ascend (n + 1) high is
-ascend low high (int (negsuc n) ∷ is) = false
-ascend low high (null ∷ is) = false
+ascend low high vs = list_all (lies_between low high) vs && rises vs
 
 -- of an array of len rows
 pub record IsPatches (len offset : ℕ) (indices values : Tree) : Type 0 where

@@ -191,7 +191,7 @@ distinct-permutation xs ys p =
     same-ascending (distinct ys) (distinct xs) (distinct-ascends ys) (distinct-ascends xs)
     (λ z. distinct-times z ys ∙ ap (λ n. cond (n == 0) 0 1) (times-permutation xs ys z p) ∙ sym (distinct-times z xs))
 
-map-same : {A B : Type 0} (f g : A → B) → ((x : A) → f x ≡ g x) → (xs : List A) → map f xs ≡ map g xs
+pub map-same : {A B : Type 0} (f g : A → B) → ((x : A) → f x ≡ g x) → (xs : List A) → map f xs ≡ map g xs
 map-same f g h [] = refl
 map-same f g h (x ∷ xs) = let e = h x in let r = map-same f g h xs in λ i. e i ∷ r i
 
@@ -208,7 +208,7 @@ below-rising z w (v ∷ vs) l r = (l, below-rising z v vs (further z w v l r.0) 
     further : (x y z : ℤ) → int_lt x y ≡ true → int_lt z y ≡ false → int_lt x z ≡ true
     further x y z h k = grind (arith, ints)
 
-map-below : (z : ℤ) (f g : ℤ → ℤ × ℕ) → ((d : ℤ) → int_lt z d ≡ true → f d ≡ g d) → (ds : List ℤ) → IsBelow z ds → map f ds ≡ map g ds
+pub map-below : (z : ℤ) (f g : ℤ → ℤ × ℕ) → ((d : ℤ) → int_lt z d ≡ true → f d ≡ g d) → (ds : List ℤ) → IsBelow z ds → map f ds ≡ map g ds
 map-below z f g h [] b = refl
 map-below z f g h (d ∷ ds) b = let e = h d b.0 in let r = map-below z f g h ds b.1 in λ i. e i ∷ r i
 

@@ -1,6 +1,7 @@
 -- Rows of a list of integers of any type and their validity.
-use Rattle.std.proofs.Common.{◌≡◌, ◌<◌, ◌∙◌, ℕ, zero, suc, ℤ, pos, List, [], ◌∷◌, map, length, Bool, true, false, ap, sym, refl, arith}
-use Rattle.std.proofs.lemmas.List.{get_or-map, length-map}
+use Rattle.std.proofs.Common.{◌≡◌, ◌<◌, ◌∙◌, ℕ, zero, suc, ℤ, pos, List, [], ◌∷◌, ◌++◌, map, length, Bool, true, false, ap, sym, refl, arith}
+use Rattle.std.proofs.lemmas.List.{get_or-map, length-map, map-append}
+use Rattle.std.proofs.lemmas.List.Folds.{list_any-append}
 use Rattle.std.specs.Prelude.{slice_index_or, ◌||◌}
 use Rattle.std.specs.List.{list_all, list_any}
 use Rattle.std.proofs.lemmas.Bool.{and_parts}
@@ -39,6 +40,11 @@ pub any_whole : {T : Type 0} (whole : T → ℤ) (p : ℤ → Bool) (items : Lis
 any_whole whole p [] i x h e t = absurd (omega arith)
 any_whole whole p (y ∷ ys) zero x h e t = let y_passes : p (whole y) ≡ true = ap (λ w. p (whole w)) (sym e) ∙ t in rw y_passes refl
 any_whole whole p (y ∷ ys) (suc i) x h e t = or_right (p (whole y)) _ (any_whole whole p ys i x (omega arith) e t)
+
+-- where a part has been looked at, what is behind it decides
+pub any-parts : {T : Type 0} (whole : T → ℤ) (p : ℤ → Bool) (items part behind : List T) (b : Bool) → items ≡ part ++ behind → list_any p (map whole part) ≡ b → list_any p (map whole items) ≡ (b || list_any p (map whole behind))
+any-parts whole p items part behind b e h =
+    ap (λ xs. list_any p (map whole xs)) e ∙ ap (list_any p) (map-append whole part behind) ∙ list_any-append p (map whole part) (map whole behind) ∙ ap (λ c. c || list_any p (map whole behind)) h
 
 pub each_whole : {T : Type 0} (whole : T → ℤ) (p : ℤ → Bool) (items : List T) (i : ℕ) (x : T) → i < length items → x ≡ slice_index_or items i x → list_all p (map whole items) ≡ true → p (whole x) ≡ true
 each_whole whole p [] i x h e t = absurd (omega arith)

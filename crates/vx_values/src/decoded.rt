@@ -1,7 +1,6 @@
 //! What the rows of a tree are decoded to.
 
 ghost use Rattle.std.specs.Prelude.{◌≡◌, length, map, pos, true};
-ghost use Rattle.vx_base.specs.Answers.{OrMemory};
 ghost use Rattle.vx_base.specs.PlainValue.{int};
 ghost use Rattle.vx_model.specs.Decoded.{zeroed_by};
 ghost use Rattle.vx_model.specs.Refusals.{validity_length};
@@ -10,7 +9,7 @@ ghost use Rattle.vx_values.specs.ValuesOf.{ints, AreRows};
 
 use crate::ints::Ints;
 use crate::values::Values;
-use vx_base::{Mask, VortexResult};
+use vx_base::Mask;
 
 /// Values with their type's default beneath nulls, and validity bits where some row is null.
 #[derive(Drop)]
@@ -32,10 +31,10 @@ impl Decoded {
 }
 
 // The integers and their validity, with 0 beneath nulls.
-pub fn behind(values: Ints, valid: Option<Mask>) -> VortexResult<Decoded>
+pub fn behind(values: Ints, valid: Option<Mask>) -> Decoded
     requires { validity_length valid (length (wholes_of values)) ≡ true }
-    ensures { OrMemory result (AreRows (ints (ptype_of values)) (map int (zeroed_by (pos 0) valid (wholes_of values))) valid) }
+    ensures { AreRows (ints (ptype_of values)) (map int (zeroed_by (pos 0) valid (wholes_of values))) valid result }
 {
-    let values = Values::Ints(values.zeroed_by(&valid)?);
-    Ok(Decoded { values, valid })
+    let values = Values::Ints(values.zeroed_by(&valid));
+    Decoded { values, valid }
 }

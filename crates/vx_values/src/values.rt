@@ -52,23 +52,25 @@ impl Values {
 
     /// The list with its kind's default where the mask is false.
     #[tactic(auto, using(vx_model::proofs::ItemMapLemmas::item_maps))]
-    pub fn zeroed(self, mask: &Mask) -> VortexResult<Values>
+    pub fn zeroed(self, mask: &Mask) -> Values
         requires { length mask.now ≡ length (values_of self) }
-        ensures { OrMemory result (λ values. (kind_in values ≡ kind_in self) × (values_of values ≡ zeroed (default_in (kind_in self)) mask.now (values_of self))) }
+        ensures kind { kind_in result ≡ kind_in self }
+        ensures values { values_of result ≡ zeroed (default_in (kind_in self)) mask.now (values_of self) }
     {
         match self {
-            Values::Ints(ints) => Ok(Values::Ints(ints.zeroed(mask)?)),
+            Values::Ints(ints) => Values::Ints(ints.zeroed(mask)),
         }
     }
 
     /// The list with its kind's default where a row isn't valid.
-    pub fn zeroed_by(self, valid: &Option<Mask>) -> VortexResult<Values>
+    pub fn zeroed_by(self, valid: &Option<Mask>) -> Values
         requires { validity_length valid.now (length (values_of self)) ≡ true }
-        ensures { OrMemory result (λ values. (kind_in values ≡ kind_in self) × (values_of values ≡ zeroed_by (default_in (kind_in self)) valid.now (values_of self))) }
+        ensures kind { kind_in result ≡ kind_in self }
+        ensures values { values_of result ≡ zeroed_by (default_in (kind_in self)) valid.now (values_of self) }
     {
         match valid {
             Some(mask) => self.zeroed(mask),
-            None => Ok(self),
+            None => self,
         }
     }
 

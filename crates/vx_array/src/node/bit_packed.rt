@@ -268,5 +268,5 @@ pub(crate) fn decoded_packed(
 {
     let values = Ints::unpacked(alloc, ptype, width, packed.as_slice(), len)?;
     let values = written(values, patches);
-    behind(values, copy_validity(valid, alloc)?)
+    Ok(behind(values, copy_validity(valid, alloc)?))
 }

@@ -28,16 +28,29 @@ impl ArrayRef {
     /// rows; child 1: `values`. The type is the values', nullable where the values or the codes are. Refuses
     /// MismatchedTypes where the codes are no integers or the values not of a leaf type, then OutOfBounds where a code
     /// that isn't null is no place of a value.
-    #[tactic(auto, using(crate::proofs::Making::dict_array))]
     pub fn dict(alloc: Global, codes: ArrayRef, values: ArrayRef) -> Made<(ArrayRef, ArrayRef)>
         ensures { Makes (dict_refusal codes values) (dict codes values) (codes, values) result }
     {
-        if let Some(error) = refusal(alloc, &codes, &values) {
-            return Err(Refused {
+        match refusal(alloc, &codes, &values) {
+            Some(error) => Err(Refused {
                 error,
                 inputs: (codes, values),
-            });
+            }),
+            None => ArrayRef::dict_of_places(alloc, codes, values),
         }
+    }
+
+    /// The same of codes that are known to be null or places in `values`. It looks at no row, and only want of memory
+    /// hands both back.
+    #[tactic(auto, using(crate::proofs::Making::dict_array))]
+    pub fn dict_of_places(
+        alloc: Global,
+        codes: ArrayRef,
+        values: ArrayRef,
+    ) -> Made<(ArrayRef, ArrayRef)>
+        requires { dict_refusal codes values ≡ None }
+        ensures { Makes None (dict codes values) (codes, values) result }
+    {
         let nullability = values.dtype().nullability().or(codes.dtype().nullability());
         let own_type = match values.dtype().with_nullability(alloc, nullability) {
             Ok(own_type) => own_type,
@@ -166,7 +179,7 @@ pub(crate) fn decoded_by_codes(
     ensures { OrMemory result (AreRows (kind_in values.values) (zeroed_by (default_in (kind_in values.values)) valid (map (λ code. picked (ptype_of codes) (values_of values.values) (default_in (kind_in values.values)) code) (wholes_of codes))) (validity_by_codes (ptype_of codes) (wholes_of codes) valid values.valid)) }
 {
     let picked = values.values.picked(alloc, &codes)?;
-    let picked = picked.zeroed_by(&valid)?;
+    let picked = picked.zeroed_by(&valid);
     let valid = valid_codes(alloc, &codes, valid, &values.valid)?;
     Ok(Decoded {
         values: picked,

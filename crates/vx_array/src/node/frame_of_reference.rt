@@ -64,9 +64,12 @@ impl ArrayRef {
 fn refusal(encoded: &ArrayRef, reference: &Scalar) -> Option<VortexError>
     ensures { result ≡ for_refusal encoded.now reference.now }
 {
+    if !reference.dtype().is_integer() || reference.is_null() {
+        return Some(VortexError::MismatchedTypes);
+    }
     let unsigned = reference.dtype().ptype().to_unsigned();
     let differences = DType::primitive(unsigned, encoded.dtype().nullability());
-    if reference.dtype().is_integer() && !reference.is_null() && *encoded.dtype() == differences {
+    if *encoded.dtype() == differences {
         None
     } else {
         Some(VortexError::MismatchedTypes)
@@ -126,5 +129,5 @@ pub(crate) fn decoded_moved(
     ensures { OrMemory result (AreRows (ints (integer_of reference.now.dtype)) (map int (zeroed_by (pos 0) valid (map (summed reference.now) (wholes_of differences)))) valid) }
 {
     let values = moved(alloc, reference, &differences)?;
-    behind(values, valid)
+    Ok(behind(values, valid))
 }

@@ -105,7 +105,7 @@ pub(crate) fn decoded_masked(alloc: Global, child: Decoded, mask: &Mask) -> Vort
     requires { length mask.now ≡ length (values_of child.values) }
     ensures { OrMemory result (AreRows (kind_in child.values) (zeroed (default_in (kind_in child.values)) mask.now (values_of child.values)) (kept (Some mask.now))) }
 {
-    let values = child.values.zeroed(mask)?;
+    let values = child.values.zeroed(mask);
     let valid = keep(Some(mask.copy(alloc)?));
     Ok(Decoded { values, valid })
 }

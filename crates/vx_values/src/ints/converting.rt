@@ -65,16 +65,27 @@ impl Ints {
     }
 }
 
-// Whether some item is negative.
+// Whether some item is negative: one test for 64 rows.
 fn has_negative<T: Integer>(items: &[T]) -> bool
     ensures { result ≡ list_any (λ z. int_lt z (pos 0)) (map T.whole items.now) }
 {
-    for item in items {
-        if item.to_whole() < 0 {
+    for rows in items.chunks(64) {
+        if some_negative(rows) {
             return true;
         }
     }
     false
+}
+
+// The same of a few items, all of which are looked at.
+fn some_negative<T: Integer>(items: &[T]) -> bool
+    ensures { result ≡ list_any (λ z. int_lt z (pos 0)) (map T.whole items.now) }
+{
+    let mut some = false;
+    for item in items {
+        some |= item.to_whole() < 0;
+    }
+    some
 }
 
 #[inline(always)]

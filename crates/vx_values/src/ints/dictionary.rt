@@ -108,16 +108,27 @@ fn is_outside(code: i128, items: u64) -> bool
     code < 0 || code >= i128::from(items)
 }
 
-// The same of some code.
+// The same of some code: one test for 64 rows.
 fn has_outside<C: Integer>(codes: &[C], items: u64) -> bool
     ensures { result ≡ list_any (λ z. not (is_place items (int z))) (map C.whole codes.now) }
 {
-    for code in codes {
-        if is_outside(code.to_whole(), items) {
+    for rows in codes.chunks(64) {
+        if some_outside(rows, items) {
             return true;
         }
     }
     false
+}
+
+// The same of a few codes, all of which are looked at.
+fn some_outside<C: Integer>(codes: &[C], items: u64) -> bool
+    ensures { result ≡ list_any (λ z. not (is_place items (int z))) (map C.whole codes.now) }
+{
+    let mut some = false;
+    for code in codes {
+        some |= is_outside(code.to_whole(), items);
+    }
+    some
 }
 
 /// The validity of rows by their codes, of the codes' validity and the values'.

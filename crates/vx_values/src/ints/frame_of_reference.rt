@@ -1,6 +1,6 @@
 //! Differences from a reference, and sums with it.
 
-ghost use Rattle.std.specs.Prelude.{◌≡◌, pos, IsTrue, map, ◌+ℤ◌, ◌-ℤ◌};
+ghost use Rattle.std.specs.Prelude.{◌≡◌, length, pos, IsTrue, map, ◌+ℤ◌, ◌-ℤ◌};
 ghost use Rattle.vx_base.specs.Answers.{OrMemory};
 ghost use Rattle.vx_base.specs.Integers.{lies_in, unsigned_of};
 ghost use Rattle.vx_base.specs.Wrapping.{wrap};
@@ -61,7 +61,18 @@ fn difference<T: Integer, D: Integer>(reference: T, item: T) -> D
     D::from_low_bits(item.to_bits().wrapping_sub(reference.to_bits()))
 }
 
-// The same of each item.
+// The same of each item, written over others.
+fn write_differences<T: Integer, D: Integer>(reference: T, items: &[T], differences: &mut [D])
+    requires kind { D.kind ≡ unsigned_of T.kind }
+    requires length { length differences.old ≡ length items.now }
+    ensures { map D.whole differences.new ≡ map (λ z. wrap (unsigned_of T.kind) (z -ℤ T.whole reference)) (map T.whole items.now) }
+{
+    for row in 0..items.len() {
+        differences[row] = difference(reference, items[row]);
+    }
+}
+
+// The same in a list.
 fn differences_from<T: Integer, D: Integer>(
     alloc: Global,
     reference: T,
@@ -70,10 +81,8 @@ fn differences_from<T: Integer, D: Integer>(
     requires { D.kind ≡ unsigned_of T.kind }
     ensures { OrMemory result (λ list. map D.whole list ≡ map (λ z. wrap (unsigned_of T.kind) (z -ℤ T.whole reference)) (map T.whole items.now)) }
 {
-    let mut differences = Vec::with_capacity(alloc, items.len())?;
-    for row in 0..items.len() {
-        differences.push(difference(reference, items[row]))?;
-    }
+    let mut differences = vec![in alloc; D::zero(); items.len()]?;
+    write_differences(reference, items, differences.as_mut_slice());
     Ok(IntList::from_vec(differences))
 }
 

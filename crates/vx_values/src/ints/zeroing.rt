@@ -20,21 +20,32 @@ impl Ints {
     }
 
     /// The list with 0 where the mask is false.
-    pub fn zeroed(self, mask: &Mask) -> VortexResult<Ints>
+    pub fn zeroed(self, mask: &Mask) -> Ints
         requires { length mask.now ≡ length (wholes_of self) }
-        ensures { OrMemory result (λ ints. (ptype_of ints ≡ ptype_of self) × (wholes_of ints ≡ zeroed (pos 0) mask.now (wholes_of self))) }
+        ensures ptype { ptype_of result ≡ ptype_of self }
+        ensures wholes { wholes_of result ≡ zeroed (pos 0) mask.now (wholes_of self) }
     {
-        map_ints!(self, items => zeroed(items, mask.as_slice()))
+        match self {
+            Ints::U8(items) => Ints::U8(zeroed(items, mask.as_slice())),
+            Ints::U16(items) => Ints::U16(zeroed(items, mask.as_slice())),
+            Ints::U32(items) => Ints::U32(zeroed(items, mask.as_slice())),
+            Ints::U64(items) => Ints::U64(zeroed(items, mask.as_slice())),
+            Ints::I8(items) => Ints::I8(zeroed(items, mask.as_slice())),
+            Ints::I16(items) => Ints::I16(zeroed(items, mask.as_slice())),
+            Ints::I32(items) => Ints::I32(zeroed(items, mask.as_slice())),
+            Ints::I64(items) => Ints::I64(zeroed(items, mask.as_slice())),
+        }
     }
 
     /// The list with 0 where a row isn't valid.
-    pub fn zeroed_by(self, valid: &Option<Mask>) -> VortexResult<Ints>
+    pub fn zeroed_by(self, valid: &Option<Mask>) -> Ints
         requires { validity_length valid.now (length (wholes_of self)) ≡ true }
-        ensures { OrMemory result (λ ints. (ptype_of ints ≡ ptype_of self) × (wholes_of ints ≡ zeroed_by (pos 0) valid.now (wholes_of self))) }
+        ensures ptype { ptype_of result ≡ ptype_of self }
+        ensures wholes { wholes_of result ≡ zeroed_by (pos 0) valid.now (wholes_of self) }
     {
         match valid {
             Some(mask) => self.zeroed(mask),
-            None => Ok(self),
+            None => self,
         }
     }
 

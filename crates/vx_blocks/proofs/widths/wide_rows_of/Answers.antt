@@ -1,18 +1,19 @@
-use Rattle.std.proofs.Common.{◌∷◌, [], ◌++◌, ◌∙◌, sym, ap}
+use Rattle.std.proofs.Common.{◌≡◌, ◌+◌, ◌*◌, ◌∙◌, sym, ap, arith}
 use Rattle.vx_base.specs.Integers.{bits_in}
-use Rattle.vx_blocks.proofs.WideRows.{wide-push, wide-skip}
+use Rattle.vx_blocks.proofs.WideRows.{wide_before, wide-none}
 use Rattle.vx_blocks.proofs.widths.wide_rows_of.Goals as goal
-use Rattle.vx_blocks.proofs.widths.wide_rows_of.Goals.{then-is_wide+in_ok-push, else-is_wide}
+use Rattle.vx_blocks.proofs.widths.wide_rows_of.Goals.{then-may_be_wide+in_ok-push_wide, else-may_be_wide}
 
-pub loop-i-preserved : goal.loop-i-preserved
-loop-i-preserved g c =
+pub loop-group-preserved : goal.loop-group-preserved
+loop-group-preserved g c =
     let f = bits_in g.T.Integer.kind in
     let h = g.T.Integer.whole in
-    elim c.if-is_wide.branch [
-      | then-is_wide+in_ok-push w ↦
-          ap (λ v. v.items) w.rows-is ∙ w.in_ok-push.ensures.items ∙ ap (λ xs. xs ++ c.loop-i.i ∷ []) c.loop-i.invariant
-          ∙ sym (wide-push f h c.args.width c.args.values.now c.args.valid.now c.loop-i.i c.index-values-i.result c.to_bits.result c.loop-i-test.true c.index-values-i.is c.to_bits.ensures.value (sym c.is_wide.ensures ∙ w.if-is_wide.true))
-      | else-is_wide w ↦
-          ap (λ v. v.items) w.rows-is ∙ c.loop-i.invariant
-          ∙ sym (wide-skip f h c.args.width c.args.values.now c.args.valid.now c.loop-i.i c.index-values-i.result c.to_bits.result c.loop-i-test.true c.index-values-i.is c.to_bits.ensures.value (sym c.is_wide.ensures ∙ w.if-is_wide.false))
+    let start = 64 * c.loop-group.group in
+    let next : start + 64 ≡ 64 * (c.loop-group.group + 1) = omega arith in
+    elim c.if-may_be_wide.branch [
+      | then-may_be_wide+in_ok-push_wide w ↦
+          ap (λ v. v.items) w.rows-is ∙ w.in_ok-push_wide.ensures ∙ ap (wide_before f h c.args.width c.args.values.now c.args.valid.now) next
+      | else-may_be_wide w ↦
+          ap (λ v. v.items) w.rows-is ∙ c.loop-group.invariant
+          ∙ sym (wide-none f h c.args.width c.args.values.now c.args.valid.now start 64 (64 * (c.loop-group.group + 1)) next (λ k from to. c.may_be_wide.ensures w.if-may_be_wide.false k from (omega arith)))
     ]

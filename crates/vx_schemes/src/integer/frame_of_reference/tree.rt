@@ -81,7 +81,7 @@ fn differences(alloc: Global, array: &ArrayRef, reference: i128) -> VortexResult
     match array.node() {
         Node::Primitive(values, valid, nullability) => {
             let wrapped = values.differences(alloc, reference)?;
-            let zeroed = wrapped.zeroed_by(valid)?;
+            let zeroed = wrapped.zeroed_by(valid);
             let bits = copy_validity(valid, alloc)?;
             match ArrayRef::primitive(zeroed, bits, *nullability) {
                 Ok(plain) => Ok(plain),

@@ -1,6 +1,5 @@
 use Rattle.std.proofs.Common.{◌≡◌, ◌∙◌, ap, sym, subst, length, map, pos}
 use Rattle.std.specs.Prelude.{IfSome}
-use Rattle.std.proofs.lemmas.Result.{MatchResult-weaker}
 use Rattle.vx_base.specs.declared.dtype.Nullability.TheVariants.{NonNullable}
 use Rattle.vx_base.specs.Packed.{packed_row}
 use Rattle.vx_base.specs.PlainValue.{int, whole_or_zero}
@@ -34,4 +33,5 @@ returns c =
     let len = ap length bits ∙ below_length (λ i. pos (packed_row c.args.packed.now c.args.width i)) c.args.len in
     let wholes = c.written-values.ensures.wholes k len bits in
     let valid = c.in_ok-copy_validity.ensures in
-    MatchResult-weaker c.behind.result c.behind.ensures (λ d h. (h.0 ∙ ap ints (c.written-values.ensures.ptype ∙ c.in_ok-values.ensures.0), h.1 ∙ (λ i. map int (zeroed_by (pos 0) (valid i) (wholes i))), h.2 ∙ valid)) (λ e n. n)
+    let h = c.behind.ensures in
+    (h.0 ∙ ap ints (c.written-values.ensures.ptype ∙ c.in_ok-values.ensures.0), h.1 ∙ (λ i. map int (zeroed_by (pos 0) (valid i) (wholes i))), h.2 ∙ valid)

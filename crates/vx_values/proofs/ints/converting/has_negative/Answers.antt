@@ -1,12 +1,13 @@
-use Rattle.std.proofs.Common.{◌≡◌, ◌∙◌, sym, ap, pos, true, rules}
-use Rattle.std.specs.Int.{w128}
-use Rattle.std.specs.Prelude.{FitsSigned, int_lt}
-use Rattle.std.proofs.lemmas.Int.{to_z-of_z}
-use Rattle.vx_values.proofs.Cells.{any_whole}
+use Rattle.std.proofs.Common.{◌∙◌, pos, sym, true, false}
+use Rattle.std.specs.Prelude.{int_lt}
+use Rattle.std.specs.Slice.Iter.{chunks_rest}
+use Rattle.vx_values.proofs.Cells.{any-parts}
 use Rattle.vx_values.proofs.ints.converting.has_negative.Goals as goal
 
-pub returns-then-to_whole-lt0 : goal.returns-then-to_whole-lt0
-returns-then-to_whole-lt0 g c =
-    let fits : FitsSigned w128 c.to_whole.result = search rules in
-    let test : int_lt (g.T.Integer.whole c.item-item.result) (pos 0) ≡ true = ap (λ z. int_lt z (pos 0)) (sym (to_z-of_z w128 c.to_whole.result fits ∙ c.to_whole.ensures.value)) ∙ c.if-to_whole-lt0.true in
-    sym (any_whole g.T.Integer.whole (λ z. int_lt z (pos 0)) c.args.items.now c.loop-item.item-index c.item-item.result c.loop-item-test.true c.item-item.is test)
+pub returns-then-some_negative : goal.returns-then-some_negative
+returns-then-some_negative g c =
+    sym (any-parts g.T.Integer.whole (λ z. int_lt z (pos 0)) (chunks_rest c.loop-rows.rows-iterator) c.in-Some.rows.now (chunks_rest c.next.new.self) true c.in-Some.ensures.steps.1.0 (sym c.some_negative.ensures ∙ c.if-some_negative.true)) ∙ c.loop-rows.invariant
+
+pub loop-rows-preserved : goal.loop-rows-preserved
+loop-rows-preserved g c =
+    sym (any-parts g.T.Integer.whole (λ z. int_lt z (pos 0)) (chunks_rest c.loop-rows.rows-iterator) c.in-Some.rows.now (chunks_rest c.next.new.self) false c.in-Some.ensures.steps.1.0 (sym c.some_negative.ensures ∙ c.if-some_negative.false)) ∙ c.loop-rows.invariant

@@ -1,15 +1,15 @@
-use Rattle.std.proofs.Common.{◌≡◌, ◌∙◌, ℤ, Bool, sym, ap, true, rules}
-use Rattle.std.specs.Int.{w128}
-use Rattle.std.specs.Prelude.{FitsSigned, not}
-use Rattle.std.proofs.lemmas.Int.{to_z-of_z}
+use Rattle.std.proofs.Common.{◌∙◌, sym, true, false}
+use Rattle.std.specs.Prelude.{not}
 use Rattle.vx_base.specs.PlainValue.{int}
 use Rattle.vx_model.specs.WellFormed.{is_place}
-use Rattle.vx_values.proofs.Cells.{any_whole}
+use Rattle.std.specs.Slice.Iter.{chunks_rest}
+use Rattle.vx_values.proofs.Cells.{any-parts}
 use Rattle.vx_values.proofs.ints.dictionary.has_outside.Goals as goal
 
-pub returns-then-is_outside : goal.returns-then-is_outside
-returns-then-is_outside g c =
-    let fits : FitsSigned w128 c.to_whole.result = search rules in
-    let outside : ℤ → Bool = λ z. not (is_place c.args.items (int z)) in
-    let test : outside (g.C.Integer.whole c.code-item.result) ≡ true = ap outside (sym (to_z-of_z w128 c.to_whole.result fits ∙ c.to_whole.ensures.value)) ∙ sym c.is_outside.ensures ∙ c.if-is_outside.true in
-    sym (any_whole g.C.Integer.whole outside c.args.codes.now c.loop-code.code-index c.code-item.result c.loop-code-test.true c.code-item.is test)
+pub returns-then-some_outside : goal.returns-then-some_outside
+returns-then-some_outside g c =
+    sym (any-parts g.C.Integer.whole (λ z. not (is_place c.args.items (int z))) (chunks_rest c.loop-rows.rows-iterator) c.in-Some.rows.now (chunks_rest c.next.new.self) true c.in-Some.ensures.steps.1.0 (sym c.some_outside.ensures ∙ c.if-some_outside.true)) ∙ c.loop-rows.invariant
+
+pub loop-rows-preserved : goal.loop-rows-preserved
+loop-rows-preserved g c =
+    sym (any-parts g.C.Integer.whole (λ z. not (is_place c.args.items (int z))) (chunks_rest c.loop-rows.rows-iterator) c.in-Some.rows.now (chunks_rest c.next.new.self) false c.in-Some.ensures.steps.1.0 (sym c.some_outside.ensures ∙ c.if-some_outside.false)) ∙ c.loop-rows.invariant

@@ -21,8 +21,8 @@ returns-in-Ok c =
     let n = c.in-Primitive.nullability in
     let at : t ≡ primitive p xs valid n = sym c.node.ensures.tree ∙ ap tree_of c.in-Primitive.is in
     let wrapped = rw (to_z-of_z w128 c.args.reference c.ranges.reference) at c.in_ok-wrapped-in-Primitive.ensures in
-    let typed : ptype_of c.in_ok-zeroed-in-Primitive.zeroed ≡ unsigned_of p = c.in_ok-zeroed-in-Primitive.ensures.0 ∙ wrapped.0 in
-    let wholes : wholes_of c.in_ok-zeroed-in-Primitive.zeroed ≡ zeroed_by (pos 0) valid (map (less p c.args.reference) xs) = c.in_ok-zeroed-in-Primitive.ensures.1 ∙ ap (zeroed_by (pos 0) valid) wrapped.1 in
+    let typed : ptype_of c.zeroed_by-zeroed-in-Primitive.result ≡ unsigned_of p = c.zeroed_by-zeroed-in-Primitive.ensures.ptype ∙ wrapped.0 in
+    let wholes : wholes_of c.zeroed_by-zeroed-in-Primitive.result ≡ zeroed_by (pos 0) valid (map (less p c.args.reference) xs) = c.zeroed_by-zeroed-in-Primitive.ensures.wholes ∙ ap (zeroed_by (pos 0) valid) wrapped.1 in
     MakesSurely_ok _ _ _ _ c.in-Ok.ensures ∙ (λ i. primitive (typed i) (wholes i) (kept (c.in_ok-bits-in-Primitive.ensures i)) n)
     ∙ moved_tree t p xs valid n c.known.ensures at c.requires.plain c.args.reference
 
@@ -35,6 +35,6 @@ returns-in-Err c =
     let n = c.in-Primitive.nullability in
     let at : t ≡ primitive p xs valid n = sym c.node.ensures.tree ∙ ap tree_of c.in-Primitive.is in
     let wrapped = rw (to_z-of_z w128 c.args.reference c.ranges.reference) at c.in_ok-wrapped-in-Primitive.ensures in
-    let wholes : wholes_of c.in_ok-zeroed-in-Primitive.zeroed ≡ zeroed_by (pos 0) valid (map (less p c.args.reference) xs) = c.in_ok-zeroed-in-Primitive.ensures.1 ∙ ap (zeroed_by (pos 0) valid) wrapped.1 in
+    let wholes : wholes_of c.zeroed_by-zeroed-in-Primitive.result ≡ zeroed_by (pos 0) valid (map (less p c.args.reference) xs) = c.zeroed_by-zeroed-in-Primitive.ensures.wholes ∙ ap (zeroed_by (pos 0) valid) wrapped.1 in
     let admitted = moved_admitted t p xs valid n c.known.ensures at c.requires.plain c.args.reference in
     absurd (MakesSurely_err _ _ _ _ ((λ i. primitive_refusal (length (wholes i)) (c.in_ok-bits-in-Primitive.ensures i) n) ∙ admitted) c.in-Err.ensures)
