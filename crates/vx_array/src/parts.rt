@@ -31,18 +31,6 @@ impl ArrayRef {
         }
     }
 
-    /// The same parts, by themselves.
-    pub fn into_primitive(self) -> (Ints, Option<Mask>, Nullability)
-        requires { encoding self ≡ ids.Primitive }
-        ensures tree { primitive (ptype_of result.0) (wholes_of result.0) result.1 result.2 ≡ self }
-        ensures well_formed { WellFormed (primitive (ptype_of result.0) (wholes_of result.0) result.1 result.2) }
-    {
-        match self.into_node() {
-            Node::Primitive(values, valid, nullability) => (values, valid, nullability),
-            _ => unreachable!(),
-        }
-    }
-
     /// Other integers, as many, with the validity and the nullability of a tree whose root is a Primitive.
     pub fn with_integers(&self, alloc: Global, values: Ints) -> VortexResult<ArrayRef>
         requires primitive { encoding self.now ≡ ids.Primitive }
