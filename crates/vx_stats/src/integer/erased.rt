@@ -9,7 +9,7 @@ use crate::integer::typed::TypedStats;
 use crate::integer::value::PValue;
 
 /// The least and the greatest of the valid integers of a type, and the distinct ones where they were asked for.
-#[derive(Debug, Drop)]
+#[derive(Debug)]
 pub enum ErasedStats {
     U8(TypedStats<u8>),
     U16(TypedStats<u16>),
@@ -35,6 +35,13 @@ macro_rules! with_typed {
             ErasedStats::I64($typed) => $answer,
         }
     };
+}
+
+// Likewise, in place of eight variants at each way out.
+impl Drop for ErasedStats {
+    fn drop(self) {
+        with_typed!(self, typed => drop(typed))
+    }
 }
 
 impl ErasedStats {
