@@ -1,6 +1,7 @@
 pub mod DenseLemmas
 pub mod DistinctLemmas
 pub mod PickLemmas
+pub mod SeenLemmas
 pub mod SlotLemmas
 pub mod StatsFacts
 pub mod StatsLemmas

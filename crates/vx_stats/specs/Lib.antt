@@ -4,6 +4,7 @@ pub mod Erased
 pub mod Frequent
 pub mod Options
 pub mod Runs
+pub mod Seen
 pub mod Slots
 pub mod Stats
 pub mod Tables

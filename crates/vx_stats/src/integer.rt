@@ -11,6 +11,7 @@ mod distinct;
 mod erased;
 mod generating;
 mod range;
+mod seen;
 mod slots;
 mod tally;
 mod typed;

@@ -27,7 +27,7 @@ pub(crate) struct Slots {
 
 // The slot of an item: the highest bits of a product.
 #[inline(always)]
-fn slot_of<T: Integer>(item: T, shift: u32) -> usize
+pub(crate) fn slot_of<T: Integer>(item: T, shift: u32) -> usize
     ensures { result ≡ slot_of shift (bits_in T.kind (T.whole item)) }
 {
     item.to_bits().wrapping_mul(SPREAD).wrapping_shr(shift) as usize
