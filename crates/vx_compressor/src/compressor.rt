@@ -1,6 +1,6 @@
 //! The compressor over any lawful schemes.
 
-ghost use Rattle.std.specs.Prelude.{◌≡◌, ◌<◌, ◌≤◌, true, length, map};
+ghost use Rattle.std.specs.Prelude.{◌≡◌, ◌<◌, ◌≤◌, true, IfOk, length, map};
 ghost use Rattle.vx_base.specs.Answers.{Answers, Decided, Makes};
 ghost use Rattle.vx_base.specs.PlainType.{is_leaf};
 ghost use Rattle.vx_model.specs.Cascade.{cascade};
@@ -83,10 +83,11 @@ impl<S: Scheme> CascadingCompressor<S> {
         is_excluded(self.bans.as_slice(), candidate.id(), site.cascade_history())
     }
 
-    /// The tree of the array's column: its type and rows decide, its own encodings don't. Refuses TooManyRows exactly
-    /// where an extent of the array passes 2^31 rows, and NoMemory. The context stays as it was.
+    /// The tree of the array's column: its type and rows decide, its own encodings don't, and the tree has both. Refuses
+    /// TooManyRows exactly where an extent of the array passes 2^31 rows, and NoMemory. The context stays as it was.
     pub fn compress(&self, array: &ArrayRef, ctx: &mut ExecutionCtx) -> VortexResult<ArrayRef>
         ensures answer { Decided (compress_refusal array.now) (λ tree. tree ≡ cascade (leaf_tree (setting S.meaning self.now ctx.old)) (column_of array.now)) result }
+        ensures kept { IfOk result (λ tree. column_of tree ≡ column_of array.now) }
         ensures ctx { ctx.new ≡ ctx.old }
     {
         if !array.extents_fit() {
