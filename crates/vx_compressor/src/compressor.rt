@@ -12,7 +12,7 @@ ghost use Rattle.vx_scheme.specs.Contexts.{site_of};
 ghost use Rattle.vx_scheme.specs.Excluded.{excluded};
 ghost use Rattle.vx_scheme.specs.Names.{name_of};
 ghost use Rattle.vx_compressor.specs.Cascade.{setting, leaf_tree, compressed_child};
-ghost use Rattle.vx_compressor.specs.Distinct.{schemes_refusal};
+ghost use Rattle.vx_compressor.specs.Distinct.{have_own_names, schemes_refusal};
 ghost use Rattle.vx_compressor.specs.Reach.{IsInReach, most_part_rows};
 
 use crate::bans::{Ban, bans_of};
@@ -29,7 +29,8 @@ use vx_scheme::{CompressorContext, Scheme, SchemeId};
 pub type Schemes<S> = Items<S>;
 
 /// Makes a column's tree: at each site every scheme that may stand there is scored, and the tree of the best stands
-/// where it is smaller than the plain one. Contracts see the list of schemes.
+/// where it is smaller than the plain one. No two schemes have one name, and none has `vortex.compressor.root`. Contracts
+/// see the list of schemes.
 #[derive(Drop)]
 pub struct CascadingCompressor<S: Scheme> {
     schemes: Schemes<S>,
@@ -37,14 +38,15 @@ pub struct CascadingCompressor<S: Scheme> {
 }
 
 impl<S: Scheme> Model for CascadingCompressor<S> {
-    ghost use Rattle.std.specs.Prelude.{◌≡◌, List, map};
+    ghost use Rattle.std.specs.Prelude.{◌≡◌, List, map, true};
     ghost use Rattle.vx_compressor.specs.Bans.{ban_of, all_bans};
+    ghost use Rattle.vx_compressor.specs.Distinct.{have_own_names};
 
     ghost Value = { List S };
 
     ghost view = { λ a. a.schemes };
 
-    ghost invariant = { λ a. map ban_of a.bans.items ≡ all_bans (map S.meaning a.schemes) };
+    ghost invariant = { λ a. (map ban_of a.bans.items ≡ all_bans (map S.meaning a.schemes)) × (have_own_names (map S.meaning a.schemes) ≡ true) };
 }
 
 impl<S: Scheme> CascadingCompressor<S> {
@@ -68,9 +70,10 @@ impl<S: Scheme> CascadingCompressor<S> {
         }
     }
 
-    /// The schemes, in the order in which they are judged.
+    /// The schemes, in the order in which they are judged. Each has a name of its own, which the root hasn't.
     pub fn schemes(&self) -> &Schemes<S>
-        ensures { result.now ≡ self.now }
+        ensures schemes { result.now ≡ self.now }
+        ensures names { have_own_names (map S.meaning self.now) ≡ true }
     {
         &self.schemes
     }
