@@ -129,7 +129,7 @@ child_tree-keeps set lawful (suc budget) within c site own =
 leaf_types : (t : PlainType) → is_leaf t ≡ true
 leaf_types (primitive p n) = refl
 
-cascade-column : (set : Setting) → IsLawful set → (c : Column) → IsWithin c → column_of (cascade (leaf_tree set) c) ≡ c
+pub cascade-column : (set : Setting) → IsLawful set → (c : Column) → IsWithin c → column_of (cascade (leaf_tree set) c) ≡ c
 cascade-column set lawful c within =
     let few = rows-few c.dtype c.values row_limit within.counts_fit in
     let reach : IsInReach c max_cascade = record { few = omega (arith, few); within = omega arith } in

@@ -18,7 +18,7 @@ use Rattle.vx_compressor.specs.declared.choice.Score.{Score}
 use Rattle.vx_compressor.specs.Choice.{is_always_score, is_greatest, or_else, choice_of}
 use Rattle.vx_model.specs.Leaf.{smaller_or_plain, chosen_or_plain}
 use Rattle.vx_compressor.specs.Cascade.{Setting, is_eligible, eligible, with_verdict, deferring, score, trial, choice, chosen}
-use Rattle.vx_compressor.specs.Judging.{IsReady, put_off, put_off_by, meant_pair}
+use Rattle.vx_compressor.specs.Judging.{IsReady, WasPutOff, put_off, put_off_by, meant_pair}
 
 -- ---- lists
 
@@ -83,6 +83,23 @@ put_off_ready meaning c site opts xs ps ready e =
     All-from_recursion _ ps
     (all_unmap (λ p. IsReady c opts p.0) (meant_pair meaning) ps
     (subst (AllByRecursion (λ p. IsReady c opts p.0)) (sym e) (put_off_all (IsReady c opts) c site (map meaning xs) (all_map (IsReady c opts) meaning xs (recursion_from_All _ xs ready)))))
+
+-- each put its verdict off in the way that stands beside it
+put_off_so : (c : Column) (site : Site) (ms : List Meaning) → AllByRecursion (λ p. WasPutOff c site p.0 p.1) (put_off c site ms)
+put_off_so c site [] = tt
+put_off_so c site (m ∷ ms) = of_estimate (m.estimate c site) refl (put_off_so c site ms)
+  where
+    of_estimate : (e : CompressionEstimate) → m.estimate c site ≡ e → AllByRecursion {X = Meaning × DeferredEstimate} (λ p. WasPutOff c site p.0 p.1) (put_off c site ms)
+        → AllByRecursion {X = Meaning × DeferredEstimate} (λ p. WasPutOff c site p.0 p.1) (put_off_by m e (put_off c site ms))
+    of_estimate (Verdict v) is rest = rest
+    of_estimate (Deferred d) is rest = (is, rest)
+
+pub were_put_off : {S : Type 0} (meaning : S → Meaning) (c : Column) (site : Site) (xs : List S) (ps : List (S × DeferredEstimate))
+    → map (meant_pair meaning) ps ≡ put_off c site (map meaning xs) → All (λ p. WasPutOff c site (meaning p.0) p.1) ps
+were_put_off meaning c site xs ps e =
+    All-from_recursion _ ps
+    (all_unmap (λ p. WasPutOff c site p.0 p.1) (meant_pair meaning) ps
+    (subst (AllByRecursion (λ p. WasPutOff c site p.0 p.1)) (sym e) (put_off_so c site (map meaning xs))))
 
 -- ---- the one that is chosen
 

@@ -5,6 +5,7 @@ pub mod ChoiceLemmas
 pub mod EligibleLemmas
 pub mod HeldLemmas
 pub mod JudgingLemmas
+pub mod KeptLemmas
 pub mod LeafCases
 pub mod LeafFormLemmas
 pub mod LimitLemmas

@@ -16,7 +16,7 @@ use Rattle.vx_model.specs.TreeType.{tree_type}
 use Rattle.vx_model.specs.WellFormed.{WellFormed}
 use Rattle.vx_model.proofs.MadeLemmas.{rows_fit}
 use Rattle.vx_model.proofs.PlainLemmas.{column_of-plain, plain_is_plain}
-use Rattle.vx_scheme.specs.Asked.{FitParts, IsAsked, IsSiteTree}
+use Rattle.vx_scheme.specs.Asked.{HasParts, FitParts, IsAsked, IsSiteTree}
 use Rattle.vx_scheme.specs.Lawful.{Lawful}
 use Rattle.vx_scheme.specs.Meaning.{Meaning, PlainSplit, kept, finished, parts, parts_of, split_of}
 use Rattle.vx_scheme.specs.declared.split.Split.TheVariants as splits
@@ -74,6 +74,7 @@ parts_in_reach budget (p ∷ ps) h within = (record { few = h.0.few; within = wi
 pub record PartsMade (child : Leaves) (budget : ℕ) (m : Meaning) (c : Column) (site : Site) (ps : List Tree) : Type 0 where
   pub plain : All IsPlain ps
   pub reach : All (λ part. IsPartInReach (column_of part) budget) ps
+  pub split : HasParts (m.splits c site)
   pub fit : (trees : List Tree) → trees ≡ part_trees child m.name site 0 (map column_of ps) → FitParts (m.splits c site) trees
   pub joined : (trees : List Tree) → trees ≡ part_trees child m.name site 0 (map column_of ps) → m.joined c site trees ≡ trial child m c site
 
@@ -84,6 +85,7 @@ parts_made_by child budget keeps m lawful c site asked reach ps made =
     record {
       plain = are.plain;
       reach = All-from_recursion _ ps (parts_in_reach budget ps small reach.within);
+      split = subst HasParts (sym are.columns) tt;
       fit = λ trees is. ap (map column_of) is ∙ part_trees-columns child budget keeps m.name site 0 (map column_of ps) small ∙ ap parts_of (sym are.columns);
       joined = λ trees is. ap (m.joined c site) is ∙ ap (made_tree child m c site) (sym are.columns);
     }
@@ -100,9 +102,10 @@ parts_made meaning law schemes words s array held site well same asked taken rea
 
 -- what is joined of the same array is the trial's tree
 pub joined_answer : (m : Meaning) (result : Result Tree VortexError) (old new t : Tree) (site : Site) (trees : List Tree) → new ≡ old → m.joined (column_of old) site trees ≡ t → m.takes (tree_type old) ≡ true
-    → (m.takes (tree_type new) ≡ true → Answers result (m.joined (column_of new) site trees)) → Answers result t
-joined_answer m result old new t site trees same joined taken answer =
-    subst (λ t. Answers result t) (ap (λ a. m.joined (column_of a) site trees) same ∙ joined) (answer (ap (λ a. m.takes (tree_type a)) same ∙ taken))
+    → HasParts (m.splits (column_of old) site) → (m.takes (tree_type new) ≡ true → HasParts (m.splits (column_of new) site) → Answers result (m.joined (column_of new) site trees)) → Answers result t
+joined_answer m result old new t site trees same joined taken split answer =
+    subst (λ t. Answers result t) (ap (λ a. m.joined (column_of a) site trees) same ∙ joined)
+    (answer (ap (λ a. m.takes (tree_type a)) same ∙ taken) (subst (λ a. HasParts (m.splits (column_of a) site)) (sym same) split))
 
 -- ---- one more part
 

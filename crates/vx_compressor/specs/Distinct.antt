@@ -17,5 +17,8 @@ abbrev pub names_of : List Meaning → List (List ℕ)
 names_of schemes = map (λ m. m.name) schemes
 
 -- each scheme has a name of its own, which the root hasn't
+abbrev pub have_own_names : List Meaning → Bool
+have_own_names schemes = are_distinct (root_name ∷ names_of schemes)
+
 abbrev pub schemes_refusal : List Meaning → Option VortexError
-schemes_refusal schemes = unless (are_distinct (root_name ∷ names_of schemes)) DuplicateScheme None
+schemes_refusal schemes = unless (have_own_names schemes) DuplicateScheme None

@@ -30,6 +30,10 @@ pub record IsReady (c : Column) (opts : GenerateStatsOptions) (m : Meaning) : Ty
   pub taken : m.takes c.dtype ≡ true
   pub included : includes opts m.options ≡ true
 
+-- the scheme put its verdict off, to be found in this way
+abbrev pub WasPutOff : Column → Site → Meaning → DeferredEstimate → Type 0
+WasPutOff c site m how = m.estimate c site ≡ Deferred how
+
 -- ---- the first pass
 
 -- the scores of the verdicts that schemes tell at once

@@ -1,6 +1,6 @@
 //! The compressor over any lawful schemes.
 
-ghost use Rattle.std.specs.Prelude.{◌≡◌, ◌<◌, ◌≤◌, true, length, map};
+ghost use Rattle.std.specs.Prelude.{◌≡◌, ◌<◌, ◌≤◌, true, IfOk, length, map};
 ghost use Rattle.vx_base.specs.Answers.{Answers, Decided, Makes};
 ghost use Rattle.vx_base.specs.PlainType.{is_leaf};
 ghost use Rattle.vx_model.specs.Cascade.{cascade};
@@ -12,7 +12,7 @@ ghost use Rattle.vx_scheme.specs.Contexts.{site_of};
 ghost use Rattle.vx_scheme.specs.Excluded.{excluded};
 ghost use Rattle.vx_scheme.specs.Names.{name_of};
 ghost use Rattle.vx_compressor.specs.Cascade.{setting, leaf_tree, compressed_child};
-ghost use Rattle.vx_compressor.specs.Distinct.{schemes_refusal};
+ghost use Rattle.vx_compressor.specs.Distinct.{have_own_names, schemes_refusal};
 ghost use Rattle.vx_compressor.specs.Reach.{IsInReach, most_part_rows};
 
 use crate::bans::{Ban, bans_of};
@@ -29,7 +29,8 @@ use vx_scheme::{CompressorContext, Scheme, SchemeId};
 pub type Schemes<S> = Items<S>;
 
 /// Makes a column's tree: at each site every scheme that may stand there is scored, and the tree of the best stands
-/// where it is smaller than the plain one. Contracts see the list of schemes.
+/// where it is smaller than the plain one. No two schemes have one name, and none has `vortex.compressor.root`. Contracts
+/// see the list of schemes.
 #[derive(Drop)]
 pub struct CascadingCompressor<S: Scheme> {
     schemes: Schemes<S>,
@@ -37,14 +38,15 @@ pub struct CascadingCompressor<S: Scheme> {
 }
 
 impl<S: Scheme> Model for CascadingCompressor<S> {
-    ghost use Rattle.std.specs.Prelude.{◌≡◌, List, map};
+    ghost use Rattle.std.specs.Prelude.{◌≡◌, List, map, true};
     ghost use Rattle.vx_compressor.specs.Bans.{ban_of, all_bans};
+    ghost use Rattle.vx_compressor.specs.Distinct.{have_own_names};
 
     ghost Value = { List S };
 
     ghost view = { λ a. a.schemes };
 
-    ghost invariant = { λ a. map ban_of a.bans.items ≡ all_bans (map S.meaning a.schemes) };
+    ghost invariant = { λ a. (map ban_of a.bans.items ≡ all_bans (map S.meaning a.schemes)) × (have_own_names (map S.meaning a.schemes) ≡ true) };
 }
 
 impl<S: Scheme> CascadingCompressor<S> {
@@ -68,9 +70,10 @@ impl<S: Scheme> CascadingCompressor<S> {
         }
     }
 
-    /// The schemes, in the order in which they are judged.
+    /// The schemes, in the order in which they are judged. Each has a name of its own, which the root hasn't.
     pub fn schemes(&self) -> &Schemes<S>
-        ensures { result.now ≡ self.now }
+        ensures schemes { result.now ≡ self.now }
+        ensures names { have_own_names (map S.meaning self.now) ≡ true }
     {
         &self.schemes
     }
@@ -83,10 +86,11 @@ impl<S: Scheme> CascadingCompressor<S> {
         is_excluded(self.bans.as_slice(), candidate.id(), site.cascade_history())
     }
 
-    /// The tree of the array's column: its type and rows decide, its own encodings don't. Refuses TooManyRows exactly
-    /// where an extent of the array passes 2^31 rows, and NoMemory. The context stays as it was.
+    /// The tree of the array's column: its type and rows decide, its own encodings don't, and the tree has both. Refuses
+    /// TooManyRows exactly where an extent of the array passes 2^31 rows, and NoMemory. The context stays as it was.
     pub fn compress(&self, array: &ArrayRef, ctx: &mut ExecutionCtx) -> VortexResult<ArrayRef>
         ensures answer { Decided (compress_refusal array.now) (λ tree. tree ≡ cascade (leaf_tree (setting S.meaning self.now ctx.old)) (column_of array.now)) result }
+        ensures kept { IfOk result (λ tree. column_of tree ≡ column_of array.now) }
         ensures ctx { ctx.new ≡ ctx.old }
     {
         if !array.extents_fit() {

@@ -1,10 +1,9 @@
 //! Whether schemes have names of their own.
 
-ghost use Rattle.std.specs.Prelude.{◌≡◌, ◌∷◌, map};
+ghost use Rattle.std.specs.Prelude.{◌≡◌, map};
 ghost use Rattle.std.specs.List.{list_any};
-ghost use Rattle.vx_scheme.specs.Excluded.{root_name};
 ghost use Rattle.vx_scheme.specs.Names.{name_of, same_name};
-ghost use Rattle.vx_compressor.specs.Distinct.{are_distinct, names_of};
+ghost use Rattle.vx_compressor.specs.Distinct.{are_distinct, have_own_names, names_of};
 
 use vx_scheme::{Scheme, SchemeId};
 
@@ -13,7 +12,7 @@ pub(crate) const ROOT: &str = "vortex.compressor.root";
 
 /// Whether no two schemes have the same name, and none has the root's.
 pub(crate) fn have_own_names<S: Scheme>(schemes: &[S]) -> bool
-    ensures { result ≡ are_distinct (root_name ∷ names_of (map S.meaning schemes.now)) }
+    ensures { result ≡ have_own_names (map S.meaning schemes.now) }
 {
     !has_name(schemes, SchemeId::of(ROOT)) && are_distinct(schemes)
 }

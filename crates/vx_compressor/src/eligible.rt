@@ -1,6 +1,7 @@
 //! Which schemes may stand at a site, and what statistics they ask for.
 
 ghost use Rattle.std.specs.Prelude.{◌≡◌, true, All, map};
+ghost use Rattle.std.specs.List.{list_any};
 ghost use Rattle.vx_base.specs.Answers.{OrMemory};
 ghost use Rattle.vx_base.specs.TypeOf.{type_of};
 ghost use Rattle.vx_scheme.specs.Contexts.{site_of};
@@ -39,9 +40,10 @@ impl<S: Scheme> CascadingCompressor<S> {
     }
 }
 
-/// All that the schemes ask for together.
+/// All that the schemes ask for together, and nothing else.
 pub(crate) fn merged_options<S: Scheme>(schemes: &[S]) -> GenerateStatsOptions
-    ensures { All (λ s. includes result (S.meaning s).options ≡ true) schemes.now }
+    ensures all { All (λ s. includes result (S.meaning s).options ≡ true) schemes.now }
+    ensures exact { result.count_distinct_values ≡ list_any (λ s. (S.meaning s).options.count_distinct_values) schemes.now }
 {
     let mut options = GenerateStatsOptions::default();
     for scheme in schemes {

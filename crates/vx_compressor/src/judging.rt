@@ -4,7 +4,7 @@ ghost use Rattle.std.specs.Prelude.{◌≡◌, ◌<◌, ◌^◌, ◌++◌, [], N
 ghost use Rattle.vx_base.specs.Answers.{Answers, OrMemory};
 ghost use Rattle.vx_model.specs.Column.{column_of};
 ghost use Rattle.vx_model.specs.Size.{size};
-ghost use Rattle.vx_scheme.specs.Asked.{HasValue};
+ghost use Rattle.vx_scheme.specs.Asked.{HasPutOff, HasValue};
 ghost use Rattle.vx_scheme.specs.Contexts.{site_of, options_of};
 ghost use Rattle.vx_compressor.specs.Cascade.{verdict_score, size_score};
 ghost use Rattle.vx_compressor.specs.Choice.{best_of, is_always};
@@ -58,6 +58,7 @@ pub(crate) fn resolve<S: Scheme>(
     requires askable { IsAskable (column_of array.now) }
     requires value { HasValue (column_of array.now) }
     requires ready { IsReady (column_of array.now) (options_of site.now) (S.meaning scheme.now) }
+    requires put_off { HasPutOff (S.meaning scheme.now) (column_of array.now) (site_of site.now) }
     ensures answer { Answers result ((S.meaning scheme.now).resolve (column_of array.now) (site_of site.now)) }
     ensures holds { Holds column.new (column_of array.now) (options_of site.now) }
     ensures ctx { ctx.new ≡ ctx.old }

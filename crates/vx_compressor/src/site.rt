@@ -10,7 +10,7 @@ ghost use Rattle.vx_scheme.specs.Asked.{HasValue};
 ghost use Rattle.vx_scheme.specs.Contexts.{site_of, options_of};
 ghost use Rattle.vx_compressor.specs.Cascade.{setting, deferred_score, eligible, choice, chosen, children_of, leaf_tree};
 ghost use Rattle.vx_compressor.specs.Choice.{best_of};
-ghost use Rattle.vx_compressor.specs.Judging.{Holds, IsAskable, IsReady, found, meant, meant_pair};
+ghost use Rattle.vx_compressor.specs.Judging.{Holds, IsAskable, IsReady, WasPutOff, found, meant, meant_pair};
 ghost use Rattle.vx_compressor.specs.Reach.{IsInReach};
 
 use crate::by_value::{ByValue, by_value, smaller};
@@ -133,6 +133,7 @@ impl<S: Scheme> CascadingCompressor<S> {
     ) -> VortexResult<Option<(S, Score)>>
         requires words { 0 < length words.now }
         requires ready { All (λ p. IsReady (column_of array.now) (options_of site.now) (S.meaning p.0)) deferred.now }
+        requires put_off { All (λ p. WasPutOff (column_of array.now) (site_of site.now) (S.meaning p.0) p.1) deferred.now }
         requires holds { Holds column.old (column_of array.now) (options_of site.now) }
         requires askable { IsAskable (column_of array.now) }
         requires reach { IsInReach (column_of array.now) (site_of site.now).budget }
@@ -167,6 +168,7 @@ impl<S: Scheme> CascadingCompressor<S> {
     ) -> VortexResult<Option<Score>>
         requires words { 0 < length words.now }
         requires ready { IsReady (column_of array.now) (options_of site.now) (S.meaning scheme.now) }
+        requires put_off { WasPutOff (column_of array.now) (site_of site.now) (S.meaning scheme.now) how }
         requires holds { Holds column.old (column_of array.now) (options_of site.now) }
         requires askable { IsAskable (column_of array.now) }
         requires reach { IsInReach (column_of array.now) (site_of site.now).budget }

@@ -5,8 +5,11 @@ use Rattle.vx_base.specs.PlainValue.{is_null}
 use Rattle.vx_model.specs.Column.{Column, IsColumn, column_of}
 use Rattle.vx_model.specs.Plain.{IsPlain}
 use Rattle.vx_model.specs.Rows.{rows}
+use Rattle.vx_model.specs.Site.{Site}
 use Rattle.vx_model.specs.Tree.{Tree}
-use Rattle.vx_scheme.specs.Meaning.{Meaning, PlainSplit, parts_of}
+use Rattle.vx_scheme.specs.Meaning.{Meaning, PlainSplit, kept, finished, parts, parts_of}
+use Rattle.vx_scheme.specs.declared.estimate.CompressionEstimate.TheVariants.{Deferred}
+use Rattle.vx_scheme.specs.declared.estimate.DeferredEstimate.TheVariants.{Callback}
 
 -- the most rows that a column of a site has: those of the greatest column, an offset more, and 1,024 for each level
 abbrev pub most_rows : ℕ
@@ -24,6 +27,16 @@ pub record IsAsked (m : Meaning) (c : Column) : Type 0 where
   pub taken : m.takes c.dtype ≡ true
   pub some : 0 < length c.values
   pub few : length c.values ≤ most_rows
+
+-- it put its verdict off until it is asked again
+abbrev pub HasPutOff : Meaning → Column → Site → Type 0
+HasPutOff m c site = m.estimate c site ≡ Deferred Callback
+
+-- the column became parts
+abbrev pub HasParts : PlainSplit → Type 0
+HasParts kept = ⊥
+HasParts (finished tree) = ⊥
+HasParts (parts columns) = Unit {0}
 
 -- one tree for each part, of that part's type and rows
 abbrev pub FitParts : PlainSplit → List Tree → Type 0

@@ -26,6 +26,11 @@ pub record SameArray (old new : Bundle) : Type 0 where
   pub array : new.array ≡ old.array
   pub options : new.options ≡ old.options
 
+-- what was kept stays kept
+pub record StaysKept (old new : Bundle) : Type 0 where
+  pub summary : old.summary_kept ≡ true → new.summary_kept ≡ true
+  pub integers : old.integers_kept ≡ true → new.integers_kept ≡ true
+
 -- What is kept is answered surely; where nothing is, a refusal or want of memory may come.
 abbrev pub KeptOrDecided : {A : Type 0} → Bool → Option VortexError → (A → Type 0) → Result A VortexError → Type 0
 KeptOrDecided true refusal P result = SurelyDecided None P result

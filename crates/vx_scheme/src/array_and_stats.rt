@@ -7,7 +7,7 @@ ghost use Rattle.vx_base.specs.PlainType.{is_integer, integer_of};
 ghost use Rattle.vx_model.specs.Plain.{IsPlain};
 ghost use Rattle.vx_model.specs.Rows.{rows};
 ghost use Rattle.vx_model.specs.TreeType.{tree_type};
-ghost use Rattle.vx_scheme.specs.Bundle.{KeptOrDecided, SameArray};
+ghost use Rattle.vx_scheme.specs.Bundle.{KeptOrDecided, SameArray, StaysKept};
 ghost use Rattle.vx_stats.specs.Options.{no_options};
 ghost use Rattle.vx_stats.specs.Stats.{stats_of, stats_refusal, value_count, distinct_count};
 
@@ -113,6 +113,7 @@ impl ArrayAndStats {
         requires { IsTrue (is_integer (tree_type self.old.array)) }
         ensures answer { Decided (stats_refusal (rows self.old.array)) (λ stats. stats ≡ stats_of self.old.options (integer_of (tree_type self.old.array)) (rows self.old.array)) result }
         ensures same { SameArray self.old self.new }
+        ensures stays { StaysKept self.old self.new }
         ensures integers { self.new.integers_kept ≡ self.old.integers_kept }
     {
         self.integer_summary()?;
@@ -144,6 +145,7 @@ impl ArrayAndStats {
         requires { IsTrue (is_integer (tree_type self.old.array)) }
         ensures answer { Decided (stats_refusal (rows self.old.array)) (λ shown. shown ≡ true → value_count (rows self.old.array) / 2 < distinct_count (rows self.old.array)) result }
         ensures same { SameArray self.old self.new }
+        ensures stays { StaysKept self.old self.new }
         ensures integers { self.new.integers_kept ≡ self.old.integers_kept }
     {
         self.integer_summary()?;
@@ -161,6 +163,7 @@ impl ArrayAndStats {
         requires asked { self.old.options.count_distinct_values ≡ true }
         ensures answer { KeptOrDecided self.old.integers_kept (stats_refusal (rows self.old.array)) (λ many. many ≡ nat_lt (value_count (rows self.old.array) / 2) (distinct_count (rows self.old.array))) result }
         ensures same { SameArray self.old self.new }
+        ensures stays { StaysKept self.old self.new }
         ensures ctx { ctx.new ≡ ctx.old }
     {
         if self.integers.is_none() && self.shows_mostly_distinct(ctx.alloc())? {

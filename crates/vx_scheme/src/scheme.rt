@@ -8,7 +8,7 @@ ghost use Rattle.vx_base.specs.declared.array_id.ArrayId.{ArrayId};
 ghost use Rattle.vx_model.specs.Column.{column_of};
 ghost use Rattle.vx_model.specs.TreeType.{tree_type};
 ghost use Rattle.vx_scheme.specs.Allowed.{is_allowed};
-ghost use Rattle.vx_scheme.specs.Asked.{IsSiteTree, FitParts, HasValue};
+ghost use Rattle.vx_scheme.specs.Asked.{IsSiteTree, HasPutOff, HasParts, FitParts, HasValue};
 ghost use Rattle.vx_scheme.specs.Bundle.{SameArray};
 ghost use Rattle.vx_scheme.specs.Contexts.{site_of};
 ghost use Rattle.vx_scheme.specs.Lawful.{Lawful};
@@ -105,8 +105,9 @@ pub trait Scheme: Copy {
         ensures column { SameArray column.old column.new }
         ensures ctx { ctx.new ≡ ctx.old };
 
-    /// The verdict that `Deferred(Callback)` put off. Where there is a threshold, a ratio that isn't above it can't win,
-    /// and Skip may stand in its place, so a scheme may stop as soon as it knows that. The column is as for the estimate.
+    /// The verdict that `Deferred(Callback)` put off; after any other estimate nothing is promised. Where there is a
+    /// threshold, a ratio that isn't above it can't win, and Skip may stand in its place, so a scheme may stop as soon as
+    /// it knows that. The column is as for the estimate.
     fn resolve_estimate(
         &self,
         column: &mut ArrayAndStats,
@@ -117,7 +118,7 @@ pub trait Scheme: Copy {
         requires column { IsSiteTree column.old.array }
         requires value { HasValue (column_of column.old.array) }
         requires options { includes column.old.options (meaning self.now).options ≡ true }
-        ensures answer { (meaning self.now).takes (tree_type column.old.array) ≡ true → OrMemory result (IsResolved threshold ((meaning self.now).resolve (column_of column.old.array) (site_of site.now))) }
+        ensures answer { (meaning self.now).takes (tree_type column.old.array) ≡ true → HasPutOff (meaning self.now) (column_of column.old.array) (site_of site.now) → OrMemory result (IsResolved threshold ((meaning self.now).resolve (column_of column.old.array) (site_of site.now))) }
         ensures column { SameArray column.old column.new }
         ensures ctx { ctx.new ≡ ctx.old };
 
@@ -138,7 +139,7 @@ pub trait Scheme: Copy {
         ensures step { steps.new ≡ steps.old + 1 };
 
     /// The tree of the column, from one tree for each part that `split` made of it at this site, of that part's type and
-    /// rows. The trees are given up where memory runs out.
+    /// rows. Where `split` makes no parts, nothing is promised. The trees are given up where memory runs out.
     fn join(
         &self,
         column: &mut ArrayAndStats,
@@ -149,7 +150,7 @@ pub trait Scheme: Copy {
         requires column { IsSiteTree column.old.array }
         requires options { includes column.old.options (meaning self.now).options ≡ true }
         requires trees { FitParts ((meaning self.now).splits (column_of column.old.array) (site_of site.now)) trees }
-        ensures answer { (meaning self.now).takes (tree_type column.old.array) ≡ true → Answers result ((meaning self.now).joined (column_of column.old.array) (site_of site.now) trees) }
+        ensures answer { (meaning self.now).takes (tree_type column.old.array) ≡ true → HasParts ((meaning self.now).splits (column_of column.old.array) (site_of site.now)) → Answers result ((meaning self.now).joined (column_of column.old.array) (site_of site.now) trees) }
         ensures column { SameArray column.old column.new }
         ensures ctx { ctx.new ≡ ctx.old };
 

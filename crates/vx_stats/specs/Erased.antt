@@ -7,15 +7,16 @@ use Rattle.vx_stats.specs.Stats.{Extremes, PlainTyped}
 use Rattle.vx_stats.specs.declared.integer.erased.ErasedStats.{ErasedStats}
 use Rattle.vx_stats.specs.declared.integer.erased.ErasedStats.TheVariants.{U8, U16, U32, U64, I8, I16, I32, I64}
 
-abbrev pub kind_of : ErasedStats → PType
-kind_of (U8 e) = kinds.U8
-kind_of (U16 e) = kinds.U16
-kind_of (U32 e) = kinds.U32
-kind_of (U64 e) = kinds.U64
-kind_of (I8 e) = kinds.I8
-kind_of (I16 e) = kinds.I16
-kind_of (I32 e) = kinds.I32
-kind_of (I64 e) = kinds.I64
+-- the type of the integers
+abbrev pub ptype_in : ErasedStats → PType
+ptype_in (U8 e) = kinds.U8
+ptype_in (U16 e) = kinds.U16
+ptype_in (U32 e) = kinds.U32
+ptype_in (U64 e) = kinds.U64
+ptype_in (I8 e) = kinds.I8
+ptype_in (I16 e) = kinds.I16
+ptype_in (I32 e) = kinds.I32
+ptype_in (I64 e) = kinds.I64
 
 abbrev pub typed_of : ErasedStats → PlainTyped
 typed_of (U8 e) = e

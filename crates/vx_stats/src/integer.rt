@@ -37,19 +37,19 @@ impl Model for IntegerStats {
 
     ghost Value = { PlainStats };
 
-    ghost use Rattle.vx_stats.specs.Erased.{kind_of, extremes_of, distinct_of};
+    ghost use Rattle.vx_stats.specs.Erased.{ptype_in, extremes_of, distinct_of};
 
-    ghost view = { λ a. record { ptype = kind_of a.erased; null_count = a.counts.null_count; value_count = a.counts.value_count; average_run_length = a.counts.average_run_length; extremes = extremes_of a.erased; distinct = distinct_of a.erased } };
+    ghost view = { λ a. record { ptype = ptype_in a.erased; null_count = a.counts.null_count; value_count = a.counts.value_count; average_run_length = a.counts.average_run_length; extremes = extremes_of a.erased; distinct = distinct_of a.erased } };
 
     ghost invariant = { λ a. 0 < a.counts.value_count → (extremes_of a.erased).least ≤ℤ (extremes_of a.erased).greatest };
 }
 
 impl IntegerStats {
-    ghost use Rattle.vx_stats.specs.Erased.{kind_of, extremes_of, distinct_of};
+    ghost use Rattle.vx_stats.specs.Erased.{ptype_in, extremes_of, distinct_of};
 
     fn new(counts: RowCounts, erased: ErasedStats) -> Self
         requires { 0 < counts.value_count → (extremes_of erased).least ≤ℤ (extremes_of erased).greatest }
-        ensures { result ≡ record { ptype = kind_of erased; null_count = counts.null_count; value_count = counts.value_count; average_run_length = counts.average_run_length; extremes = extremes_of erased; distinct = distinct_of erased } }
+        ensures { result ≡ record { ptype = ptype_in erased; null_count = counts.null_count; value_count = counts.value_count; average_run_length = counts.average_run_length; extremes = extremes_of erased; distinct = distinct_of erased } }
     {
         IntegerStats { counts, erased }
     }
@@ -92,7 +92,7 @@ impl IntegerStats {
 
     /// The least and the greatest value, and the distinct ones.
     pub fn erased(&self) -> &ErasedStats
-        ensures ptype { kind_of result.now ≡ self.now.ptype }
+        ensures ptype { ptype_in result.now ≡ self.now.ptype }
         ensures extremes { extremes_of result.now ≡ self.now.extremes }
         ensures distinct { distinct_of result.now ≡ self.now.distinct }
         ensures ordered { 0 < self.now.value_count → self.now.extremes.least ≤ℤ self.now.extremes.greatest }

@@ -10,7 +10,6 @@ use std::alloc::Global;
 use vx_base::{IntList, Integer, PType, VortexResult};
 
 /// A list for each integer type.
-#[derive(Drop)]
 pub enum Ints {
     U8(IntList<u8>),
     U16(IntList<u16>),
@@ -66,6 +65,13 @@ mod zig_zag;
 pub use bit_packing::{known_bytes, packed_size};
 pub use dictionary::valid_codes;
 pub use frame_of_reference::summed_in;
+
+// Written out, so that letting go of a list is one call wherever one ends.
+impl Drop for Ints {
+    fn drop(self) {
+        with_ints!(self, _items => ())
+    }
+}
 
 impl Ints {
     /// The type of the integers.

@@ -7,7 +7,7 @@ ghost use Rattle.vx_base.specs.PlainValue.{int};
 ghost use Rattle.vx_model.specs.Refusals.{validity_length};
 ghost use Rattle.vx_model.specs.Rows.{valid_rows};
 ghost use Rattle.vx_stats.specs.Counts.{counts_of};
-ghost use Rattle.vx_stats.specs.Erased.{kind_of, typed_of, extremes_of};
+ghost use Rattle.vx_stats.specs.Erased.{ptype_in, typed_of, extremes_of};
 ghost use Rattle.vx_stats.specs.Stats.{distinct_count, extremes_in, extremes_alone};
 ghost use Rattle.vx_stats.specs.Stats as stats;
 
@@ -35,7 +35,7 @@ pub(crate) fn summary_of(values: &Ints, valid: &Option<Mask>) -> (RowCounts, Era
     requires mask { validity_length valid.now (length (wholes_of values.now)) ≡ true }
     requires few { length (wholes_of values.now) < 2 ^ 32 }
     ensures counts { result.0 ≡ counts_of (valid_rows valid.now (map int (wholes_of values.now))) }
-    ensures kind { kind_of result.1 ≡ ptype_of values.now }
+    ensures kind { ptype_in result.1 ≡ ptype_of values.now }
     ensures extremes { typed_of result.1 ≡ extremes_alone (extremes_in (ptype_of values.now) (valid_rows valid.now (map int (wholes_of values.now)))) }
     ensures ordered { 0 < result.0.value_count → (extremes_of result.1).least ≤ℤ (extremes_of result.1).greatest }
 {
@@ -66,9 +66,9 @@ pub(crate) fn completed(
 ) -> VortexResult<ErasedStats>
     requires mask { validity_length valid.now (length (wholes_of values.now)) ≡ true }
     requires few { length (wholes_of values.now) < 2 ^ 32 }
-    requires kind { kind_of erased.now ≡ ptype_of values.now }
+    requires kind { ptype_in erased.now ≡ ptype_of values.now }
     requires extremes { typed_of erased.now ≡ extremes_alone (extremes_in (ptype_of values.now) (valid_rows valid.now (map int (wholes_of values.now)))) }
-    ensures kind { OrMemory result (λ erased. kind_of erased ≡ ptype_of values.now) }
+    ensures kind { OrMemory result (λ erased. ptype_in erased ≡ ptype_of values.now) }
     ensures typed { OrMemory result (λ erased. typed_of erased ≡ stats.typed_of opts (ptype_of values.now) (valid_rows valid.now (map int (wholes_of values.now)))) }
 {
     completed_by_type!(alloc, erased, values, valid, opts; U8, U16, U32, U64, I8, I16, I32, I64)

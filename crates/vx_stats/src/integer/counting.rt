@@ -32,7 +32,7 @@ fn sorted<T: Integer>(mut counts: Vec<(T, u32)>) -> Vec<(T, u32)>
 // The counts of equal integers one after another in one.
 fn merged<T: Integer>(alloc: Global, counts: &[(T, u32)]) -> VortexResult<Counts<T>>
     requires { (z : ℤ) → total T.whole counts.now z < 2 ^ 32 }
-    ensures { OrMemory result (λ merged. whole_counts T.whole merged ≡ merged (whole_counts T.whole counts.now)) }
+    ensures { OrMemory result (λ made. whole_counts T.whole made ≡ merged (whole_counts T.whole counts.now)) }
 {
     let mut merged = Vec::new(alloc);
     if counts.is_empty() {

@@ -9,7 +9,7 @@ use crate::integer::typed::TypedStats;
 use crate::integer::value::PValue;
 
 /// The least and the greatest of the valid integers of a type, and the distinct ones where they were asked for.
-#[derive(Debug, Drop)]
+#[derive(Debug)]
 pub enum ErasedStats {
     U8(TypedStats<u8>),
     U16(TypedStats<u16>),
@@ -37,8 +37,15 @@ macro_rules! with_typed {
     };
 }
 
+// Likewise, in place of eight variants at each way out.
+impl Drop for ErasedStats {
+    fn drop(self) {
+        with_typed!(self, typed => drop(typed))
+    }
+}
+
 impl ErasedStats {
-    ghost use Rattle.vx_stats.specs.Erased.{kind_of, extremes_of, distinct_of, log2_of};
+    ghost use Rattle.vx_stats.specs.Erased.{ptype_in, extremes_of, distinct_of, log2_of};
 
     /// The least integer; without a valid one the type's greatest.
     pub fn least(&self) -> i128
@@ -69,7 +76,7 @@ impl ErasedStats {
 
     /// The place of the highest set bit of the greatest, read as unsigned bits. None where no bit is set.
     pub fn max_ilog2(&self) -> Option<u32>
-        ensures { result ≡ log2_of (bits_in (kind_of self.now) (extremes_of self.now).greatest) }
+        ensures { result ≡ log2_of (bits_in (ptype_in self.now) (extremes_of self.now).greatest) }
     {
         let bits = with_typed!(self, typed => typed.greatest_bits());
         if bits == 0 {
@@ -89,7 +96,7 @@ impl ErasedStats {
     /// The least of the most frequent values with its count, where distinct values are told. Without a value it is 0,
     /// which occurs 0 times.
     pub fn most_frequent_value_and_count(&self) -> Option<(PValue, u32)>
-        ensures { result ≡ frequent_value (kind_of self.now) (distinct_of self.now) }
+        ensures { result ≡ frequent_value (ptype_in self.now) (distinct_of self.now) }
     {
         with_typed!(self, typed => typed.most_frequent())
     }

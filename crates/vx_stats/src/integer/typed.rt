@@ -14,7 +14,7 @@ use vx_base::Integer;
 
 /// The least and the greatest of the valid integers, and the distinct ones where they were asked for. Without a valid
 /// integer the least is the type's greatest, and the greatest its least.
-#[derive(Debug, Drop)]
+#[derive(Debug)]
 pub struct TypedStats<T: Integer> {
     min: T,
     max: T,
@@ -27,6 +27,17 @@ impl<T: Integer> Model for TypedStats<T> {
     ghost Value = { PlainTyped };
 
     ghost view = { λ a. record { extremes = record { least = T.whole a.min; greatest = T.whole a.max }; distinct = a.distinct } };
+}
+
+// Letting go of them is one call. Derived, it would be written out at each way out of each function that owns some.
+impl<T: Integer> Drop for TypedStats<T> {
+    fn drop(self) {
+        let TypedStats {
+            min: _,
+            max: _,
+            distinct: _,
+        } = self;
+    }
 }
 
 // The value of a whole number of the type.

@@ -1,4 +1,6 @@
+use Rattle.std.proofs.Common.{sym, subst}
 use Rattle.vx_model.specs.Column.{column_of}
+use Rattle.vx_scheme.specs.Asked.{HasPutOff}
 use Rattle.vx_scheme.specs.Contexts.{site_of, options_of}
 use Rattle.vx_compressor.proofs.HeldLemmas.{site_tree-held, value-held, taken-held, column-held, answers_to}
 use Rattle.vx_compressor.proofs.judging.resolve.Goals as goal
@@ -15,4 +17,6 @@ returns-clause-answer g c =
     let here = column_of c.args.array.now in
     let opts = options_of c.args.site.now in
     let taken = taken-held c.args.column.now here opts c.requires.holds m c.requires.ready in
-    answers_to c.resolve_estimate.result (λ col. m.resolve col (site_of c.args.site.now)) _ _ (column-held c.args.column.now here opts c.requires.holds) (c.resolve_estimate.ensures.answer taken)
+    let same = column-held c.args.column.now here opts c.requires.holds in
+    let put_off = subst (λ col. HasPutOff m col (site_of c.args.site.now)) (sym same) c.requires.put_off in
+    answers_to c.resolve_estimate.result (λ col. m.resolve col (site_of c.args.site.now)) _ _ same (c.resolve_estimate.ensures.answer taken put_off)

@@ -1,6 +1,6 @@
 use Rattle.std.proofs.Common.{◌≡◌, ◌∙◌, ◌+◌, false, pos, sym, ap}
 use Rattle.std.specs.Prelude.{int_lt}
-use Rattle.vx_stats.specs.Erased.{kind_of, extremes_of}
+use Rattle.vx_stats.specs.Erased.{ptype_in, extremes_of}
 use Rattle.vx_examples.proofs.QuickLemmas.{quick-some, quick-none}
 use Rattle.vx_examples.proofs.quick_packing.verdict.Goals as goal
 
@@ -11,7 +11,7 @@ returns-in-Some c =
     let same = c.erased-erased.ensures.extremes in
     let ordered = c.erased-erased.ensures.ordered c.requires in
     let not_negative : int_lt e.least (pos 0) ≡ false = sym c.min_is_negative.ensures ∙ c.if-min_is_negative.false in
-    quick-some (kind_of erased) c.args.bits e c.args.stats.now.extremes c.in-Some.log c.new.result same ordered not_negative c.in-Some.ensures (c.new.ensures.num ∙ c.from.ensures)
+    quick-some (ptype_in erased) c.args.bits e c.args.stats.now.extremes c.in-Some.log c.new.result same ordered not_negative c.in-Some.ensures (c.new.ensures.num ∙ c.from.ensures)
     (c.new.ensures.den ∙ ap (λ n. n + 1) c.from-in-Some.ensures)
 
 pub returns-in-None : goal.returns-in-None
@@ -21,4 +21,4 @@ returns-in-None c =
     let same = c.erased-erased.ensures.extremes in
     let ordered = c.erased-erased.ensures.ordered c.requires in
     let not_negative : int_lt e.least (pos 0) ≡ false = sym c.min_is_negative.ensures ∙ c.if-min_is_negative.false in
-    quick-none (kind_of erased) c.args.bits e c.args.stats.now.extremes same ordered not_negative c.in-None.ensures
+    quick-none (ptype_in erased) c.args.bits e c.args.stats.now.extremes same ordered not_negative c.in-None.ensures

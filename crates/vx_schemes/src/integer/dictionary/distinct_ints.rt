@@ -3,7 +3,7 @@
 ghost use Rattle.std.specs.Prelude.{◌≡◌, ◌<◌, ◌^◌, IfSome, length, map};
 ghost use Rattle.vx_values.specs.IntsOf.{ptype_of, wholes_of};
 ghost use Rattle.vx_base.specs.Answers.{OrMemory};
-ghost use Rattle.vx_stats.specs.Erased.{kind_of, distinct_of};
+ghost use Rattle.vx_stats.specs.Erased.{ptype_in, distinct_of};
 ghost use Rattle.vx_stats.specs.Runs.{whole_counts};
 
 use std::alloc::Global;
@@ -43,7 +43,7 @@ macro_rules! distinct_by_type {
 
 // The same of statistics of any type.
 fn erased_ints(alloc: Global, stats: &ErasedStats) -> VortexResult<Ints>
-    ensures ptype { OrMemory result (λ ints. ptype_of ints ≡ kind_of stats.now) }
+    ensures ptype { OrMemory result (λ ints. ptype_of ints ≡ ptype_in stats.now) }
     ensures values { OrMemory result (λ ints. IfSome (distinct_of stats.now) (λ counts. wholes_of ints ≡ map (λ c. c.0) counts)) }
 {
     distinct_by_type!(alloc, stats; U8, U16, U32, U64, I8, I16, I32, I64)

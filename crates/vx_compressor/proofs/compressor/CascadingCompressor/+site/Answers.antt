@@ -15,11 +15,11 @@ use Rattle.vx_scheme.specs.Names.{name_of}
 use Rattle.vx_scheme.specs.declared.estimate.DeferredEstimate.TheVariants.{Sample}
 use Rattle.vx_scheme.specs.declared.split.Split.TheVariants.{Kept, Finished, Parts}
 use Rattle.vx_compressor.specs.Cascade.{setting, part_trees, eligible, trial, deferred_score, choice, chosen, children_of, leaf_tree}
-use Rattle.vx_compressor.specs.Judging.{IsAskable, IsReady, meant_pair}
+use Rattle.vx_compressor.specs.Judging.{IsAskable, IsReady, WasPutOff, meant_pair}
 use Rattle.vx_compressor.specs.Reach.{IsInReach, IsPartInReach}
 use Rattle.vx_compressor.specs.Sampling.{sample}
 use Rattle.vx_compressor.proofs.ByValueLemmas.{decided-here, open-here}
-use Rattle.vx_compressor.proofs.EligibleLemmas.{merged_ready, choice_ready, chosen-some, put_off_ready}
+use Rattle.vx_compressor.proofs.EligibleLemmas.{merged_ready, choice_ready, chosen-some, put_off_ready, were_put_off}
 use Rattle.vx_compressor.proofs.HeldLemmas.{column_of-is, plain-is, column-held, site_tree-held, ready-held, answers_to}
 use Rattle.vx_compressor.proofs.JudgingLemmas.{best_found-step, best_found-always, choice_later, choice_at_once}
 use Rattle.vx_compressor.proofs.LimitLemmas.{few_in_reach}
@@ -73,7 +73,7 @@ best_tree-choose-requires g t c =
     let ready : All (λ s. IsReady here opts (meaning s)) c.as_slice-2.result.now =
     merged_ready meaning (map meaning c.args.self.now) here (site_of c.args.site.now).history (type_of c.dtype.result.now) c.merged_options-options.result opts
     c.in_ok-schemes.schemes c.as_slice.result.now c.as_slice-2.result.now
-    c.in_ok-schemes.ensures typed c.as_slice.ensures c.as_slice-2.ensures c.with_merged_stats_options-site.ensures.options c.merged_options-options.ensures in
+    c.in_ok-schemes.ensures typed c.as_slice.ensures c.as_slice-2.ensures c.with_merged_stats_options-site.ensures.options c.merged_options-options.ensures.all in
     search rules
 
 pub best_tree-trial-requires : goal.best_tree-trial-requires
@@ -89,7 +89,7 @@ best_tree-trial-requires g t c =
     let typed = c.dtype.ensures ∙ ap (λ col. col.dtype) (column_of-is c.args.canonical here c.requires.canonical) in
     let all = merged_ready meaning (map meaning c.args.self.now) here site.history (type_of c.dtype.result.now) c.merged_options-options.result opts
     c.in_ok-schemes.schemes c.as_slice.result.now c.in_ok-schemes.schemes
-    c.in_ok-schemes.ensures typed c.as_slice.ensures refl c.with_merged_stats_options-site.ensures.options c.merged_options-options.ensures in
+    c.in_ok-schemes.ensures typed c.as_slice.ensures refl c.with_merged_stats_options-site.ensures.options c.merged_options-options.ensures.all in
     let eligible_here = c.in_ok-schemes.ensures ∙ ap (λ t. eligible (map meaning c.args.self.now) t site.history) typed in
     let is : Some (meaning c.in-Some.scheme) ≡ choice child set here site =
     sym (ap (option_map meaning) c.in-Some.is) ∙ c.in_ok-best.ensures.answer ∙ ap (λ s. choice (children_of set s) set here s) c.with_merged_stats_options-site.ensures.site in
@@ -133,6 +133,7 @@ choose-judge-requires g t c =
     let opts = options_of c.args.site.now in
     let put_off = ap (map (meant_pair meaning)) c.as_slice-deferred.ensures.value ∙ c.in_ok-all.ensures.deferred (sym c.is_always.ensures ∙ c.if-is_always.false) in
     let ready : All (λ p. IsReady here opts (meaning p.0)) c.as_slice-deferred.result.now = put_off_ready meaning here (site_of c.args.site.now) opts c.args.schemes.now c.as_slice-deferred.result.now c.requires.ready put_off in
+    let so : All (λ p. WasPutOff here (site_of c.args.site.now) (meaning p.0) p.1) c.as_slice-deferred.result.now = were_put_off meaning here (site_of c.args.site.now) c.args.schemes.now c.as_slice-deferred.result.now put_off in
     search rules
 
 pub choose-returns-clause-answer : goal.choose-returns-clause-answer
@@ -285,7 +286,7 @@ trial-returns-in_ok-trees-in-Parts-clause-answer g t c =
     c.in-Parts.parts made in
     let child = children_of (setting meaning c.args.self.now c.args.words.now) site in
     let are = c.in_ok-trees-in-Parts.ensures.answer ∙ (λ i. part_trees child (c.id.ensures i) site 0 (map column_of (c.as_slice-parts.ensures i))) in
-    joined_answer (meaning c.args.scheme.now) c.join.result c.args.column.now.array c.split.new.column.array _ site c.in_ok-trees-in-Parts.trees c.split.ensures.column.array (parts.joined c.in_ok-trees-in-Parts.trees are) c.requires.ready.taken c.join.ensures.answer
+    joined_answer (meaning c.args.scheme.now) c.join.result c.args.column.now.array c.split.new.column.array _ site c.in_ok-trees-in-Parts.trees c.split.ensures.column.array (parts.joined c.in_ok-trees-in-Parts.trees are) c.requires.ready.taken parts.split c.join.ensures.answer
 
 -- ---- part_trees
 

@@ -1,13 +1,37 @@
-use Rattle.std.proofs.Common.{map, ap, ◌∙◌}
-use Rattle.std.proofs.lemmas.List.Sorted.{IsPermutation-map}
-use Rattle.vx_stats.specs.Runs.{runs}
-use Rattle.vx_stats.proofs.DistinctLemmas.{counted-rising, counted-permutation}
+use Rattle.std.proofs.Common.{◌∙◌, ◌<◌, ◌^◌, map, sym, ap, subst, arith}
+use Rattle.vx_base.specs.PlainValue.{int}
+use Rattle.vx_model.specs.Rows.{valid_rows}
+use Rattle.vx_stats.specs.Runs.{whole_counts}
+use Rattle.vx_stats.specs.Seen.{total, merged}
+use Rattle.vx_stats.specs.Stats.{valid_wholes}
+use Rattle.vx_stats.proofs.SeenLemmas.{made, made-few, made-short, valid-few}
 use Rattle.vx_stats.proofs.integer.counting.counted.Goals as goal
+
+pub merged-requires : goal.merged-requires
+merged-requires g c =
+    let whole = g.T.Integer.whole in
+    let zs = valid_wholes (valid_rows c.args.valid.now (map int (map whole c.args.items.now))) in
+    let before = c.in_ok-counts.counts.items in
+    let after = c.sorted-counts.result.items in
+    λ z.
+    let few = made-few whole before after zs z c.sorted-counts.ensures.same (λ z. c.in_ok-counts.ensures.totals z ∙ c.in_ok-seen_of.ensures.totals z) in
+    subst (λ l. total whole l z < 2 ^ 32) (sym c.as_slice.ensures.value) (omega (arith, few, valid-few whole c.args.items.now c.args.valid.now c.requires.mask, c.requires.few))
+
+pub new-requires : goal.new-requires
+new-requires g c =
+    let whole = g.T.Integer.whole in
+    let zs = valid_wholes (valid_rows c.args.valid.now (map int (map whole c.args.items.now))) in
+    let before = c.in_ok-counts.counts.items in
+    let after = c.sorted-counts.result.items in
+    let all = made whole before after zs c.sorted-counts.ensures.same c.sorted-counts.ensures.rising (c.in_ok-counts.ensures.some ∙ c.in_ok-seen_of.ensures.some) (λ z. c.in_ok-counts.ensures.totals z ∙ c.in_ok-seen_of.ensures.totals z) in
+    let short = made-short whole c.in_ok-merged.field-0 zs (c.in_ok-merged.ensures ∙ ap (λ l. merged (whole_counts whole l)) c.as_slice.ensures.value ∙ all) in
+    omega (arith, short, valid-few whole c.args.items.now c.args.valid.now c.requires.mask, c.requires.few)
 
 pub returns : goal.returns
 returns g c =
     let whole = g.T.Integer.whole in
-    let before = c.args.items.items in
-    let after = c.sorted-sorted.result.items in
-    c.new.ensures ∙ c.in_ok-run_lengths.ensures.runs ∙ ap (λ l. runs (map whole l)) c.as_slice.ensures.value ∙ counted-rising (map whole after) c.sorted-sorted.ensures.rising
-    ∙ counted-permutation (map whole before) (map whole after) (IsPermutation-map whole before after c.sorted-sorted.ensures.same)
+    let zs = valid_wholes (valid_rows c.args.valid.now (map int (map whole c.args.items.now))) in
+    let before = c.in_ok-counts.counts.items in
+    let after = c.sorted-counts.result.items in
+    let all = made whole before after zs c.sorted-counts.ensures.same c.sorted-counts.ensures.rising (c.in_ok-counts.ensures.some ∙ c.in_ok-seen_of.ensures.some) (λ z. c.in_ok-counts.ensures.totals z ∙ c.in_ok-seen_of.ensures.totals z) in
+    c.new.ensures ∙ c.in_ok-merged.ensures ∙ ap (λ l. merged (whole_counts whole l)) c.as_slice.ensures.value ∙ all

@@ -1,13 +1,16 @@
-use Rattle.std.proofs.Common.{sym, ap, ◌∙◌, Some}
-use Rattle.vx_stats.specs.Distinct.{counted}
+use Rattle.std.proofs.Common.{◌≡◌, Bool, true, false, sym, ap, refl, ◌∙◌, Some}
+use Rattle.std.specs.Prelude.{not}
 use Rattle.vx_stats.proofs.StatsLemmas.{counts-told}
 use Rattle.vx_stats.proofs.integer.counting.distinct_info.Goals as goal
 
+asked : (b : Bool) → not b ≡ false → b ≡ true
+asked true h = refl
+asked false h = absurd cc
+
 pub returns-in-Some : goal.returns-in-Some
 returns-in-Some g c =
-    ap Some c.in_ok-info.ensures ∙ sym (counts-told g.T.Integer.whole c.args.items.now c.args.valid.now c.args.opts c.requires.mask (sym c.if-is_empty.ensures) c.if-not-opts.false)
+    ap Some c.in_ok-info.ensures ∙ sym (counts-told g.T.Integer.whole c.args.items.now c.args.valid.now c.args.opts c.requires.mask (sym c.if-is_empty.ensures) (asked c.args.opts.count_distinct_values c.if-not-opts.false))
 
 pub returns : goal.returns
 returns g c =
-    ap Some (c.in_ok-info-2.ensures ∙ ap counted c.in_ok-valid_items.ensures.kept)
-    ∙ sym (counts-told g.T.Integer.whole c.args.items.now c.args.valid.now c.args.opts c.requires.mask (sym c.if-is_empty.ensures) c.if-not-opts.false)
+    ap Some c.in_ok-info-2.ensures ∙ sym (counts-told g.T.Integer.whole c.args.items.now c.args.valid.now c.args.opts c.requires.mask (sym c.if-is_empty.ensures) (asked c.args.opts.count_distinct_values c.if-not-opts.false))

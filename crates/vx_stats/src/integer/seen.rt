@@ -1,0 +1,139 @@
+//! How often integers were seen: each counts in the slot that its bits give it, and leaves that to another one.
+
+ghost use Rattle.std.specs.Prelude.{◌≡◌, ◌<◌, ◌+◌, ◌-◌, ◌^◌, ℤ, [], length, map, true};
+ghost use Rattle.std.specs.Ordering.{int_eq};
+ghost use Rattle.vx_base.specs.Answers.{OrMemory};
+ghost use Rattle.vx_base.specs.PlainValue.{int};
+ghost use Rattle.vx_model.specs.Refusals.{validity_length};
+ghost use Rattle.vx_model.specs.Rows.{masked_rows, valid_rows};
+ghost use Rattle.vx_stats.specs.Seen.{share, total, empties, times_seen, AreSeen};
+ghost use Rattle.vx_stats.specs.Stats.{valid_wholes};
+
+use crate::integer::slots::slot_of;
+use std::alloc::Global;
+use vx_base::{Integer, Mask, VortexResult};
+
+// There are at most 2 to this number of slots, which the processor keeps near.
+const MOST_SLOT_BITS: u32 = 14;
+
+/// Integers with counts: the one in each slot, 0 times where the slot is free, and those that left theirs.
+#[derive(Drop)]
+pub(crate) struct Seen<T: Integer> {
+    pub(crate) slots: Vec<(T, u32)>,
+    pub(crate) gone: Vec<(T, u32)>,
+    pub(crate) shift: u32,
+}
+
+#[inline(always)]
+pub(crate) fn is_same<T: Integer>(a: T, b: T) -> bool
+    ensures { result ≡ int_eq (T.whole a) (T.whole b) }
+{
+    a == b
+}
+
+// Adds a count last, unless it is 0.
+#[inline(always)]
+fn push_some<T: Integer>(counts: &mut Vec<(T, u32)>, count: (T, u32)) -> VortexResult<()>
+    ensures totals { OrMemory result (λ _. (z : ℤ) → total T.whole counts.new.items z ≡ total T.whole counts.old.items z + share z (T.whole count.0, count.1)) }
+    ensures some { OrMemory result (λ _. empties counts.new.items ≡ empties counts.old.items) }
+{
+    if count.1 > 0 {
+        counts.push(count)?;
+    }
+    Ok(())
+}
+
+impl<T: Integer> Seen<T> {
+    // None seen, with slots for so many integers.
+    fn none(alloc: Global, items: u32) -> VortexResult<Self>
+        ensures { OrMemory result (λ seen. AreSeen T.whole [] seen) }
+    {
+        let bits = (32 - items.leading_zeros()).min(MOST_SLOT_BITS);
+        let slots = vec![in alloc; (T::zero(), 0u32); 1usize << bits]?;
+        Ok(Seen {
+            slots,
+            gone: Vec::new(alloc),
+            shift: 64 - bits,
+        })
+    }
+
+    // One more is seen.
+    #[inline(always)]
+    fn see(&mut self, item: T) -> VortexResult<()>
+        requires { times_seen T.whole self.old (T.whole item) < 2 ^ 32 - 1 }
+        ensures totals { OrMemory result (λ _. (z : ℤ) → times_seen T.whole self.new z ≡ times_seen T.whole self.old z + share z (T.whole item, 1)) }
+        ensures some { OrMemory result (λ _. empties self.new.gone.items ≡ empties self.old.gone.items) }
+    {
+        let slot = slot_of(item, self.shift);
+        if slot >= self.slots.len() {
+            return push_some(&mut self.gone, (item, 1));
+        }
+        let there = self.slots[slot];
+        if is_same(there.0, item) {
+            self.slots[slot] = (there.0, there.1 + 1);
+        } else {
+            push_some(&mut self.gone, there)?;
+            self.slots[slot] = (item, 1);
+        }
+        Ok(())
+    }
+
+    /// Those in slots after those that left theirs.
+    pub(crate) fn into_counts(self) -> VortexResult<Vec<(T, u32)>>
+        ensures totals { OrMemory result (λ counts. (z : ℤ) → total T.whole counts.items z ≡ times_seen T.whole self z) }
+        ensures some { OrMemory result (λ counts. empties counts.items ≡ empties self.gone.items) }
+    {
+        let Seen {
+            slots,
+            gone: mut counts,
+            shift: _,
+        } = self;
+        for place in 0..slots.len() {
+            push_some(&mut counts, slots[place])?;
+        }
+        Ok(counts)
+    }
+}
+
+fn seen_of_all<T: Integer>(alloc: Global, items: &[T]) -> VortexResult<Seen<T>>
+    requires { length items.now < 2 ^ 32 }
+    ensures { OrMemory result (λ seen. AreSeen T.whole (map T.whole items.now) seen) }
+{
+    let mut seen = Seen::none(alloc, items.len() as u32)?;
+    for row in 0..items.len() {
+        seen.see(items[row])?;
+    }
+    Ok(seen)
+}
+
+// The integers whose bit is true.
+fn seen_of_masked<T: Integer>(alloc: Global, items: &[T], bits: &[bool]) -> VortexResult<Seen<T>>
+    requires few { length items.now < 2 ^ 32 }
+    requires bits { length bits.now ≡ length items.now }
+    ensures { OrMemory result (λ seen. AreSeen T.whole (valid_wholes (masked_rows bits.now (map int (map T.whole items.now)))) seen) }
+{
+    let mut seen = Seen::none(alloc, items.len() as u32)?;
+    for row in 0..items.len() {
+        let item = items[row];
+        if bits[row] {
+            seen.see(item)?;
+        }
+    }
+    Ok(seen)
+}
+
+/// How often each integer of the valid rows is seen.
+pub(crate) fn seen_of<T: Integer>(
+    alloc: Global,
+    items: &[T],
+    valid: &Option<Mask>,
+) -> VortexResult<Seen<T>>
+    requires mask { validity_length valid.now (length items.now) ≡ true }
+    requires few { length items.now < 2 ^ 32 }
+    ensures { OrMemory result (λ seen. AreSeen T.whole (valid_wholes (valid_rows valid.now (map int (map T.whole items.now)))) seen) }
+{
+    match valid {
+        Some(mask) => seen_of_masked(alloc, items, mask.as_slice()),
+        None => seen_of_all(alloc, items),
+    }
+}
