@@ -4,39 +4,52 @@ ghost use Rattle.std.specs.Prelude.{◌≡◌};
 ghost use Rattle.vx_base.specs.declared.error.VortexError.TheVariants.{NoMemory};
 
 use std::alloc::{AllocError, AllocFailed};
-use std::fmt;
 use thiserror::Error;
 
-/// The refusals. Display prints the variant's name.
+/// The refusals. Display prints the name of the variant, as `name` answers it.
 #[derive(Clone, Copy, Debug, PartialEq, Eq, Drop, Error)]
 pub enum VortexError {
     /// Memory ran out.
+    #[error("NoMemory")]
     NoMemory,
     /// More rows than the call admits.
+    #[error("TooManyRows")]
     TooManyRows,
     /// A type or a content that the call doesn't admit.
+    #[error("MismatchedTypes")]
     MismatchedTypes,
     /// A length other than the one that the call states.
+    #[error("LengthMismatch")]
     LengthMismatch,
     /// A row, end, index, code, offset, width or number that lies outside.
+    #[error("OutOfBounds")]
     OutOfBounds,
     /// Patch indices that don't rise, or one outside of its array.
+    #[error("IndicesNotAscending")]
     IndicesNotAscending,
     /// The unit of days, which has no divisor.
+    #[error("DayUnit")]
     DayUnit,
     /// A day number above 32 signed bits.
+    #[error("DaysOutOfRange")]
     DaysOutOfRange,
     /// A timestamp above 64 signed bits.
+    #[error("TimestampOutOfRange")]
     TimestampOutOfRange,
     /// Parts that are no split of a timestamp.
+    #[error("PartsNotCanonical")]
     PartsNotCanonical,
     /// A value that the type doesn't hold.
+    #[error("CastRefused")]
     CastRefused,
     /// A text or binary value of 2^32 bytes or more.
+    #[error("ValueTooLong")]
     ValueTooLong,
     /// A scheme whose name is taken.
+    #[error("DuplicateScheme")]
     DuplicateScheme,
     /// Bytes that spell no metadata.
+    #[error("BadMetadata")]
     BadMetadata,
 }
 
@@ -65,17 +78,6 @@ impl VortexError {
             VortexError::DuplicateScheme => "DuplicateScheme",
             VortexError::BadMetadata => "BadMetadata",
         }
-    }
-}
-
-impl fmt::Display for VortexError {
-    ghost use Rattle.std.specs.Prelude.{Some};
-    ghost use Rattle.vx_base.specs.ErrorName.{error_name};
-
-    ghost output = { λ e. Some (error_name e) };
-
-    fn fmt<W: fmt::Write>(&self, f: &mut fmt::Formatter<W>) -> fmt::Result {
-        f.write_str(self.name())
     }
 }
 

@@ -1,5 +1,6 @@
 //! What is printed of errors, types, ids and values.
 
+use std::alloc::Global;
 use std::test::Fail;
 use vx_base::Nullability::{NonNullable, Nullable};
 use vx_base::PType::{I32, I64, U8};
@@ -12,8 +13,36 @@ fn errors_types_and_ids_show_their_texts(rt: HostRuntime) -> Result<(), Fail> {
     let copy = nullable.copy(rt.alloc())?;
     let shown = format!(in rt.alloc(); "{dtype} {copy} {}", ArrayId::BitPackedV2)?;
     assert_eq!(rt; shown.as_str(), "i32 i32? vortex.bitpacked.v2");
-    let shown = format!(in rt.alloc(); "{}", VortexError::BadMetadata)?;
-    assert_eq!(rt; shown.as_str(), "BadMetadata");
+    Ok(())
+}
+
+// Whether Display prints the name of the error.
+fn shows_its_name(alloc: Global, error: VortexError) -> Result<bool, Fail> {
+    let shown = format!(in alloc; "{error}")?;
+    Ok(shown.as_str() == error.name())
+}
+
+#[test]
+fn each_error_shows_its_name(rt: HostRuntime) -> Result<(), Fail> {
+    let errors = [
+        VortexError::NoMemory,
+        VortexError::TooManyRows,
+        VortexError::MismatchedTypes,
+        VortexError::LengthMismatch,
+        VortexError::OutOfBounds,
+        VortexError::IndicesNotAscending,
+        VortexError::DayUnit,
+        VortexError::DaysOutOfRange,
+        VortexError::TimestampOutOfRange,
+        VortexError::PartsNotCanonical,
+        VortexError::CastRefused,
+        VortexError::ValueTooLong,
+        VortexError::DuplicateScheme,
+        VortexError::BadMetadata,
+    ];
+    for error in errors {
+        assert!(rt; shows_its_name(rt.alloc(), error)?);
+    }
     Ok(())
 }
 
