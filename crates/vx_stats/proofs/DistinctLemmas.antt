@@ -1,20 +1,21 @@
 -- The distinct numbers of a list.
-use Rattle.std.proofs.Common.{◌≡◌, ℕ, ◌+◌, ◌<◌, ◌≤◌, ℤ, pos, Bool, true, false, cond, List, [], ◌∷◌, ◌++◌, length, map, get_or, refl, sym, ap, subst, inl, inr, ◌⊎◌, append_assoc, ◌∙◌, arith}
+use Rattle.std.proofs.Common.{◌≡◌, ℕ, suc, ◌+◌, ◌<◌, ◌≤◌, ℤ, pos, Bool, true, false, cond, List, [], ◌∷◌, ◌++◌, length, map, drop, get_or, Ordering, refl, sym, ap, subst, inl, inr, ◌⊎◌, append_assoc, ◌∙◌, arith}
 use Rattle.std.specs.Prelude.{int_lt, ◌==◌, ⊤, nat_lt, fold, max}
 use Rattle.std.specs.List.{find}
 use Rattle.std.specs.Option.{unwrap_or}
-use Rattle.std.specs.Ordering.{int_eq, int_cmp}
+use Rattle.std.specs.Ordering.{int_eq, int_cmp, is_lt}
 use Rattle.std.specs.declared.cmp.Ordering.TheVariants.{Less}
 use Rattle.std.specs.List.{AllByRecursion}
-use Rattle.std.specs.List.Sorted.{IsStrictlySortedBy}
+use Rattle.std.specs.List.Sorted.{IsPermutation, IsSorted, IsStrictlySortedBy}
 use Rattle.std.proofs.lemmas.Bool.{cond_both, cond-true, cond-false, cases_lt, lt-ltb, le-ltb, eq-eqb, ne_eqb}
 use Rattle.std.proofs.lemmas.Bool.Decides.{nat_tests}
 use Rattle.std.proofs.lemmas.Int.{ints}
-use Rattle.std.proofs.lemmas.List.{map-append}
+use Rattle.std.proofs.lemmas.List.{drop_more, map-append}
 use Rattle.std.proofs.lemmas.List.Sums.{sum_by-cons}
-use Rattle.vx_stats.specs.Distinct.{times, with_number, distinct, most_frequent}
-use Rattle.vx_stats.specs.Runs.{better, whole_count, whole_counts}
-use Rattle.vx_stats.proofs.TallyLemmas.{same-eq, less}
+use Rattle.std.proofs.lemmas.List.Sorted.{sum_by-IsPermutation}
+use Rattle.vx_stats.specs.Distinct.{times, with_number, distinct, counted, most_frequent}
+use Rattle.vx_stats.specs.Runs.{runs, runs_from, IsRising, IsRisingFrom, better, whole_count, whole_counts}
+use Rattle.vx_stats.proofs.TallyLemmas.{same-eq, less, left, left-next}
 
 pub times-next : (x z : ℤ) (zs : List ℤ) → times (z ∷ zs) x ≡ cond (int_eq x z) 1 0 + times zs x
 times-next x z zs = sum_by-cons (λ w. cond (int_eq x w) 1 0) z zs
@@ -73,9 +74,35 @@ pub distinct-ascends : (zs : List ℤ) → IsAscending (distinct zs)
 distinct-ascends [] = tt
 distinct-ascends (z ∷ zs) = with-ascends z (distinct zs) (distinct-ascends zs)
 
+pub distinct-below : (x : ℤ) (zs : List ℤ) → IsBelow x zs → IsBelow x (distinct zs)
+distinct-below x [] b = tt
+distinct-below x (z ∷ zs) b = with-below x z (distinct zs) b.0 (distinct-below x zs b.1)
+
 pub times-below : (z : ℤ) (zs : List ℤ) → IsBelow z zs → times zs z ≡ 0
 times-below z [] b = refl
 times-below z (w ∷ ws) b = times-next z w ws ∙ rw (lt-unequal z w b.0) (omega (arith, times-below z ws b.1))
+
+with-at_front : (z : ℤ) (ds : List ℤ) → IsBelow z ds → with_number z ds ≡ z ∷ ds
+with-at_front z [] b = refl
+with-at_front z (d ∷ ds) b = cond-true (int_lt z d) _ _ b.0
+
+with-same : (z : ℤ) (ds : List ℤ) → with_number z (z ∷ ds) ≡ z ∷ ds
+with-same z ds = cond-false (int_lt z z) _ _ (not-below-self z) ∙ cond-true (int_eq z z) _ _ (same-eq z)
+
+with-later : (z w : ℤ) (ws : List ℤ) → int_lt w z ≡ true → with_number z (w ∷ ws) ≡ w ∷ with_number z ws
+with-later z w ws h = by-order z w (λ l. l ≡ w ∷ with_number z ws) ws (λ l. absurd (both z w l h)) (λ e. absurd (neither z w e h)) (λ m. refl)
+  where
+    both : (x y : ℤ) → int_lt x y ≡ true → int_lt y x ≡ true → ⊥
+    both x y h k = grind (arith, ints)
+
+    neither : (x y : ℤ) → x ≡ y → int_lt y x ≡ true → ⊥
+    neither x y h k = grind (arith, ints)
+
+with-twice : (z : ℤ) (ds : List ℤ) → with_number z (with_number z ds) ≡ with_number z ds
+with-twice z [] = with-same z []
+with-twice z (d ∷ ds) =
+    by-order z d (λ l. with_number z l ≡ l) ds (λ l. with-same z (d ∷ ds)) (λ e. subst (λ x. with_number x (d ∷ ds) ≡ d ∷ ds) (sym e) (with-same d ds))
+    (λ m. with-later z d (with_number z ds) m ∙ ap (λ l. d ∷ l) (with-twice z ds))
 
 -- ---- how often a number occurs among distinct ones
 
@@ -154,13 +181,82 @@ same-ascending (x ∷ xs) (y ∷ ys) a b same =
     both : x ≡ y → xs ≡ ys → x ∷ xs ≡ y ∷ ys
     both e r = cc
 
+-- ---- the order of the rows doesn't count
+
+pub times-permutation : (xs ys : List ℤ) (z : ℤ) → IsPermutation xs ys → times ys z ≡ times xs z
+times-permutation xs ys z p = sum_by-IsPermutation (λ w. cond (int_eq z w) 1 0) xs ys p
+
+pub distinct-permutation : (xs ys : List ℤ) → IsPermutation xs ys → distinct ys ≡ distinct xs
+distinct-permutation xs ys p =
+    same-ascending (distinct ys) (distinct xs) (distinct-ascends ys) (distinct-ascends xs)
+    (λ z. distinct-times z ys ∙ ap (λ n. cond (n == 0) 0 1) (times-permutation xs ys z p) ∙ sym (distinct-times z xs))
+
 pub map-same : {A B : Type 0} (f g : A → B) → ((x : A) → f x ≡ g x) → (xs : List A) → map f xs ≡ map g xs
 map-same f g h [] = refl
 map-same f g h (x ∷ xs) = let e = h x in let r = map-same f g h xs in λ i. e i ∷ r i
 
+pub counted-permutation : (xs ys : List ℤ) → IsPermutation xs ys → counted ys ≡ counted xs
+counted-permutation xs ys p =
+    map-same (λ z. (z, times ys z)) (λ z. (z, times xs z)) (λ z. ap (λ n. (z, n)) (times-permutation xs ys z p)) (distinct ys) ∙ ap (map (λ z. (z, times xs z))) (distinct-permutation xs ys p)
+
+-- ---- runs of numbers that don't fall
+
+below-rising : (z w : ℤ) (ws : List ℤ) → int_lt z w ≡ true → IsRisingFrom w ws → IsBelow z (w ∷ ws)
+below-rising z w [] l r = (l, tt)
+below-rising z w (v ∷ vs) l r = (l, below-rising z v vs (further z w v l r.0) r.1)
+  where
+    further : (x y z : ℤ) → int_lt x y ≡ true → int_lt z y ≡ false → int_lt x z ≡ true
+    further x y z h k = grind (arith, ints)
+
 pub map-below : (z : ℤ) (f g : ℤ → ℤ × ℕ) → ((d : ℤ) → int_lt z d ≡ true → f d ≡ g d) → (ds : List ℤ) → IsBelow z ds → map f ds ≡ map g ds
 map-below z f g h [] b = refl
 map-below z f g h (d ∷ ds) b = let e = h d b.0 in let r = map-below z f g h ds b.1 in λ i. e i ∷ r i
+
+abbrev with_more : ℤ → ℕ → List ℤ → ℤ → ℤ × ℕ
+with_more z n zs d = (d, times zs d + cond (int_eq d z) n 0)
+
+pub runs-counted : (z : ℤ) (n : ℕ) (zs : List ℤ) → IsRisingFrom z zs → runs_from z n zs ≡ map (with_more z n zs) (distinct (z ∷ zs))
+runs-counted z n [] r = ap (λ m. (z, m) ∷ []) (ap (λ b. cond b n 0) (sym (same-eq z)) ∙ omega arith)
+runs-counted z n (w ∷ ws) r =
+    elim (cases_whole z w) [
+      | inl l ↦
+          let below = below-rising z w ws l r.1 in
+          let here : with_more z n (w ∷ ws) z ≡ (z, n) = ap (λ b. (z, times (w ∷ ws) z + cond b n 0)) (same-eq z) ∙ ap (λ m. (z, m + n)) (times-below z (w ∷ ws) below) ∙ ap (λ m. (z, m)) (omega arith) in
+          cond-false (int_eq z w) _ _ (lt-unequal z w l)
+          ∙ ap (λ l. (z, n) ∷ l) (runs-counted w 1 ws r.1 ∙ map-below z (with_more w 1 ws) (with_more z n (w ∷ ws)) (λ d m. ap (λ k. (d, k)) (one d m)) (distinct (w ∷ ws)) (distinct-below z (w ∷ ws) below))
+          ∙ ap (λ p. p ∷ map (with_more z n (w ∷ ws)) (distinct (w ∷ ws))) (sym here)
+          ∙ ap (map (with_more z n (w ∷ ws))) (sym (with-at_front z (distinct (w ∷ ws)) (distinct-below z (w ∷ ws) below)))
+      | inr (inl e) ↦ same e (runs-counted z (n + 1) ws (subst (λ x. IsRisingFrom x ws) (sym e) r.1))
+      | inr (inr l) ↦ absurd (falls w z l r.0)
+    ]
+  where
+    falls : (x y : ℤ) → int_lt x y ≡ true → int_lt x y ≡ false → ⊥
+    falls x y h k = absurd cc
+
+    one : (d : ℤ) → int_lt z d ≡ true → times ws d + cond (int_eq d w) 1 0 ≡ times (w ∷ ws) d + cond (int_eq d z) n 0
+    one d m = ap (λ k. times ws d + k) refl ∙ omega (arith, times-next d w ws, ap (λ b. cond b n 0) (lt-unequal-back z d m))
+
+    added : (b : Bool) (t m : ℕ) → t + cond b (m + 1) 0 ≡ cond b 1 0 + t + cond b m 0
+    added true t m = omega arith
+    added false t m = omega arith
+
+    more : z ≡ w → (d : ℤ) → times ws d + cond (int_eq d z) (n + 1) 0 ≡ times (w ∷ ws) d + cond (int_eq d z) n 0
+    more e d = added (int_eq d z) (times ws d) n ∙ ap (λ x. cond (int_eq d x) 1 0 + times ws d + cond (int_eq d z) n 0) e ∙ ap (λ k. k + cond (int_eq d z) n 0) (sym (times-next d w ws))
+
+    same : z ≡ w → runs_from z (n + 1) ws ≡ map (with_more z (n + 1) ws) (distinct (z ∷ ws)) → runs_from z n (w ∷ ws) ≡ map (with_more z n (w ∷ ws)) (distinct (z ∷ w ∷ ws))
+    same e rest =
+        cond-true (int_eq z w) _ _ (ap (int_eq z) (sym e) ∙ same-eq z)
+        ∙ rest
+        ∙ map-same (with_more z (n + 1) ws) (with_more z n (w ∷ ws)) (λ d. ap (λ k. (d, k)) (more e d)) (distinct (z ∷ ws))
+        ∙ ap (map (with_more z n (w ∷ ws))) (sym (with-twice z (distinct ws)) ∙ ap (λ x. with_number z (with_number x (distinct ws))) e)
+
+-- ---- what the rows of a column that don't fall have
+
+pub runs-are-counts : (z : ℤ) (zs : List ℤ) → IsRisingFrom z zs → runs_from z 1 zs ≡ counted (z ∷ zs)
+runs-are-counts z zs r = runs-counted z 1 zs r ∙ map-same (with_more z 1 zs) (λ d. (d, times (z ∷ zs) d)) (λ d. ap (λ k. (d, k)) (one d)) (distinct (z ∷ zs))
+  where
+    one : (d : ℤ) → times zs d + cond (int_eq d z) 1 0 ≡ times (z ∷ zs) d
+    one d = omega (arith, times-next d z zs)
 
 -- ---- the first of the greatest counts
 
@@ -215,10 +311,54 @@ pub best-start : {T : Type 0} (whole : T → ℤ) (counts : List (T × ℕ)) (c 
 best-start whole [] c some is = absurd cc
 best-start whole (d ∷ ds) c some is = ap (λ x. fold better (whole_count whole x) (whole_counts whole (d ∷ ds))) is ∙ best-most_frequent (whole_count whole d) (whole_counts whole ds)
 
+pub runs-start : {T : Type 0} (whole : T → ℤ) (items : List T) (x : T) → (length items == 0) ≡ false → x ≡ get_or items 0 x
+    → runs_from (whole x) 1 (map whole (drop 1 items)) ≡ runs (map whole items)
+runs-start whole [] x some is = absurd cc
+runs-start whole (y ∷ ys) x some is = ap (λ z. runs_from (whole z) 1 (map whole ys)) is
+
+module _ {T : Type 0} (whole : T → ℤ) (cmp : T → T → Ordering) (ordered : (a b : T) → cmp a b ≡ int_cmp (whole a) (whole b)) where
+  later : (k : ℕ) → suc k + 1 ≡ suc (k + 1)
+  later k = omega arith
+
+  rising-after : (x : T) (xs : List T) → IsSorted cmp (x ∷ xs) → IsRisingFrom (whole x) (map whole xs)
+  rising-after x [] s = tt
+  rising-after x (y ∷ ys) s = (sym (less whole cmp ordered y x) ∙ s 0 x (omega arith) (omega arith), rising-after y ys (λ k d low high. subst (λ n. is_lt (cmp (get_or (x ∷ y ∷ ys) n d) (get_or (y ∷ ys) k d)) ≡ false) (later k) (s (suc k) d (omega arith) (omega arith))))
+
+  pub rising-sorted : (xs : List T) → IsSorted cmp xs → IsRising (map whole xs)
+  rising-sorted [] s = tt
+  rising-sorted (x ∷ xs) s = rising-after x xs s
+
+pub counted-rising : (zs : List ℤ) → IsRising zs → runs zs ≡ counted zs
+counted-rising [] r = refl
+counted-rising (z ∷ zs) r = runs-are-counts z zs r
+
 -- ---- a loop's steps: an item goes to the end of what is done
 
 pub done-more : {A B : Type 0} (f : A → B) (done : List A) (x : A) (rest all : List B) → map f done ++ (f x ∷ rest) ≡ all → map f (done ++ x ∷ []) ++ rest ≡ all
 done-more f done x rest all e = ap (λ l. l ++ rest) (map-append f done (x ∷ [])) ∙ append_assoc (map f done) (f x ∷ []) rest ∙ e
+
+pub kept-next : {T : Type 0} (whole : T → ℤ) (items : List T) (bits : List Bool) (row : ℕ) (x : T) (done : List T) (all : List ℤ) → row < length items → length bits ≡ length items → x ≡ get_or items row x
+    → map whole done ++ left whole items bits row ≡ all
+    → (get_or bits row false ≡ true → map whole (done ++ x ∷ []) ++ left whole items bits (row + 1) ≡ all) × (get_or bits row false ≡ false → map whole done ++ left whole items bits (row + 1) ≡ all)
+kept-next whole items bits row x done all within same is e =
+    let next = left-next whole items bits row x within same is in
+    let rest = left whole items bits (row + 1) in (
+      λ t. done-more whole done x rest all (ap (λ l. map whole done ++ l) (sym (next ∙ ap (λ b. cond b (whole x ∷ rest) rest) t)) ∙ e),
+      λ f. ap (λ l. map whole done ++ l) (sym (next ∙ ap (λ b. cond b (whole x ∷ rest) rest) f)) ∙ e,
+    )
+
+pub run-next : {T : Type 0} (whole : T → ℤ) (items : List T) (row : ℕ) (v x : T) (n : ℕ) (done : List (T × ℕ)) (all : List (ℤ × ℕ)) → row < length items → x ≡ get_or items row x
+    → whole_counts whole done ++ runs_from (whole v) n (map whole (drop row items)) ≡ all
+    → (int_eq (whole v) (whole x) ≡ true → whole_counts whole done ++ runs_from (whole v) (n + 1) (map whole (drop (row + 1) items)) ≡ all)
+    × (int_eq (whole v) (whole x) ≡ false → whole_counts whole (done ++ (v, n) ∷ []) ++ runs_from (whole x) 1 (map whole (drop (row + 1) items)) ≡ all)
+run-next whole items row v x n done all within is e =
+    let rest = map whole (drop (row + 1) items) in
+    let next : runs_from (whole v) n (map whole (drop row items)) ≡ cond (int_eq (whole v) (whole x)) (runs_from (whole v) (n + 1) rest) ((whole v, n) ∷ runs_from (whole x) 1 rest) =
+    ap (λ l. runs_from (whole v) n (map whole l)) (drop_more items row x within ∙ ap (λ y. y ∷ drop (row + 1) items) (sym is))
+    in (
+      λ t. ap (λ l. whole_counts whole done ++ l) (sym (next ∙ cond-true _ _ _ t)) ∙ e,
+      λ f. done-more (whole_count whole) done (v, n) (runs_from (whole x) 1 rest) all (ap (λ l. whole_counts whole done ++ l) (sym (next ∙ cond-false _ _ _ f)) ∙ e),
+    )
 
 -- ---- the laws
 

@@ -1,11 +1,12 @@
 -- Slots and the integers that take them.
-use Rattle.std.proofs.Common.{◌≡◌, ℕ, suc, ◌+◌, ◌<◌, ◌≤◌, ℤ, Bool, true, false, cond, List, [], ◌∷◌, length, get_or, set, refl, sym, ap, subst, inl, inr, ◌∙◌, arith}
+use Rattle.std.proofs.Common.{◌≡◌, ℕ, suc, ◌+◌, ◌<◌, ◌≤◌, ℤ, Bool, true, false, cond, List, [], ◌∷◌, ◌++◌, length, get_or, set, refl, sym, ap, subst, inl, inr, ◌∙◌, arith}
 use mir.Val.{bool_byte}
 use Rattle.std.specs.Prelude.{not, ◌==◌}
 use Rattle.std.specs.List.{AllByRecursion}
 use Rattle.std.specs.Ordering.{int_eq}
 use Rattle.std.proofs.lemmas.Bool.{cases_eq}
 use Rattle.std.proofs.lemmas.List.{get_or-set_same, get_or-set_other, get_or_past}
+use Rattle.std.proofs.lemmas.List.Sums.{sum_by-append}
 use Rattle.vx_base.specs.declared.ptype.PType.{PType}
 use Rattle.vx_base.specs.Integers.{bits_in}
 use Rattle.vx_stats.specs.Distinct.{times, with_number, distinct}
@@ -99,13 +100,18 @@ one-more p all w left old new step before =
       by = step before.seen before.by;
     }
 
-pub all-seen : (p : PType) (all left : List ℤ) (slots : Slots) → left ≡ [] → TakenBut p all left slots → slots.count ≤ length (distinct all)
-all-seen p all left slots none but =
-    let same : distinct but.seen ≡ distinct all =
-    same-ascending (distinct but.seen) (distinct all) (distinct-ascends but.seen) (distinct-ascends all)
-    (λ z. distinct-times z but.seen ∙ ap (λ n. cond (n == 0) 0 1) (counts z) ∙ sym (distinct-times z all))
+-- more numbers have no fewer distinct ones
+length-more : (ls zs : List ℤ) → length (distinct zs) ≤ length (distinct (ls ++ zs))
+length-more [] zs = omega arith
+length-more (l ∷ ls) zs = omega (arith, length-more ls zs, length-with l (distinct (ls ++ zs)))
+
+pub some-seen : (p : PType) (all left : List ℤ) (slots : Slots) → TakenBut p all left slots → slots.count ≤ length (distinct all)
+some-seen p all left slots but =
+    let same : distinct (left ++ but.seen) ≡ distinct all =
+    same-ascending (distinct (left ++ but.seen)) (distinct all) (distinct-ascends (left ++ but.seen)) (distinct-ascends all)
+    (λ z. distinct-times z (left ++ but.seen) ∙ ap (λ n. cond (n == 0) 0 1) (counts z) ∙ sym (distinct-times z all))
     in
-    subst (λ ds. slots.count ≤ length ds) same but.by.few
+    omega (arith, but.by.few, length-more left but.seen, ap length same)
   where
-    counts : (z : ℤ) → times but.seen z ≡ times all z
-    counts z = omega (arith, but.split z, ap (λ l. times l z) none)
+    counts : (z : ℤ) → times (left ++ but.seen) z ≡ times all z
+    counts z = omega (arith, but.split z, sum_by-append (λ w. cond (int_eq z w) 1 0) left but.seen)

@@ -1,5 +1,6 @@
--- Numbers that don't fall, and the best of numbers with counts, one after another.
-use Rattle.std.specs.Prelude.{◌≡◌, ℕ, nat_lt, ℤ, int_lt, false, if◌then◌else◌, ⊤, List, [], ◌∷◌, map}
+-- Runs of numbers that don't fall, and the best of numbers with counts, one after another.
+use Rattle.std.specs.Prelude.{◌≡◌, ℕ, ◌+◌, nat_lt, ℤ, int_lt, false, if◌then◌else◌, ⊤, List, [], ◌∷◌, map}
+use Rattle.std.specs.Ordering.{int_eq}
 
 -- the whole numbers of values with counts
 abbrev pub whole_count : {T : Type 0} → (T → ℤ) → T × ℕ → ℤ × ℕ
@@ -7,6 +8,15 @@ whole_count whole c = (whole c.0, c.1)
 
 abbrev pub whole_counts : {T : Type 0} → (T → ℤ) → List (T × ℕ) → List (ℤ × ℕ)
 whole_counts whole counts = map (whole_count whole) counts
+
+-- runs of equal numbers with their lengths, where so many of the first are seen already
+abbrev pub runs_from : ℤ → ℕ → List ℤ → List (ℤ × ℕ)
+runs_from z n [] = (z, n) ∷ []
+runs_from z n (w ∷ ws) = if int_eq z w then runs_from z (n + 1) ws else (z, n) ∷ runs_from w 1 ws
+
+abbrev pub runs : List ℤ → List (ℤ × ℕ)
+runs [] = []
+runs (z ∷ zs) = runs_from z 1 zs
 
 -- none is below the one before
 abbrev pub IsRisingFrom : ℤ → List ℤ → Type 0

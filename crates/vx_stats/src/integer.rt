@@ -13,6 +13,7 @@ mod generating;
 mod range;
 mod seen;
 mod slots;
+mod sorting;
 mod tally;
 mod typed;
 mod value;

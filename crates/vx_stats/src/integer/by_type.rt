@@ -75,22 +75,23 @@ pub(crate) fn completed(
 }
 
 macro_rules! least_by_type {
-    ($alloc:expr, $values:expr, $valid:expr; $($kind:ident),*) => {
+    ($alloc:expr, $values:expr, $valid:expr, $enough:expr; $($kind:ident),*) => {
         match $values {
-            $(Ints::$kind(items) => distinct_at_least($alloc, items.as_slice(), $valid),)*
+            $(Ints::$kind(items) => distinct_at_least($alloc, items.as_slice(), $valid, $enough),)*
         }
     };
 }
 
-/// As many as the distinct values of the valid rows, or fewer.
+/// As many as the distinct values of the valid rows, or fewer. It looks no further once there are more than `enough`.
 pub(crate) fn least_distinct(
     alloc: Global,
     values: &Ints,
     valid: &Option<Mask>,
+    enough: usize,
 ) -> VortexResult<usize>
     requires mask { validity_length valid.now (length (wholes_of values.now)) ≡ true }
     requires few { length (wholes_of values.now) < 2 ^ 32 }
     ensures { OrMemory result (λ count. count ≤ distinct_count (valid_rows valid.now (map int (wholes_of values.now)))) }
 {
-    least_by_type!(alloc, values, valid; U8, U16, U32, U64, I8, I16, I32, I64)
+    least_by_type!(alloc, values, valid, enough; U8, U16, U32, U64, I8, I16, I32, I64)
 }

@@ -1,4 +1,5 @@
-//! Counting of distinct integers: where they lie far apart, counts of those met are sorted, and equal ones merged.
+//! Counting of distinct integers: where they lie far apart, counts of those met are sorted, and equal ones merged;
+//! where hardly one is met again, they are sorted themselves.
 
 ghost use Rattle.std.specs.Prelude.{◌≡◌, ◌<◌, ◌^◌, ℤ, length, map, true};
 ghost use Rattle.std.specs.List.{All};
@@ -16,6 +17,7 @@ use crate::integer::dense::dense_info;
 use crate::integer::distinct::{Counts, DistinctInfo};
 use crate::integer::range::Range;
 use crate::integer::seen::{is_same, seen_of};
+use crate::integer::sorting::sorted_info;
 use crate::options::GenerateStatsOptions;
 use std::alloc::Global;
 use vx_base::{Integer, Mask, VortexResult};
@@ -62,8 +64,10 @@ fn counted<T: Integer>(
     requires few { length items.now < 2 ^ 32 }
     ensures { Answers result (distinct_counts (valid_rows valid.now (map int (map T.whole items.now)))) }
 {
-    let counts = seen_of(alloc, items, valid)?.into_counts()?;
-    let counts = sorted(counts);
+    let Some(seen) = seen_of(alloc, items, valid)? else {
+        return sorted_info(alloc, items, valid);
+    };
+    let counts = sorted(seen.into_counts()?);
     Ok(DistinctInfo::new(merged(alloc, counts.as_slice())?))
 }
 

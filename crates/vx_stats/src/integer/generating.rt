@@ -112,8 +112,9 @@ impl IntegerStats {
             return Ok(false);
         }
         let (values, valid, _) = plain.as_primitive();
-        let least = least_distinct(alloc, values, valid)?;
-        Ok(least > (self.value_count() / 2) as usize)
+        let half = (self.value_count() / 2) as usize;
+        let least = least_distinct(alloc, values, valid, half)?;
+        Ok(least > half)
     }
 }
 

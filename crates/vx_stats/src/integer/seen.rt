@@ -1,6 +1,6 @@
 //! How often integers were seen: each counts in the slot that its bits give it, and leaves that to another one.
 
-ghost use Rattle.std.specs.Prelude.{◌≡◌, ◌<◌, ◌+◌, ◌-◌, ◌^◌, ℤ, [], length, map, true};
+ghost use Rattle.std.specs.Prelude.{◌≡◌, ◌<◌, ◌+◌, ◌-◌, ◌/◌, ◌^◌, nat_lt, vec_len, ℤ, [], length, map, true, IfSome};
 ghost use Rattle.std.specs.Ordering.{int_eq};
 ghost use Rattle.vx_base.specs.Answers.{OrMemory};
 ghost use Rattle.vx_base.specs.PlainValue.{int};
@@ -14,7 +14,7 @@ use std::alloc::Global;
 use vx_base::{Integer, Mask, VortexResult};
 
 // There are at most 2 to this number of slots, which the processor keeps near.
-const MOST_SLOT_BITS: u32 = 14;
+const MOST_SLOT_BITS: u32 = 17;
 
 /// Integers with counts: the one in each slot, 0 times where the slot is free, and those that left theirs.
 #[derive(Drop)]
@@ -44,11 +44,11 @@ fn push_some<T: Integer>(counts: &mut Vec<(T, u32)>, count: (T, u32)) -> VortexR
 }
 
 impl<T: Integer> Seen<T> {
-    // None seen, with slots for so many integers.
+    // None seen, with a slot for every four to eight of so many integers.
     fn none(alloc: Global, items: u32) -> VortexResult<Self>
         ensures { OrMemory result (λ seen. AreSeen T.whole [] seen) }
     {
-        let bits = (32 - items.leading_zeros()).min(MOST_SLOT_BITS);
+        let bits = (29u32.saturating_sub(items.leading_zeros())).min(MOST_SLOT_BITS);
         let slots = vec![in alloc; (T::zero(), 0u32); 1usize << bits]?;
         Ok(Seen {
             slots,
@@ -78,6 +78,14 @@ impl<T: Integer> Seen<T> {
         Ok(())
     }
 
+    // Whether more than 1024 and an eighth of so many rows left their slots.
+    #[inline(always)]
+    fn is_crowded(&self, rows: usize) -> bool
+        ensures { result ≡ nat_lt (rows / 8 + 1024) (vec_len self.now.gone) }
+    {
+        self.gone.len() > rows / 8 + 1024
+    }
+
     /// Those in slots after those that left theirs.
     pub(crate) fn into_counts(self) -> VortexResult<Vec<(T, u32)>>
         ensures totals { OrMemory result (λ counts. (z : ℤ) → total T.whole counts.items z ≡ times_seen T.whole self z) }
@@ -95,42 +103,53 @@ impl<T: Integer> Seen<T> {
     }
 }
 
-fn seen_of_all<T: Integer>(alloc: Global, items: &[T]) -> VortexResult<Seen<T>>
+// None where too many left their slots.
+fn seen_of_all<T: Integer>(alloc: Global, items: &[T]) -> VortexResult<Option<Seen<T>>>
     requires { length items.now < 2 ^ 32 }
-    ensures { OrMemory result (λ seen. AreSeen T.whole (map T.whole items.now) seen) }
+    ensures { OrMemory result (λ seen. IfSome seen (AreSeen T.whole (map T.whole items.now))) }
 {
     let mut seen = Seen::none(alloc, items.len() as u32)?;
     for row in 0..items.len() {
+        if seen.is_crowded(row) {
+            return Ok(None);
+        }
         seen.see(items[row])?;
     }
-    Ok(seen)
+    Ok(Some(seen))
 }
 
 // The integers whose bit is true.
-fn seen_of_masked<T: Integer>(alloc: Global, items: &[T], bits: &[bool]) -> VortexResult<Seen<T>>
+fn seen_of_masked<T: Integer>(
+    alloc: Global,
+    items: &[T],
+    bits: &[bool],
+) -> VortexResult<Option<Seen<T>>>
     requires few { length items.now < 2 ^ 32 }
     requires bits { length bits.now ≡ length items.now }
-    ensures { OrMemory result (λ seen. AreSeen T.whole (valid_wholes (masked_rows bits.now (map int (map T.whole items.now)))) seen) }
+    ensures { OrMemory result (λ seen. IfSome seen (AreSeen T.whole (valid_wholes (masked_rows bits.now (map int (map T.whole items.now)))))) }
 {
     let mut seen = Seen::none(alloc, items.len() as u32)?;
     for row in 0..items.len() {
+        if seen.is_crowded(row) {
+            return Ok(None);
+        }
         let item = items[row];
         if bits[row] {
             seen.see(item)?;
         }
     }
-    Ok(seen)
+    Ok(Some(seen))
 }
 
-/// How often each integer of the valid rows is seen.
+/// How often each integer of the valid rows is seen; None where so many left their slots that sorting all is faster.
 pub(crate) fn seen_of<T: Integer>(
     alloc: Global,
     items: &[T],
     valid: &Option<Mask>,
-) -> VortexResult<Seen<T>>
+) -> VortexResult<Option<Seen<T>>>
     requires mask { validity_length valid.now (length items.now) ≡ true }
     requires few { length items.now < 2 ^ 32 }
-    ensures { OrMemory result (λ seen. AreSeen T.whole (valid_wholes (valid_rows valid.now (map int (map T.whole items.now)))) seen) }
+    ensures { OrMemory result (λ seen. IfSome seen (AreSeen T.whole (valid_wholes (valid_rows valid.now (map int (map T.whole items.now)))))) }
 {
     match valid {
         Some(mask) => seen_of_masked(alloc, items, mask.as_slice()),

@@ -61,26 +61,37 @@ impl Slots {
     }
 }
 
-// How many slots integers take.
-fn taken_by_all<T: Integer>(alloc: Global, items: &[T]) -> VortexResult<usize>
+// How many slots integers take, as far as to the first number above `enough`.
+fn taken_by_all<T: Integer>(alloc: Global, items: &[T], enough: usize) -> VortexResult<usize>
     requires { length items.now < 2 ^ 32 }
     ensures { OrMemory result (λ count. count ≤ length (distinct (map T.whole items.now))) }
 {
     let mut slots = Slots::free(alloc, items.len() as u32)?;
     for row in 0..items.len() {
+        if slots.count > enough {
+            return Ok(slots.count);
+        }
         slots.take(items[row]);
     }
     Ok(slots.count)
 }
 
-// How many slots the integers whose bit is true take.
-fn taken_by_valid<T: Integer>(alloc: Global, items: &[T], bits: &[bool]) -> VortexResult<usize>
+// The same of the integers whose bit is true.
+fn taken_by_valid<T: Integer>(
+    alloc: Global,
+    items: &[T],
+    bits: &[bool],
+    enough: usize,
+) -> VortexResult<usize>
     requires few { length items.now < 2 ^ 32 }
     requires bits { length bits.now ≡ length items.now }
     ensures { OrMemory result (λ count. count ≤ length (distinct (valid_wholes (masked_rows bits.now (map int (map T.whole items.now)))))) }
 {
     let mut slots = Slots::free(alloc, items.len() as u32)?;
     for row in 0..items.len() {
+        if slots.count > enough {
+            return Ok(slots.count);
+        }
         let item = items[row];
         if bits[row] {
             slots.take(item);
@@ -90,17 +101,19 @@ fn taken_by_valid<T: Integer>(alloc: Global, items: &[T], bits: &[bool]) -> Vort
 }
 
 /// As many as the distinct integers of the valid rows, or fewer: where nearly all are distinct, more than half of them.
+/// It looks no further once there are more than `enough`.
 pub(crate) fn distinct_at_least<T: Integer>(
     alloc: Global,
     items: &[T],
     valid: &Option<Mask>,
+    enough: usize,
 ) -> VortexResult<usize>
     requires mask { validity_length valid.now (length items.now) ≡ true }
     requires few { length items.now < 2 ^ 32 }
     ensures { OrMemory result (λ count. count ≤ distinct_count (valid_rows valid.now (map int (map T.whole items.now)))) }
 {
     match valid {
-        Some(mask) => taken_by_valid(alloc, items, mask.as_slice()),
-        None => taken_by_all(alloc, items),
+        Some(mask) => taken_by_valid(alloc, items, mask.as_slice(), enough),
+        None => taken_by_all(alloc, items, enough),
     }
 }

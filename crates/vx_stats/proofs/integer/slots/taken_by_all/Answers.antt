@@ -1,6 +1,6 @@
 use Rattle.std.proofs.Common.{map, drop, ap, subst, arith, ◌∷◌, ◌+◌, ◌∙◌, sym}
-use Rattle.std.proofs.lemmas.List.{drop_all, drop_more}
-use Rattle.vx_stats.proofs.SlotLemmas.{TakenBut, none-seen, one-more, all-seen}
+use Rattle.std.proofs.lemmas.List.{drop_more}
+use Rattle.vx_stats.proofs.SlotLemmas.{TakenBut, none-seen, one-more, some-seen}
 use Rattle.vx_stats.proofs.integer.slots.taken_by_all.Goals as goal
 
 pub loop-row-init : goal.loop-row-init
@@ -17,4 +17,7 @@ loop-row-preserved g c =
     one-more g.T.Integer.kind all (whole x) (map whole rest) c.loop-row.slots c.take.new.self c.take.ensures (subst (λ left. TakenBut g.T.Integer.kind all left c.loop-row.slots) next c.loop-row.invariant)
 
 pub returns : goal.returns
-returns g c = all-seen g.T.Integer.kind (map g.T.Integer.whole c.args.items.now) _ c.loop-row.slots (ap (map g.T.Integer.whole) (drop_all c.loop-row.row c.args.items.now (omega arith))) c.loop-row.invariant
+returns g c = some-seen g.T.Integer.kind (map g.T.Integer.whole c.args.items.now) (map g.T.Integer.whole (drop c.loop-row.row c.args.items.now)) c.loop-row.slots c.loop-row.invariant
+
+pub returns-then-slots-enough : goal.returns-then-slots-enough
+returns-then-slots-enough g c = some-seen g.T.Integer.kind (map g.T.Integer.whole c.args.items.now) (map g.T.Integer.whole (drop c.loop-row.row c.args.items.now)) c.loop-row.slots c.loop-row.invariant

@@ -1,9 +1,5 @@
-use Rattle.std.proofs.Common.{map, drop, ap, subst, arith, ◌∷◌, ◌∙◌, ◌+◌, sym, cond}
-use Rattle.std.proofs.lemmas.List.{drop_all}
-use Rattle.vx_base.specs.PlainValue.{int}
-use Rattle.vx_model.specs.Rows.{masked_rows}
-use Rattle.vx_stats.specs.Stats.{valid_wholes}
-use Rattle.vx_stats.proofs.SlotLemmas.{TakenBut, none-seen, one-more, all-seen}
+use Rattle.std.proofs.Common.{ap, subst, arith, ◌∷◌, ◌∙◌, ◌+◌, sym, cond}
+use Rattle.vx_stats.proofs.SlotLemmas.{TakenBut, none-seen, one-more, some-seen}
 use Rattle.vx_stats.proofs.TallyLemmas.{left, left-next}
 use Rattle.vx_stats.proofs.integer.slots.taken_by_valid.Goals.{then-bits-row, else-bits-row}
 use Rattle.vx_stats.proofs.integer.slots.taken_by_valid.Goals as goal
@@ -31,6 +27,7 @@ loop-row-preserved g c =
     ]
 
 pub returns : goal.returns
-returns g c =
-    let rest = map int (map g.T.Integer.whole (drop c.loop-row.row c.args.items.now)) in
-    all-seen g.T.Integer.kind (left g.T.Integer.whole c.args.items.now c.args.bits.now 0) _ c.loop-row.slots (ap (λ bits. valid_wholes (masked_rows bits rest)) (drop_all c.loop-row.row c.args.bits.now (omega arith))) c.loop-row.invariant
+returns g c = some-seen g.T.Integer.kind (left g.T.Integer.whole c.args.items.now c.args.bits.now 0) (left g.T.Integer.whole c.args.items.now c.args.bits.now c.loop-row.row) c.loop-row.slots c.loop-row.invariant
+
+pub returns-then-slots-enough : goal.returns-then-slots-enough
+returns-then-slots-enough g c = some-seen g.T.Integer.kind (left g.T.Integer.whole c.args.items.now c.args.bits.now 0) (left g.T.Integer.whole c.args.items.now c.args.bits.now c.loop-row.row) c.loop-row.slots c.loop-row.invariant
