@@ -1,2 +1,3 @@
 pub mod QuickLemmas
-pub mod StandardFacts
+pub mod QuickPackingFacts
+pub mod SpanFrameFacts

@@ -1,3 +1,2 @@
 pub mod QuickPacking
 pub mod SpanFrame
-pub mod SpanFrameLaws

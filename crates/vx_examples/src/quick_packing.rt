@@ -1,9 +1,12 @@
 //! A scheme that packs integers as the shipped one does, and tells its ratio without a trial.
 
 ghost use Rattle.std.specs.Prelude.{◌≡◌, ◌<◌};
-ghost use Rattle.vx_schemes.specs.Finishing.{FinishesProduced};
+ghost use Rattle.vx_schemes.specs.Produced.{MakesProduced};
 ghost use Rattle.vx_examples.specs.QuickPacking.{quick_packing, quick_verdict};
 
+mod building;
+
+pub use building::compressor;
 use std::alloc::Global;
 use std::sync::ledger::Ledger;
 use vx_array::{ArrayRef, Arrays};
@@ -25,7 +28,7 @@ pub struct QuickPacking {
 impl QuickPacking {
     /// Over the first version of bit packing.
     pub fn new() -> QuickPacking
-        ensures { FinishesProduced quick_packing }
+        ensures { MakesProduced quick_packing }
     {
         QuickPacking {
             packing: BitPackingScheme::v1(),

@@ -1,81 +1,70 @@
 //! A scheme of frames of reference whose differences are compressed again.
 
-ghost use Rattle.std.specs.Prelude.{◌≡◌, [], ◌∷◌, IsTrue};
+ghost use Rattle.std.specs.Prelude.{◌≡◌, true, IsTrue};
 ghost use Rattle.vx_base.specs.Answers.{Answers};
-ghost use Rattle.vx_base.specs.declared.dtype.Nullability.TheVariants.{NonNullable};
 ghost use Rattle.vx_base.specs.Integers.{lies_in};
-ghost use Rattle.vx_base.specs.PlainScalar.{scalar};
-ghost use Rattle.vx_base.specs.PlainType as types;
-ghost use Rattle.vx_base.specs.PlainType.{is_integer};
-ghost use Rattle.vx_base.specs.PlainValue.{int};
+ghost use Rattle.vx_base.specs.PlainType.{integer_of};
 ghost use Rattle.vx_model.specs.Column.{column_of};
 ghost use Rattle.vx_model.specs.Plain.{IsPlain};
-ghost use Rattle.vx_model.specs.Tree.{frame_of_reference};
+ghost use Rattle.vx_model.specs.Rows.{rows};
 ghost use Rattle.vx_model.specs.TreeType.{tree_type};
-ghost use Rattle.vx_model.specs.WellFormed.{differences_type};
 ghost use Rattle.vx_scheme.specs.Asked.{FitParts};
-ghost use Rattle.vx_scheme.specs.Meaning.{parts, split_of};
-ghost use Rattle.vx_examples.specs.SpanFrame.{above_least, frame_over};
+ghost use Rattle.vx_scheme.specs.Meaning.{split_of};
+ghost use Rattle.vx_stats.specs.Stats.{least_in};
+ghost use Rattle.vx_schemes.specs.OnePart.{part_where, over_part};
+ghost use Rattle.vx_schemes.specs.Produced.{MakesProduced};
+ghost use Rattle.vx_examples.specs.SpanFrame.{above_least, frame_over, span_frame};
 
-use crate::differences::{differences, reference};
+mod building;
+
+pub use building::compressor_with_frames;
 use std::alloc::Global;
 use std::sync::ledger::Ledger;
 use vx_array::{ArrayRef, Arrays};
-use vx_base::{
-    DType, ExecutionCtx, Fraction, IdSet, Nullability, PType, Scalar, Steps, VortexResult,
-};
+use vx_base::{DType, ExecutionCtx, Fraction, IdSet, Steps, VortexResult};
 use vx_scheme::{
     AllowedIds, AncestorRules, ArrayAndStats, CompressionEstimate, CompressorContext,
     DescendantRules, EstimateVerdict, GenerateStatsOptions, Scheme, Split,
 };
-use vx_schemes::FoRScheme;
+use vx_schemes::{FoRScheme, differences, framed, least_value, one_part, only};
 
 /// Integers as differences from the least of them, `example.int.frame`. It expects what `FoRScheme` expects; but where
 /// that packs its differences itself, these are a child, and become the tree of whichever scheme is best for them.
 #[derive(Clone, Copy, Debug, Default, PartialEq, Eq)]
 pub struct SpanFrame;
 
-// The differences from the least value, as the one part.
-fn parts(alloc: Global, array: &ArrayRef) -> VortexResult<Split>
-    requires plain { IsPlain array.now }
-    requires integer { IsTrue (is_integer (tree_type array.now)) }
-    ensures { Answers result (split_of (parts (above_least (column_of array.now) ∷ []))) }
-{
-    let part = differences(alloc, array, reference(array))?;
-    let parts = vec![in alloc; part]?;
-    Ok(Split::Parts(Arrays::from_vec(parts)))
-}
+/// What a frame finishes or joins has the encoding of a frame, or is plain. Does nothing: a caller learns the clause.
+pub fn laws_of_span_frames()
+    ensures { MakesProduced span_frame }
+{}
 
-// A tree of differences under their reference.
-fn framed(alloc: Global, encoded: ArrayRef, ptype: PType, reference: i128) -> VortexResult<ArrayRef>
-    requires held { IsTrue (lies_in ptype reference) }
-    requires of_type { tree_type encoded ≡ differences_type (types.primitive ptype NonNullable) (tree_type encoded) }
-    ensures { Answers result (frame_of_reference encoded (scalar (types.primitive ptype NonNullable) (int reference))) }
+// The differences from the least value, as the one part.
+fn parts(alloc: Global, array: &ArrayRef, least: i128) -> VortexResult<Split>
+    requires plain { IsPlain array.now }
+    requires held { IsTrue (lies_in (integer_of (tree_type array.now)) least) }
+    requires least { least ≡ least_in (integer_of (tree_type array.now)) (rows array.now) }
+    ensures { Answers result (split_of (part_where true (above_least (column_of array.now)))) }
 {
-    let reference = Scalar::primitive(reference, ptype, Nullability::NonNullable)?;
-    match ArrayRef::frame_of_reference(alloc, encoded, reference) {
-        Ok(tree) => Ok(tree),
-        Err(refused) => Err(refused.error),
-    }
+    one_part(alloc, differences(alloc, array, least)?)
 }
 
 // The part's tree under the least value.
-fn joined(alloc: Global, array: &ArrayRef, trees: Arrays) -> VortexResult<ArrayRef>
+fn joined(alloc: Global, array: &ArrayRef, least: i128, trees: Arrays) -> VortexResult<ArrayRef>
     requires plain { IsPlain array.now }
-    requires integer { IsTrue (is_integer (tree_type array.now)) }
-    requires trees { FitParts (parts (above_least (column_of array.now) ∷ [])) trees }
-    ensures { Answers result (frame_over (column_of array.now) trees) }
+    requires held { IsTrue (lies_in (integer_of (tree_type array.now)) least) }
+    requires least { least ≡ least_in (integer_of (tree_type array.now)) (rows array.now) }
+    requires trees { FitParts (part_where true (above_least (column_of array.now))) trees }
+    ensures { Answers result (over_part frame_over (column_of array.now) trees) }
 {
-    match trees.into_vec().pop() {
-        Some(tree) => framed(alloc, tree, array.dtype().ptype(), reference(array)),
+    match only(trees) {
+        Some(tree) => framed(alloc, tree, array.dtype().ptype(), least),
         None => array.copy(alloc),
     }
 }
 
 impl Scheme for SpanFrame {
     ghost use Rattle.std.specs.Prelude.{refl};
-    ghost use Rattle.vx_examples.specs.SpanFrame.{span_frame};
-    ghost use Rattle.vx_examples.specs.SpanFrameLaws.{span_frame_lawful};
+    ghost use Rattle.vx_examples.specs.SpanFrame.{span_frame_lawful};
 
     ghost meaning = { λ scheme. span_frame };
 
@@ -149,7 +138,8 @@ impl Scheme for SpanFrame {
         if !self.matches(column.array().dtype()) {
             return Ok(Split::Kept);
         }
-        parts(ctx.alloc(), column.array())
+        let least = least_value(column)?;
+        parts(ctx.alloc(), column.array(), least)
     }
 
     fn join(
@@ -159,10 +149,10 @@ impl Scheme for SpanFrame {
         trees: Arrays,
         ctx: &mut ExecutionCtx,
     ) -> VortexResult<ArrayRef> {
-        let array = column.array();
-        if !self.matches(array.dtype()) {
-            return array.copy(ctx.alloc());
+        if !self.matches(column.array().dtype()) {
+            return column.array().copy(ctx.alloc());
         }
-        joined(ctx.alloc(), array, trees)
+        let least = least_value(column)?;
+        joined(ctx.alloc(), column.array(), least, trees)
     }
 }

@@ -1,4 +1,4 @@
 -- Lemmas of bit packing.
 pub mod Negative
-pub mod Produced
 pub mod Tree
+pub mod Wide

@@ -5,6 +5,7 @@ pub mod FrameOfReference
 pub mod KeptLemmas
 pub mod MadeLemmas
 pub mod PatchLemmas
+pub mod Produced
 pub mod StandardFacts
 pub mod WidthLemmas
 pub mod ZigZag

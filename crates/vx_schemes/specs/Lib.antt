@@ -5,7 +5,10 @@ pub mod Finishing
 pub mod FinishingLaws
 pub mod FrameOfReference
 pub mod Pairs
+pub mod OnePart
+pub mod OnePartLaws
 pub mod Patches
+pub mod Produced
 pub mod StandsFor
 pub mod Widths
 pub mod ZigZag

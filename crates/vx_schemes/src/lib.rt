@@ -3,13 +3,21 @@
 #![tactic(auto)]
 
 mod exclusions;
+mod extremes;
 mod finishing;
 mod integer;
+mod laws;
 mod pairs;
 mod patches;
+mod single;
+mod whole;
 mod widths;
 
+pub use extremes::least_value;
 pub use integer::{
-    BitPackingScheme, FoRScheme, IntDictScheme, ZigZagScheme, integer_dictionary_encode,
+    BitPackingScheme, FoRScheme, IntDictScheme, ZigZagScheme, dictionary_tree, differences, framed,
+    integer_dictionary_encode,
 };
+pub use laws::laws_of_shipped_schemes;
 pub use patches::compress_patches;
+pub use single::{one_part, only};

@@ -12,8 +12,9 @@ ghost use Rattle.vx_model.specs.Rows.{rows, valid_rows};
 ghost use Rattle.vx_values.specs.IntsOf.{wholes_of};
 ghost use Rattle.vx_schemes.specs.Patches.Compressed.{index_type, narrowed, shared_value, constant_or_plain, compressed_patches, PatchAlike};
 
+use crate::whole::whole_tree;
 use std::alloc::Global;
-use vx_array::{ArrayRef, Node, Patches};
+use vx_array::{ArrayRef, Patches};
 use vx_base::{DType, ExecutionCtx, Mask, Nullability, PType, Scalar, VortexResult};
 use vx_blocks::narrow_type;
 use vx_values::Ints;
@@ -51,22 +52,15 @@ fn index_type(patches: &Patches) -> PType
 }
 
 // The indices in their narrowest type.
+#[tactic(auto, using(vx_model::proofs::PrimitiveLemmas::plain_roots))]
 fn narrowed(alloc: Global, patches: &Patches) -> VortexResult<ArrayRef>
     ensures { Answers result (narrowed patches.now.indices) }
 {
     patches.known();
     let ptype = index_type(patches);
     let plain = patches.indices().canonical(alloc)?;
-    match plain.node() {
-        Node::Primitive(indices, _, _) => {
-            let indices = indices.in_unsigned(alloc, ptype)?;
-            match ArrayRef::primitive(indices, None, Nullability::NonNullable) {
-                Ok(narrow) => Ok(narrow),
-                Err(refused) => Err(refused.error),
-            }
-        }
-        _ => unreachable!(),
-    }
+    let (indices, _, _) = plain.as_primitive();
+    whole_tree(indices.in_unsigned(alloc, ptype)?, Nullability::NonNullable)
 }
 
 // The value that every row has, where there are rows and no two differ: None in it where all are null.
@@ -95,14 +89,13 @@ fn shared_by(values: &Ints, valid: &Option<Mask>) -> Option<Option<i128>>
 }
 
 // The same of a plain tree.
+#[tactic(auto, using(vx_model::proofs::PrimitiveLemmas::plain_roots))]
 fn shared_value(plain: &ArrayRef) -> Option<Option<i128>>
     requires { IsPlain plain.now }
     ensures { option_map cell result ≡ shared_value (rows plain.now) }
 {
-    match plain.node() {
-        Node::Primitive(values, valid, _) => shared_by(values, valid),
-        _ => unreachable!(),
-    }
+    let (values, valid, _) = plain.as_primitive();
+    shared_by(values, valid)
 }
 
 // A value of a type.

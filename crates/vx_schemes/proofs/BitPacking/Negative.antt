@@ -21,7 +21,7 @@ or_later : (a b c : Bool) → ((a || b) || c) ≡ (a || (b || c))
 or_later true b c = refl
 or_later false b c = refl
 
-not_negative : (n : ℕ) → is_negative (pos n) ≡ false
+pub not_negative : (n : ℕ) → is_negative (pos n) ≡ false
 not_negative n = grind (arith, nat_tests, ints)
 
 negative-lesser : (a z : ℤ) → is_negative (int_min a z) ≡ (is_negative a || is_negative z)

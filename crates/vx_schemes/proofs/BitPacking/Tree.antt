@@ -10,13 +10,13 @@ use Rattle.vx_base.proofs.NullLemmas.{bits-not_null}
 use Rattle.vx_base.specs.PlainValue.{is_null, whole_or_zero}
 use Rattle.vx_model.specs.Tree.{Tree, Validity, primitive}
 use Rattle.vx_model.specs.TreeType.{tree_type}
-use Rattle.vx_model.specs.Column.{column_of}
+use Rattle.vx_model.specs.Column.{Column, column_of}
 use Rattle.vx_model.specs.Plain.{validity, valid_bits, IsPlain}
 use Rattle.vx_model.specs.Refusals.{validity_allowed}
 use Rattle.vx_model.specs.Rows.{rows}
 use Rattle.vx_model.specs.WellFormed.{WellFormed, IsValidityOf}
 use Rattle.vx_schemes.specs.Patches.Compressed.{compressed_patches}
-use Rattle.vx_schemes.specs.BitPacking.Tree.{patches_at, patches_of, packing_of, bit_packing_made}
+use Rattle.vx_schemes.specs.BitPacking.Tree.{is_negative, has_negative, patches_at, patches_of, packing_of, bit_packing_made}
 use Rattle.vx_schemes.proofs.ColumnLemmas.{wholes_are, validity_is, length_is}
 
 -- where there are rows there are patches
@@ -64,6 +64,9 @@ module _ (t : Tree) (p : PType) (xs : List ℤ) (valid : Validity) (n : Nullabil
       by_validity (Some bits) e = bits_by bits e
       by_validity None e = ap (λ k. replicate k true) (sym long) ∙ sym (bits-not_null (rows t) (no_null e))
 
+  pub wholes-natural : has_negative (column_of t) ≡ false → list_any is_negative xs ≡ false
+  wholes-natural h = ap (list_any is_negative) numbers ∙ h
+
   pub packing-made : packing_of p n xs all_bits ≡ bit_packing_made (column_of t)
   packing-made = made all_bits all_bits-are
 
@@ -81,3 +84,7 @@ module _ (t : Tree) (p : PType) (xs : List ℤ) (valid : Validity) (n : Nullabil
       by_validity : (o : Validity) → IsValidityOf o (length xs) n → validity_allowed (Some (unwrap_or o (replicate (length xs) true))) n ≡ true
       by_validity (Some bits) v = rw v.1 refl
       by_validity None v = whole (length xs) n
+
+-- a column with a negative value is kept
+pub negative-kept : (c : Column) → has_negative c ≡ true → bit_packing_made c ≡ None
+negative-kept c h = rw h refl

@@ -1,5 +1,5 @@
 -- The values and the codes of a dictionary as plain trees.
-use Rattle.std.proofs.Common.{◌≡◌, ◌∙◌, ℕ, ℤ, pos, Bool, true, false, List, [], ◌∷◌, map, cond, Some, None, refl, sym, ap}
+use Rattle.std.proofs.Common.{◌≡◌, ◌∙◌, ℕ, ℤ, pos, Bool, true, false, List, [], ◌∷◌, map, length, cond, Some, None, refl, sym, ap}
 use Rattle.std.specs.Prelude.{◌==◌}
 use Rattle.std.specs.List.{list_any}
 use Rattle.std.proofs.lemmas.Bool.{cond-true, cond-false}
@@ -7,17 +7,14 @@ use Rattle.vx_base.specs.declared.ptype.PType.{PType}
 use Rattle.vx_base.specs.declared.dtype.Nullability.{Nullability}
 use Rattle.vx_base.proofs.IntegerLemmas.{by_integer}
 use Rattle.vx_base.specs.PlainType.{is_integer, integer_of, nullability_of}
-use Rattle.vx_base.specs.PlainType as types
 use Rattle.vx_base.specs.PlainValue.{PlainValue, int, is_null, whole_or_zero}
-use Rattle.vx_model.specs.Column.{Column, IsColumn, column, column_of}
-use Rattle.vx_model.specs.Plain.{plain, plain_of, validity, valid_bits, IsPlain}
-use Rattle.vx_model.specs.Refusals.{dict_refusal, kept}
+use Rattle.vx_model.specs.Column.{Column, IsColumn, column_of}
+use Rattle.vx_model.specs.Plain.{plain, plain_of, validity, valid_bits}
+use Rattle.vx_model.specs.Refusals.{dict_refusal}
 use Rattle.vx_model.specs.Rows.{rows, valid_rows}
 use Rattle.vx_model.specs.Tree.{Tree, Validity, primitive}
 use Rattle.vx_model.specs.TreeType.{tree_type}
-use Rattle.vx_model.specs.WellFormed.{WellFormed}
-use Rattle.vx_model.proofs.DecodeLemmas.{wholes-map-int, no_null-map-int, kept-validity}
-use Rattle.vx_model.proofs.EachIntLemmas.{validity-each_int}
+use Rattle.vx_model.proofs.DecodeLemmas.{wholes-map-int, no_null-map-int}
 use Rattle.vx_scheme.specs.Asked.{FitParts}
 use Rattle.vx_stats.specs.Distinct.{times}
 use Rattle.vx_scheme.specs.Meaning.{parts}
@@ -27,7 +24,7 @@ use Rattle.vx_schemes.specs.Dictionary.Tree.{place_in, code_in, code_type, dicti
 use Rattle.vx_schemes.specs.Dictionary.Meaning.{values_found, dictionary_parts}
 use Rattle.vx_schemes.specs.Pairs.{pair_of}
 use Rattle.vx_schemes.specs.Dictionary.Laws.{dictionary-admitted}
-use Rattle.vx_schemes.proofs.ColumnLemmas.{validity_is}
+use Rattle.vx_schemes.proofs.ColumnLemmas.{each_int-long, each_int-plain}
 
 -- ---- the distinct values without their counts
 
@@ -57,27 +54,19 @@ values-plain c = by_integer (λ t. primitive (integer_of t) ds None (nullability
 
 -- ---- codes
 
-module _ (t : Tree) (p : PType) (xs : List ℤ) (valid : Validity) (n : Nullability) (w : WellFormed t) (at : t ≡ primitive p xs valid n) (is_plain : IsPlain t) where
+module _ (t : Tree) (p : PType) (xs : List ℤ) (valid : Validity) (n : Nullability) (at : primitive p xs valid n ≡ t) where
   abbrev ds : List ℤ
   ds = distinct_values (rows t)
 
-  abbrev coded : List PlainValue
-  coded = map (code_in ds) (rows t)
+  module _ (ys : List ℤ) (are : ys ≡ map whole_or_zero (map (code_in ds) (valid_rows valid (map int xs)))) where
+    wholes : ys ≡ map whole_or_zero (map (code_in ds) (rows t))
+    wholes = are ∙ ap (λ s. map whole_or_zero (map (code_in ds) (rows s))) at
 
-  -- the rows, by what the node holds
-  pub rows-at : valid_rows valid (map int xs) ≡ rows t
-  rows-at = sym (ap rows at)
+    pub codes_long : length ys ≡ length (rows t)
+    codes_long = each_int-long t p (λ z. pos (place_in ds z)) p ys wholes
 
-  valid-codes : valid ≡ validity coded
-  valid-codes = validity_is t p xs valid n w at is_plain ∙ sym (validity-each_int (λ z. pos (place_in ds z)) (rows t))
-
-  own-type : dictionary_codes (column_of t) ≡ column (types.primitive (code_type (distinct_count (rows t))) n) coded
-  own-type = ap (λ s. column (types.primitive (code_type (distinct_count (rows t))) (nullability_of s)) coded) (ap tree_type at)
-
-  pub codes-plain : primitive (code_type (distinct_count (rows t))) (map whole_or_zero coded) (kept valid) n ≡ plain (dictionary_codes (column_of t))
-  codes-plain =
-      let stay : kept valid ≡ validity coded = ap kept valid-codes ∙ kept-validity coded in
-      ap (λ v. primitive (code_type (distinct_count (rows t))) (map whole_or_zero coded) v n) stay ∙ ap plain (sym own-type)
+    pub codes_tree : (q : PType) → q ≡ code_type (length ds) → primitive q ys (validity (rows t)) (nullability_of (tree_type t)) ≡ plain (dictionary_codes (column_of t))
+    codes_tree q e = each_int-plain t (code_type (distinct_count (rows t))) (λ z. pos (place_in ds z)) q ys wholes e
 
 -- ---- the two trees of the parts
 

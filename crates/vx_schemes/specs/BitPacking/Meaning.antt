@@ -1,26 +1,19 @@
 -- What the scheme of bit packing means.
-use Rattle.std.specs.Prelude.{Bool, false, if◌then◌else◌, [], map, codes, refl}
-use Rattle.std.specs.List.{list_any}
+use Rattle.std.specs.Prelude.{false, if◌then◌else◌, [], codes, refl}
 use Rattle.vx_base.specs.IdNumber.{same_id}
 use Rattle.vx_base.specs.PlainType.{is_integer}
-use Rattle.vx_base.specs.PlainValue.{whole_or_zero}
 use Rattle.vx_base.specs.declared.array_id.ArrayId.TheVariants.{BitPacked}
-use Rattle.vx_model.specs.Column.{Column}
 use Rattle.vx_model.specs.Plain.{plain}
 use Rattle.vx_scheme.specs.Lawful.{Lawful}
 use Rattle.vx_scheme.specs.Meaning.{Meaning}
 use Rattle.vx_scheme.specs.declared.estimate.CompressionEstimate.TheVariants.{Verdict, Deferred}
 use Rattle.vx_scheme.specs.declared.estimate.DeferredEstimate.TheVariants.{Sample}
 use Rattle.vx_scheme.specs.declared.estimate.EstimateVerdict.TheVariants.{Skip}
-use Rattle.vx_schemes.specs.BitPacking.Tree.{is_negative, bit_packing_made}
+use Rattle.vx_schemes.specs.BitPacking.Tree.{has_negative, bit_packing_made}
 use Rattle.vx_schemes.specs.Finishing.{finished_or_kept}
 use Rattle.vx_schemes.specs.FinishingLaws.{finishing-lawful}
 use Rattle.vx_schemes.specs.BitPacking.Laws.{bit_packing-lawful}
 use Rattle.vx_schemes.specs.declared.integer.bit_packing.BitPackingScheme.{BitPackingScheme}
-
--- some value of the column is negative
-abbrev pub has_negative : Column → Bool
-has_negative c = list_any is_negative (map whole_or_zero c.values)
 
 -- a column with a negative value is skipped, any other judged by a sample; a tree is the packed rows, and has no parts
 abbrev pub bit_packing_meaning : BitPackingScheme → Meaning

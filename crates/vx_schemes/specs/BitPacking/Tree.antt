@@ -20,6 +20,10 @@ use Rattle.vx_schemes.specs.Widths.{best_width_of}
 abbrev pub is_negative : ℤ → Bool
 is_negative z = int_lt z (pos 0)
 
+-- some value of the column is negative
+abbrev pub has_negative : Column → Bool
+has_negative c = list_any is_negative (map whole_or_zero c.values)
+
 -- the rows side by side at a width, in whole blocks of 1,024; a null and a row that is wider are 0
 abbrev pub packed_bytes : PType → ℕ → List ℤ → List Bool → List ℕ
 packed_bytes p width xs valid = bytes_in (packed_size width (length xs)) (joined width (kept_rows width (map (bits_in p) xs) valid))

@@ -73,7 +73,7 @@ parts-are c columns e = by_test (value_count c.values == 0) e
     by_test true k = absurd cc
     by_test false k = cc
 
-unfinished : (c : Column) (tree : Tree) → dictionary_parts c ≡ finished tree → ⊥
+pub unfinished : (c : Column) (tree : Tree) → dictionary_parts c ≡ finished tree → ⊥
 unfinished c tree e = by_test (value_count c.values == 0) e
   where
     by_test : (b : Bool) → cond b kept (parts (dictionary_values c ∷ dictionary_codes c ∷ [])) ≡ finished tree → ⊥

@@ -7,24 +7,26 @@ use Rattle.std.specs.List.{list_all, reduce}
 use Rattle.std.proofs.lemmas.Bool.{and_parts, cond_both}
 use Rattle.vx_base.specs.declared.ptype.PType.{PType}
 use Rattle.vx_base.specs.declared.dtype.Nullability.{Nullability}
-use Rattle.vx_base.specs.Integers.{lies_in, unsigned_of}
+use Rattle.vx_base.specs.declared.ptype.PType.TheVariants.{U8, U16, U32, U64, I8, I16, I32, I64}
+use Rattle.vx_base.specs.Integers.{lies_in, greatest, unsigned_of}
 use Rattle.vx_base.specs.PlainScalar.{fits, scalar}
 use Rattle.vx_base.specs.PlainType as types
 use Rattle.vx_base.specs.PlainValue.{PlainValue, int}
 use Rattle.vx_base.proofs.IntegerLemmas.{by_integer, integers-lie_in}
-use Rattle.vx_stats.specs.Stats.{valid_wholes}
+use Rattle.vx_stats.specs.Stats.{valid_wholes, least_in}
 use Rattle.vx_schemes.specs.FrameOfReference.Tree.{least_value, less, difference, differences, packed_or_plain, framed}
 use Rattle.vx_base.specs.declared.dtype.Nullability.TheVariants.{NonNullable}
 use Rattle.vx_base.proofs.WrapLemmas.{wrap-held}
 use Rattle.vx_base.proofs.WrapSumLemmas.{wrap-back}
 use Rattle.vx_model.specs.Rows.{moved, rows, summed}
 use Rattle.std.proofs.lemmas.List.{length-map}
-use Rattle.vx_base.specs.PlainType.{is_integer, nullability_of}
-use Rattle.vx_model.specs.Column.{Column, IsColumn, column}
+use Rattle.vx_base.specs.PlainType.{is_integer, integer_of, nullability_of}
+use Rattle.vx_model.specs.Column.{Column, IsColumn, column, column_of}
 use Rattle.vx_model.specs.Plain.{plain}
-use Rattle.vx_model.specs.Tree.{Tree}
+use Rattle.vx_model.specs.Tree.{Tree, frame_of_reference}
 use Rattle.vx_model.specs.TreeType.{tree_type}
-use Rattle.vx_model.specs.WellFormed.{differences_type}
+use Rattle.vx_model.specs.WellFormed.{WellFormed, differences_type}
+use Rattle.vx_scheme.specs.Lawful.{IsPart}
 use Rattle.vx_model.proofs.EachIntLemmas.{all_fit-each_int, each_int-back}
 use Rattle.vx_model.proofs.PackedLemmas.{for_made}
 use Rattle.vx_model.proofs.PlainLemmas.{column_of-plain, plain_well_formed}
@@ -46,6 +48,22 @@ reduce-held p (x ∷ zs) z h e =
     let same : fold int_min x zs ≡ z = cc in
     subst (λ y. lies_in p y ≡ true) same (fold-held p x zs b.0 b.1)
 
+greatest-held : (p : PType) → lies_in p (greatest p) ≡ true
+greatest-held U8 = refl
+greatest-held U16 = refl
+greatest-held U32 = refl
+greatest-held U64 = refl
+greatest-held I8 = refl
+greatest-held I16 = refl
+greatest-held I32 = refl
+greatest-held I64 = refl
+
+-- the least value of statistics, which is the type's greatest where every row is null
+pub least_in-held : (c : Column) → is_integer c.dtype ≡ true → IsColumn c → lies_in (integer_of c.dtype) (least_in (integer_of c.dtype) c.values) ≡ true
+least_in-held c i h =
+    by_integer (λ s. list_all (fits s) c.values ≡ true → lies_in (integer_of s) (least_in (integer_of s) c.values) ≡ true)
+    (λ p n k. fold-held p (greatest p) (valid_wholes c.values) (greatest-held p) (integers-lie_in p n c.values k)) c.dtype i h
+
 pub least-held : (p : PType) (n : Nullability) (vs : List PlainValue) (z : ℤ) → list_all (fits (types.primitive p n)) vs ≡ true → least_value vs ≡ Some z → lies_in p z ≡ true
 least-held p n vs z h e = reduce-held p (valid_wholes vs) z (integers-lie_in p n vs h) e
 
@@ -64,19 +82,39 @@ packed_or_plain-well c i h few = by_made (bit_packing_made c) refl
     by_made None e = (plain_well_formed c h, column_of-plain c)
     by_made (Some t) e = bit_packing-lawful c t i h few e
 
+-- under its reference, any well-formed tree of the differences
+over-typed : (p : PType) (n : Nullability) (vs : List PlainValue) (reference : ℤ) (t : Tree) → list_all (fits (types.primitive p n)) vs ≡ true → lies_in p reference ≡ true → WellFormed t
+    → column_of t ≡ differences (column (types.primitive p n) vs) reference → StandsFor (frame_of_reference t (scalar (types.primitive p NonNullable) (int reference))) (column (types.primitive p n) vs)
+over-typed p n vs reference t h held w same =
+    let least = scalar (types.primitive p NonNullable) (int reference) in
+    let typed : tree_type t ≡ types.primitive (unsigned_of p) n = ap (λ d. d.dtype) same in
+    let values : rows t ≡ map (difference p reference) vs = ap (λ d. d.values) same in
+    let of_type : tree_type t ≡ differences_type least.dtype (tree_type t) = typed ∙ sym (ap (differences_type least.dtype) typed) in
+    let back : map (moved least) (rows t) ≡ vs = ap (map (moved least)) values ∙ moved_back p reference n vs h in
+    (for_made t least refl refl held of_type w, λ i. column (types.primitive p (nullability_of (typed i))) (back i))
+
+module _ (c : Column) (reference : ℤ) (i : is_integer c.dtype ≡ true) (h : IsColumn c) where
+  -- the differences from any reference are a part
+  pub differences-part : IsPart c (differences c reference)
+  differences-part = by_integer (λ s. list_all (fits s) c.values ≡ true → IsPart (column s c.values) (differences (column s c.values) reference)) of_type c.dtype i h
+    where
+      of_type : (p : PType) (n : Nullability) → list_all (fits (types.primitive p n)) c.values ≡ true → IsPart (column (types.primitive p n) c.values) (differences (column (types.primitive p n) c.values) reference)
+      of_type p n k = record { column = differences_fit p reference n c.values k; leaf = refl; rows = omega (arith, length-map c.values (difference p reference)) }
+
+  pub framed-stands : (t : Tree) → lies_in (integer_of c.dtype) reference ≡ true → WellFormed t → column_of t ≡ differences c reference
+      → StandsFor (frame_of_reference t (scalar (types.primitive (integer_of c.dtype) NonNullable) (int reference))) c
+  framed-stands t held w same =
+      by_integer (λ s. list_all (fits s) c.values ≡ true → lies_in (integer_of s) reference ≡ true → column_of t ≡ differences (column s c.values) reference
+      → StandsFor (frame_of_reference t (scalar (types.primitive (integer_of s) NonNullable) (int reference))) (column s c.values))
+      (λ p n k l e. over-typed p n c.values reference t k l w e) c.dtype i h held same
+
 frame-typed : (p : PType) (n : Nullability) (vs : List PlainValue) (reference : ℤ) → length vs ≤ 2 ^ 32 → list_all (fits (types.primitive p n)) vs ≡ true → lies_in p reference ≡ true
     → StandsFor (framed (column (types.primitive p n) vs) reference) (column (types.primitive p n) vs)
 frame-typed p n vs reference few h held =
-    let ref = scalar (types.primitive p NonNullable) (int reference) in
     let c = differences (column (types.primitive p n) vs) reference in
     let long : length c.values ≤ 2 ^ 32 = omega (arith, length-map vs (difference p reference)) in
     let inner = packed_or_plain-well c refl (differences_fit p reference n vs h) long in
-    let encoded = packed_or_plain c in
-    let typed : tree_type encoded ≡ types.primitive (unsigned_of p) n = ap (λ d. d.dtype) inner.1 in
-    let values : rows encoded ≡ map (difference p reference) vs = ap (λ d. d.values) inner.1 in
-    let of_type : tree_type encoded ≡ differences_type ref.dtype (tree_type encoded) = typed ∙ sym (ap (differences_type ref.dtype) typed) in
-    let back : map (moved ref) (rows encoded) ≡ vs = ap (map (moved ref)) values ∙ moved_back p reference n vs h in
-    (for_made encoded ref refl refl held of_type inner.0, λ i. column (types.primitive p (nullability_of (typed i))) (back i))
+    over-typed p n vs reference (packed_or_plain c) h held inner.0 inner.1
 
 for-typed : (p : PType) (n : Nullability) (vs : List PlainValue) (t : Tree) → length vs ≤ 2 ^ 32 → list_all (fits (types.primitive p n)) vs ≡ true → made.for_made (column (types.primitive p n) vs) ≡ Some t → StandsFor t (column (types.primitive p n) vs)
 for-typed p n vs t few h e = by_least (least_value vs) refl e

@@ -1,9 +1,8 @@
 -- The zigzags of a column's rows are a column, and zigzag over a tree of them stands for the rows.
-use Rattle.std.proofs.Common.{◌≡◌, ◌≤◌, ◌∙◌, ℤ, Bool, true, false, List, [], ◌∷◌, length, map, Option, None, Some, refl, sym, ap, subst, arith}
-use Rattle.std.specs.Prelude.{not, All, if◌then◌else◌}
+use Rattle.std.proofs.Common.{◌≡◌, ◌∙◌, ℤ, Bool, true, false, List, [], ◌∷◌, map, Option, None, Some, refl, ap, arith}
+use Rattle.std.specs.Prelude.{not}
 use Rattle.std.specs.List.{list_all}
 use Rattle.std.proofs.lemmas.List.{length-map}
-use Rattle.std.proofs.lemmas.List.Elements.{All-from_recursion, recursion_from_All}
 use Rattle.vx_base.specs.declared.ptype.PType.{PType}
 use Rattle.vx_base.specs.declared.ptype.PType.TheVariants.{U8, U16, U32, U64, I8, I16, I32, I64}
 use Rattle.vx_base.specs.declared.dtype.Nullability.{Nullability}
@@ -22,13 +21,13 @@ use Rattle.vx_model.specs.WellFormed.{WellFormed}
 use Rattle.vx_model.proofs.EachIntLemmas.{all_fit-each_int}
 use Rattle.vx_model.proofs.ZigZagLemmas.{zig_zag_accepted}
 use Rattle.vx_scheme.specs.Lawful.{IsPart}
-use Rattle.vx_scheme.specs.Meaning.{kept, finished, parts}
+use Rattle.vx_schemes.specs.OnePart.{PartStands}
 use Rattle.vx_schemes.specs.StandsFor.{StandsFor}
-use Rattle.vx_schemes.specs.ZigZag.Tree.{zigzag_whole, zigzagged, zigzags, zig_zag_made, zig_zag_over}
+use Rattle.vx_schemes.specs.ZigZag.Tree.{zigzag_whole, zigzagged, zigzags}
 
 -- ---- the types of zigzags
 
-unsigned-not_signed : (p : PType) → not (is_signed (unsigned_of p)) ≡ true
+pub unsigned-not_signed : (p : PType) → not (is_signed (unsigned_of p)) ≡ true
 unsigned-not_signed U8 = refl
 unsigned-not_signed U16 = refl
 unsigned-not_signed U32 = refl
@@ -86,33 +85,14 @@ over-well c t j fit e w h =
         let back : map unzigzagged (rows t) ≡ c.values = ap (map unzigzagged) values ∙ by_cells p n (λ vs. map unzigzagged (map zigzagged vs) ≡ vs) (λ os f. given_back os) c.values k in
         (zig_zag_accepted t (rw unsigned refl) w, λ i. column (own i) (back i))
 
--- ---- the laws of what is made
+-- ---- what a scheme with one part owes
 
-pub not_finished : (c : Column) (tree : Tree) → zig_zag_made c ≡ finished tree → ⊥
-not_finished c tree e = by_test (is_unsigned c.dtype) e
-  where
-    by_test : (b : Bool) → (if b then kept else parts (zigzags c ∷ [])) ≡ finished tree → ⊥
-    by_test true q = cc
-    by_test false q = cc
+signed-test : (b : Bool) → not b ≡ true → b ≡ false
+signed-test true h = absurd cc
+signed-test false h = refl
 
-made-parts : (c : Column) (columns : List Column) → zig_zag_made c ≡ parts columns → (is_unsigned c.dtype ≡ false) × (zigzags c ∷ [] ≡ columns)
-made-parts c columns e = by_test (is_unsigned c.dtype) refl e
-  where
-    by_test : (b : Bool) → is_unsigned c.dtype ≡ b → (if b then kept else parts (zigzags c ∷ [])) ≡ parts columns → (is_unsigned c.dtype ≡ false) × (zigzags c ∷ [] ≡ columns)
-    by_test true s q = absurd cc
-    by_test false s q = (s, cc)
-
-pub few-parts : (c : Column) (columns : List Column) → zig_zag_made c ≡ parts columns → length columns ≤ 1
-few-parts c columns e = subst (λ cs. length cs ≤ 1) (made-parts c columns e).1 (omega arith)
-
-pub small-parts : (c : Column) (columns : List Column) → is_integer c.dtype ≡ true → IsColumn c → zig_zag_made c ≡ parts columns → All (IsPart c) columns
-small-parts c columns j h e =
-    let made = made-parts c columns e in
-    subst (All (IsPart c)) made.1 (All-from_recursion (IsPart c) (zigzags c ∷ []) (zigzags-part c j h made.0, tt))
-
-pub joined-well : (c : Column) (columns : List Column) (trees : List Tree) → is_integer c.dtype ≡ true → IsColumn c → zig_zag_made c ≡ parts columns → All WellFormed trees → map column_of trees ≡ columns → StandsFor (zig_zag_over c trees) c
-joined-well c columns trees j h e well fit = let made = made-parts c columns e in by_trees trees made.0 well (fit ∙ sym made.1)
-  where
-    by_trees : (ts : List Tree) → is_unsigned c.dtype ≡ false → All WellFormed ts → map column_of ts ≡ zigzags c ∷ [] → StandsFor (zig_zag_over c ts) c
-    by_trees [] s w q = absurd cc
-    by_trees (t ∷ ts) s w q = over-well c t j h s (recursion_from_All WellFormed (t ∷ ts) w).0 cc
+pub zig_zag-stands : PartStands is_integer (λ c. not (is_unsigned c.dtype)) zigzags (λ c tree. zig_zag tree)
+zig_zag-stands = record {
+  is_part = λ c j h signed. zigzags-part c j h (signed-test (is_unsigned c.dtype) signed);
+  stands = λ c tree j h signed well same. over-well c tree j h (signed-test (is_unsigned c.dtype) signed) well same;
+}

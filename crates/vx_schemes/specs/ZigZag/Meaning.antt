@@ -1,8 +1,10 @@
 -- What the scheme of zigzag means.
-use Rattle.std.specs.Prelude.{◌==◌, not, ◌||◌, false, if◌then◌else◌, List, [], ◌∷◌, codes}
+use Rattle.std.specs.Prelude.{◌==◌, not, ◌||◌, false, if◌then◌else◌, List, [], ◌∷◌, codes, refl}
+use Rattle.std.proofs.Common.{arith}
 use Rattle.vx_base.specs.IdNumber.{same_id}
-use Rattle.vx_base.specs.PlainType.{is_integer}
+use Rattle.vx_base.specs.PlainType.{is_integer, is_unsigned}
 use Rattle.vx_base.specs.declared.array_id.ArrayId.TheVariants.{ZigZag}
+use Rattle.vx_model.specs.Tree.{zig_zag}
 use Rattle.vx_scheme.specs.Lawful.{Lawful}
 use Rattle.vx_scheme.specs.Meaning.{Meaning}
 use Rattle.vx_scheme.specs.Rules.{Rule}
@@ -10,10 +12,11 @@ use Rattle.vx_scheme.specs.declared.estimate.CompressionEstimate.TheVariants.{Ve
 use Rattle.vx_scheme.specs.declared.estimate.DeferredEstimate.TheVariants.{Sample}
 use Rattle.vx_scheme.specs.declared.estimate.EstimateVerdict.TheVariants.{Skip}
 use Rattle.vx_scheme.specs.declared.selection.ChildSelection.TheVariants.{All}
-use Rattle.vx_schemes.specs.BitPacking.Meaning.{has_negative}
+use Rattle.vx_schemes.specs.BitPacking.Tree.{has_negative}
 use Rattle.vx_schemes.specs.Exclusions.{not_in_codes}
-use Rattle.vx_schemes.specs.ZigZag.Tree.{zig_zag_made, zig_zag_over}
-use Rattle.vx_schemes.specs.ZigZag.Laws.{not_finished, joined-well, few-parts, small-parts}
+use Rattle.vx_schemes.specs.OnePartLaws.{one_part-lawful}
+use Rattle.vx_schemes.specs.ZigZag.Tree.{zigzags, zig_zag_made, zig_zag_over}
+use Rattle.vx_schemes.specs.ZigZag.Laws.{zig_zag-stands}
 use Rattle.vx_schemes.specs.declared.integer.zig_zag.ZigZagScheme.{ZigZagScheme}
 
 -- no dictionary, runs or sparse values below: what equal values are worth, they are worth before their zigzag
@@ -39,9 +42,4 @@ zig_zag_meaning s = record {
 }
 
 pub zig_zag_lawful : (s : ZigZagScheme) → Lawful (zig_zag_meaning s)
-zig_zag_lawful s = record {
-  finished_well = λ c site tree asked e. absurd (not_finished c tree e);
-  joined_well = λ c site columns trees asked e well fit. joined-well c columns trees asked.taken asked.column e well fit;
-  few_parts = λ c site columns asked e. few-parts c columns e;
-  small_parts = λ c site columns asked e. small-parts c columns asked.taken asked.column e;
-}
+zig_zag_lawful s = one_part-lawful (zig_zag_meaning s) (λ c. not (is_unsigned c.dtype)) zigzags (λ c tree. zig_zag tree) (λ c site. refl) (λ c site tree. refl) (omega arith) zig_zag-stands

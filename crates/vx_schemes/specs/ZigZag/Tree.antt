@@ -1,15 +1,15 @@
 -- What zigzag makes of a column of integers: one part, with the zigzags of its rows.
-use Rattle.std.specs.Prelude.{ℤ, pos, if◌then◌else◌, List, [], ◌∷◌, map}
+use Rattle.std.specs.Prelude.{ℤ, pos, not, List, map}
 use Rattle.vx_base.specs.Integers.{unsigned_of}
 use Rattle.vx_base.specs.PlainType.{integer_of, nullability_of, is_unsigned}
 use Rattle.vx_base.specs.PlainType as types
 use Rattle.vx_base.specs.PlainValue.{PlainValue}
 use Rattle.vx_base.specs.ZigZag.{zigzag}
 use Rattle.vx_model.specs.Column.{Column, column}
-use Rattle.vx_model.specs.Plain.{plain}
 use Rattle.vx_model.specs.Rows.{each_int}
 use Rattle.vx_model.specs.Tree.{Tree, zig_zag}
-use Rattle.vx_scheme.specs.Meaning.{PlainSplit, kept, parts}
+use Rattle.vx_scheme.specs.Meaning.{PlainSplit}
+use Rattle.vx_schemes.specs.OnePart.{part_where, over_part}
 
 -- the zigzag as a whole number
 abbrev pub zigzag_whole : ℤ → ℤ
@@ -25,9 +25,8 @@ zigzags c = column (types.primitive (unsigned_of (integer_of c.dtype)) (nullabil
 
 -- a column of an unsigned type stays plain
 abbrev pub zig_zag_made : Column → PlainSplit
-zig_zag_made c = if is_unsigned c.dtype then kept else parts (zigzags c ∷ [])
+zig_zag_made c = part_where (not (is_unsigned c.dtype)) (zigzags c)
 
 -- zigzag over the part's tree
 abbrev pub zig_zag_over : Column → List Tree → Tree
-zig_zag_over c [] = plain c
-zig_zag_over c (tree ∷ trees) = zig_zag tree
+zig_zag_over = over_part (λ c tree. zig_zag tree)

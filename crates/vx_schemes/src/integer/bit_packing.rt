@@ -8,8 +8,9 @@ ghost use Rattle.vx_model.specs.Rows.{rows};
 ghost use Rattle.vx_model.specs.TreeType.{tree_type};
 ghost use Rattle.vx_scheme.specs.Asked.{most_rows};
 ghost use Rattle.vx_scheme.specs.Bundle.{SameArray};
-ghost use Rattle.vx_schemes.specs.BitPacking.Meaning.{bit_packing_meaning, has_negative};
-ghost use Rattle.vx_schemes.specs.Finishing.{FinishesProduced};
+ghost use Rattle.vx_schemes.specs.BitPacking.Meaning.{bit_packing_meaning};
+ghost use Rattle.vx_schemes.specs.BitPacking.Tree.{has_negative};
+ghost use Rattle.vx_schemes.specs.Produced.{MakesProduced};
 
 mod tree;
 
@@ -33,7 +34,7 @@ pub struct BitPackingScheme(());
 impl BitPackingScheme {
     /// The scheme that has one width for the whole column.
     pub fn v1() -> BitPackingScheme
-        ensures { FinishesProduced (bit_packing_meaning result) }
+        ensures { MakesProduced (bit_packing_meaning result) }
     {
         BitPackingScheme(())
     }
@@ -129,6 +130,9 @@ impl Scheme for BitPackingScheme {
     ) -> VortexResult<Split> {
         steps.tick();
         if !self.matches(column.array().dtype()) {
+            return Ok(Split::Kept);
+        }
+        if has_negative(column)? {
             return Ok(Split::Kept);
         }
         Ok(finished_or_kept(bit_packing_tree(column.array(), ctx)?))

@@ -28,7 +28,8 @@ pub use encoding::integer_dictionary_encode;
 use ratio::verdict_by;
 use std::alloc::Global;
 use std::sync::ledger::Ledger;
-use tree::{dictionary, values_and_codes};
+pub use tree::dictionary_tree;
+use tree::values_and_codes;
 use vx_array::{ArrayRef, Arrays};
 use vx_base::{ArrayId, DType, ExecutionCtx, Fraction, IdSet, Steps, VortexResult};
 use vx_scheme::{
@@ -183,7 +184,7 @@ impl Scheme for IntDictScheme {
             return array.copy(ctx.alloc());
         }
         match pair_of(trees) {
-            Some((values, codes)) => dictionary(ctx.alloc(), codes, values),
+            Some((values, codes)) => dictionary_tree(ctx.alloc(), codes, values),
             None => array.copy(ctx.alloc()),
         }
     }

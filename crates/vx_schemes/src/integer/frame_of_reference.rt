@@ -9,7 +9,7 @@ ghost use Rattle.vx_scheme.specs.Asked.{most_rows};
 ghost use Rattle.vx_scheme.specs.Bundle.{SameArray};
 ghost use Rattle.vx_stats.specs.Erased.{extremes_of};
 ghost use Rattle.vx_schemes.specs.FrameOfReference.Tree.{least_value};
-ghost use Rattle.vx_schemes.specs.Finishing.{FinishesProduced};
+ghost use Rattle.vx_schemes.specs.Produced.{MakesProduced};
 ghost use Rattle.vx_schemes.specs.FrameOfReference.Meaning.{for_meaning, is_as_wide, gains_nothing, for_verdict};
 
 mod tree;
@@ -20,6 +20,7 @@ use crate::widths::digits;
 use std::alloc::Global;
 use std::sync::ledger::Ledger;
 use tree::frame_of_reference_tree;
+pub use tree::{differences, framed};
 use vx_array::{ArrayRef, Arrays};
 use vx_base::{ArrayId, DType, ExecutionCtx, Fraction, IdSet, Steps, VortexResult};
 use vx_scheme::{
@@ -37,7 +38,7 @@ pub struct FoRScheme(());
 impl FoRScheme {
     /// One reference for the whole column.
     pub fn v1() -> Self
-        ensures { FinishesProduced (for_meaning result) }
+        ensures { MakesProduced (for_meaning result) }
     {
         FoRScheme(())
     }

@@ -1,6 +1,6 @@
 //! The scheme of zigzag.
 
-ghost use Rattle.std.specs.Prelude.{◌≡◌, ◌≤◌, true, length, option_to_list, IsTrue};
+ghost use Rattle.std.specs.Prelude.{◌≡◌, true, IsTrue};
 ghost use Rattle.vx_base.specs.Answers.{Answers, OrMemory};
 ghost use Rattle.vx_base.specs.PlainType.{is_integer, is_unsigned};
 ghost use Rattle.vx_model.specs.Column.{column_of};
@@ -19,6 +19,7 @@ mod tree;
 
 use crate::exclusions::not_in_codes;
 use crate::integer::bit_packing::has_negative;
+use crate::single::{one_part, only};
 use std::alloc::Global;
 use std::sync::ledger::Ledger;
 use tree::zigzags;
@@ -68,16 +69,7 @@ fn parts_or_kept(alloc: Global, array: &ArrayRef) -> VortexResult<Split>
     if array.dtype().is_unsigned() {
         return Ok(Split::Kept);
     }
-    let parts = vec![in alloc; zigzags(alloc, array)?]?;
-    Ok(Split::Parts(Arrays::from_vec(parts)))
-}
-
-// The tree, where there is one.
-fn only(trees: Arrays) -> Option<ArrayRef>
-    requires { length trees ≤ 1 }
-    ensures { option_to_list result ≡ trees }
-{
-    trees.into_vec().pop()
+    one_part(alloc, zigzags(alloc, array)?)
 }
 
 // The integers whose zigzag a tree has.

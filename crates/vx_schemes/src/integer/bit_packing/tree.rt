@@ -1,46 +1,44 @@
 //! Bit packing.
 
-ghost use Rattle.std.specs.Prelude.{◌≡◌, ◌≤◌, ◌^◌, None, Some, Ok, pos, length, map, replicate, true, nat_le, unwrap_or};
-ghost use Rattle.vx_base.specs.Answers.{Answers};
-ghost use Rattle.vx_base.specs.Integers.{natural_bits};
+ghost use Rattle.std.specs.Prelude.{◌≡◌, ◌<◌, ◌≤◌, ◌+◌, ◌^◌, ◌==◌, not, [], Some, pos, length, map, replicate, drop, true, false, nat_le, unwrap_or, IsTrue};
+ghost use Rattle.std.specs.List.{list_all, list_any};
+ghost use Rattle.vx_base.specs.Answers.{Answers, OrMemory};
+ghost use Rattle.vx_base.specs.Integers.{bits_in, lies_in, natural_bits};
+ghost use Rattle.vx_base.specs.Packed.{wide_rows};
 ghost use Rattle.vx_base.specs.PlainValue.{int};
-ghost use Rattle.vx_base.specs.declared.dtype.Nullability.TheVariants.{NonNullable};
 ghost use Rattle.vx_model.specs.Column.{column_of};
 ghost use Rattle.vx_model.specs.Plain.{IsPlain};
 ghost use Rattle.vx_model.specs.Refusals.{validity_allowed};
 ghost use Rattle.vx_model.specs.Rows.{rows};
-ghost use Rattle.vx_model.specs.Tree.{primitive};
 ghost use Rattle.vx_model.specs.WellFormed.{ascend};
 ghost use Rattle.vx_values.specs.IntsOf.{ptype_of, wholes_of};
-ghost use Rattle.vx_schemes.specs.BitPacking.Tree.{bit_packing_made, packing_of, packed_tree, patches_of, patches_at};
+ghost use Rattle.vx_schemes.specs.BitPacking.Tree.{is_negative, has_negative, bit_packing_made, packing_of, packed_tree, patches_of, patches_at};
 ghost use Rattle.vx_schemes.specs.Widths.{best_width_of};
 
 use crate::patches::compress_patches;
+use crate::whole::whole_tree;
 use std::alloc::Global;
-use vx_array::{ArrayRef, Node, Patches};
+use vx_array::{ArrayRef, Patches};
 use vx_base::{ExecutionCtx, IntList, Mask, Nullability, VortexResult};
 use vx_blocks::best_width;
 use vx_values::Ints;
 
-/// A plain column of integers packed at the width of least cost, with the values that are wider as patches. None where
-/// a value is negative, or where that width is the type's.
+/// A plain column of integers of which none is negative, packed at the width of least cost, with the values that are
+/// wider as patches. None where that width is the type's.
+#[tactic(auto, using(vx_model::proofs::PrimitiveLemmas::plain_roots))]
 pub(crate) fn bit_packing_tree(
     plain: &ArrayRef,
     ctx: &mut ExecutionCtx,
 ) -> VortexResult<Option<ArrayRef>>
     requires plain { IsPlain plain.now }
+    requires natural { has_negative (column_of plain.now) ≡ false }
     requires few { length (rows plain.now) ≤ 2 ^ 32 }
     ensures answer { Answers result (bit_packing_made (column_of plain.now)) }
     ensures ctx { ctx.new ≡ ctx.old }
 {
-    plain.known();
-    match plain.node() {
-        Node::Primitive(values, valid, nullability) => {
-            let valid = mask_of(ctx.alloc(), valid, values.len())?;
-            packing(values, valid, *nullability, ctx)
-        }
-        _ => unreachable!(),
-    }
+    let (values, valid, nullability) = plain.as_primitive();
+    let valid = mask_of(ctx.alloc(), valid, values.len())?;
+    packing(values, valid, nullability, ctx)
 }
 
 // The validity with a bit for each row.
@@ -53,37 +51,55 @@ fn mask_of(alloc: Global, valid: &Option<Mask>, len: u64) -> VortexResult<Mask>
     }
 }
 
-// The same of whole numbers and their validity.
+// The same of integers and their validity.
 fn packing(
     values: &Ints,
     valid: Mask,
     nullability: Nullability,
     ctx: &mut ExecutionCtx,
 ) -> VortexResult<Option<ArrayRef>>
+    requires held { IsTrue (list_all (lies_in (ptype_of values.now)) (wholes_of values.now)) }
+    requires natural { list_any is_negative (wholes_of values.now) ≡ false }
     requires same { length valid ≡ length (wholes_of values.now) }
     requires few { length (wholes_of values.now) ≤ 2 ^ 32 }
     requires allowed { validity_allowed (Some valid) nullability ≡ true }
     ensures answer { Answers result (packing_of (ptype_of values.now) nullability (wholes_of values.now) valid) }
     ensures ctx { ctx.new ≡ ctx.old }
 {
-    if values.has_negative() {
-        return Ok(None);
-    }
-    let width = best_width_of(ctx.alloc(), values, &valid)?;
+    let (width, wider) = best_width_of(ctx.alloc(), values, &valid)?;
     if width == values.ptype().bit_width() {
         return Ok(None);
     }
-    Ok(Some(packed_tree(values, valid, width, nullability, ctx)?))
+    Ok(Some(packed_tree(values, valid, width, wider, nullability, ctx)?))
 }
 
-// The width of least cost.
-fn best_width_of(alloc: Global, values: &Ints, valid: &Mask) -> VortexResult<u32>
+// The width of least cost, and whether some row is wider.
+fn best_width_of(alloc: Global, values: &Ints, valid: &Mask) -> VortexResult<(u32, bool)>
+    requires held { IsTrue (list_all (lies_in (ptype_of values.now)) (wholes_of values.now)) }
+    requires natural { list_any is_negative (wholes_of values.now) ≡ false }
     requires same { length valid.now ≡ length (wholes_of values.now) }
     requires few { length (wholes_of values.now) ≤ 2 ^ 32 }
-    ensures { Answers result (best_width_of (ptype_of values.now) (wholes_of values.now) valid.now) }
+    ensures width { OrMemory result (λ best. best.0 ≡ best_width_of (ptype_of values.now) (wholes_of values.now) valid.now) }
+    ensures wider { OrMemory result (λ best. best.1 ≡ false → wide_rows best.0 (map (bits_in (ptype_of values.now)) (wholes_of values.now)) valid.now ≡ []) }
 {
     let counts = values.bit_width_histogram(alloc, valid)?;
-    Ok(best_width(counts.as_slice(), values.ptype()))
+    let width = best_width(counts.as_slice(), values.ptype());
+    let wider = counts_above(counts.as_slice(), width);
+    Ok((width, wider))
+}
+
+// Whether a histogram counts some row above a width.
+fn counts_above(counts: &[u64], width: u32) -> bool
+    requires { width < length counts.now }
+    ensures { result ≡ list_any (λ count. not (count == 0)) (drop (width + 1) counts.now) }
+{
+    some_counted(&counts[width as usize + 1..])
+}
+
+fn some_counted(counts: &[u64]) -> bool
+    ensures { result ≡ list_any (λ count. not (count == 0)) counts.now }
+{
+    counts.iter().any(|count| *count != 0)
 }
 
 // The rows packed at a width, and those that are wider as patches.
@@ -91,9 +107,11 @@ fn packed_tree(
     values: &Ints,
     valid: Mask,
     width: u32,
+    wider: bool,
     nullability: Nullability,
     ctx: &mut ExecutionCtx,
 ) -> VortexResult<ArrayRef>
+    requires wider { wider ≡ false → wide_rows width (map (bits_in (ptype_of values.now)) (wholes_of values.now)) valid ≡ [] }
     requires same { length valid ≡ length (wholes_of values.now) }
     requires allowed { validity_allowed (Some valid) nullability ≡ true }
     requires narrow { nat_le width (natural_bits (ptype_of values.now)) ≡ true }
@@ -102,8 +120,7 @@ fn packed_tree(
 {
     let alloc = ctx.alloc();
     let packed = values.pack(alloc, &valid, width)?;
-    let wide = values.wide_rows(alloc, &valid, width)?;
-    let patches = patches_of(values, wide, ctx)?;
+    let patches = wide_patches(values, &valid, width, wider, ctx)?;
     let ptype = values.ptype();
     match ArrayRef::bit_packed(
         alloc,
@@ -118,6 +135,27 @@ fn packed_tree(
         Ok(tree) => Ok(tree),
         Err(refused) => Err(refused.error),
     }
+}
+
+// The rows that are wider than a width as patches in their short form, where there are such rows.
+fn wide_patches(
+    values: &Ints,
+    valid: &Mask,
+    width: u32,
+    wider: bool,
+    ctx: &mut ExecutionCtx,
+) -> VortexResult<Option<Patches>>
+    requires wider { wider ≡ false → wide_rows width (map (bits_in (ptype_of values.now)) (wholes_of values.now)) valid.now ≡ [] }
+    requires same { length valid.now ≡ length (wholes_of values.now) }
+    requires narrow { nat_le width (natural_bits (ptype_of values.now)) ≡ true }
+    ensures answer { Answers result (patches_of (ptype_of values.now) (wholes_of values.now) (wide_rows width (map (bits_in (ptype_of values.now)) (wholes_of values.now)) valid.now)) }
+    ensures ctx { ctx.new ≡ ctx.old }
+{
+    if !wider {
+        return Ok(None);
+    }
+    let wide = values.wide_rows(ctx.alloc(), valid, width)?;
+    patches_of(values, wide, ctx)
 }
 
 // The values of some rows as patches in their short form, where there are such rows.
@@ -143,20 +181,10 @@ fn patches_at(alloc: Global, values: &Ints, rows: IntList<u64>) -> VortexResult<
     ensures { Answers result (patches_at (ptype_of values.now) (wholes_of values.now) rows) }
 {
     let patched = values.gathered(alloc, rows.as_slice())?;
-    let indices = whole_tree(Ints::U64(rows))?;
-    let patched = whole_tree(patched)?;
+    let indices = whole_tree(Ints::U64(rows), Nullability::NonNullable)?;
+    let patched = whole_tree(patched, Nullability::NonNullable)?;
     match Patches::new(values.len(), 0, indices, patched) {
         Ok(patches) => Ok(patches),
-        Err(refused) => Err(refused.error),
-    }
-}
-
-// A tree of integers without nulls.
-fn whole_tree(values: Ints) -> VortexResult<ArrayRef>
-    ensures { result ≡ Ok (primitive (ptype_of values) (wholes_of values) None NonNullable) }
-{
-    match ArrayRef::primitive(values, None, Nullability::NonNullable) {
-        Ok(tree) => Ok(tree),
         Err(refused) => Err(refused.error),
     }
 }

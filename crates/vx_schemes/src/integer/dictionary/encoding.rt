@@ -12,7 +12,7 @@ ghost use Rattle.vx_stats.specs.Stats.{distinct_values, stats_of};
 ghost use Rattle.vx_schemes.specs.Dictionary.Tree.{dictionary_of, distinct_options};
 
 use super::distinct_ints::distinct_ints;
-use super::tree::{dictionary, values_and_codes};
+use super::tree::{dictionary_tree, values_and_codes};
 use std::alloc::Global;
 use vx_array::ArrayRef;
 use vx_base::{ExecutionCtx, VortexResult};
@@ -66,5 +66,5 @@ fn plain_encoded(alloc: Global, array: &ArrayRef, values: Ints) -> VortexResult<
 {
     array.known();
     let (values, codes) = values_and_codes(alloc, array, values)?;
-    dictionary(alloc, codes, values)
+    dictionary_tree(alloc, codes, values)
 }

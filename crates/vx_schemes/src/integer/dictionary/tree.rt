@@ -7,18 +7,19 @@ ghost use Rattle.vx_base.specs.PlainType.{is_integer, integer_of};
 ghost use Rattle.vx_base.specs.PlainValue.{int, whole_or_zero};
 ghost use Rattle.vx_model.specs.Column.{column_of};
 ghost use Rattle.vx_model.specs.Plain.{IsPlain, plain};
-ghost use Rattle.vx_model.specs.Refusals.{validity_length, primitive_refusal, dict_refusal, kept};
+ghost use Rattle.vx_model.specs.Refusals.{validity_length, dict_refusal};
 ghost use Rattle.vx_model.specs.Rows.{rows, valid_rows};
-ghost use Rattle.vx_model.specs.Tree.{primitive, dict};
+ghost use Rattle.vx_model.specs.Tree.{dict};
 ghost use Rattle.vx_model.specs.TreeType.{tree_type};
 ghost use Rattle.vx_stats.specs.Stats.{distinct_values};
 ghost use Rattle.vx_schemes.specs.Dictionary.Tree.{code_in, code_type, dictionary_values, dictionary_codes};
 
 use super::codes::narrowed_codes;
+use crate::whole::whole_tree;
 use std::alloc::Global;
-use vx_array::{ArrayRef, Node};
-use vx_base::{Mask, Nullability, VortexResult};
-use vx_values::{Ints, copy_validity};
+use vx_array::ArrayRef;
+use vx_base::{Mask, VortexResult};
+use vx_values::Ints;
 
 // The arm of one type; the values are of the same.
 macro_rules! codes_of_type {
@@ -57,18 +58,8 @@ fn codes_of_ints(
     codes_by_type!(alloc, items, valid, values; U8, U16, U32, U64, I8, I16, I32, I64)
 }
 
-// A plain tree of integers whose validity is allowed.
-fn plain_tree(values: Ints, valid: Option<Mask>, nullability: Nullability) -> VortexResult<ArrayRef>
-    requires { primitive_refusal (length (wholes_of values)) valid nullability ≡ None }
-    ensures { Answers result (primitive (ptype_of values) (wholes_of values) (kept valid) nullability) }
-{
-    match ArrayRef::primitive(values, valid, nullability) {
-        Ok(tree) => Ok(tree),
-        Err(refused) => Err(refused.error),
-    }
-}
-
 // The codes of a column's rows among its distinct values, null where the row is.
+#[tactic(auto, using(vx_model::proofs::PrimitiveLemmas::plain_roots))]
 fn codes_tree(alloc: Global, array: &ArrayRef, values: &Ints) -> VortexResult<ArrayRef>
     requires plain { IsPlain array.now }
     requires ptype { ptype_of values.now ≡ integer_of (tree_type array.now) }
@@ -76,14 +67,8 @@ fn codes_tree(alloc: Global, array: &ArrayRef, values: &Ints) -> VortexResult<Ar
     requires few { length (wholes_of values.now) < 2 ^ 32 }
     ensures { Answers result (plain (dictionary_codes (column_of array.now))) }
 {
-    array.known();
-    match array.node() {
-        Node::Primitive(items, valid, nullability) => {
-            let codes = codes_of_ints(alloc, items, valid, values)?;
-            plain_tree(codes, copy_validity(valid, alloc)?, *nullability)
-        }
-        _ => unreachable!(),
-    }
+    let (items, valid, _) = array.as_primitive();
+    array.with_integers(alloc, codes_of_ints(alloc, items, valid, values)?)
 }
 
 // The distinct values of a column, of its type.
@@ -93,7 +78,7 @@ fn values_tree(array: &ArrayRef, values: Ints) -> VortexResult<ArrayRef>
     requires values { wholes_of values ≡ distinct_values (rows array.now) }
     ensures { Answers result (plain (dictionary_values (column_of array.now))) }
 {
-    plain_tree(values, None, array.dtype().nullability())
+    whole_tree(values, array.dtype().nullability())
 }
 
 /// The distinct values of a plain column of integers, and the codes of its rows among them.
@@ -115,7 +100,7 @@ pub(crate) fn values_and_codes(
 }
 
 /// The codes over the values, each code null or a place of a value.
-pub(crate) fn dictionary(alloc: Global, codes: ArrayRef, values: ArrayRef) -> VortexResult<ArrayRef>
+pub fn dictionary_tree(alloc: Global, codes: ArrayRef, values: ArrayRef) -> VortexResult<ArrayRef>
     requires { dict_refusal codes values ≡ None }
     ensures { Answers result (dict codes values) }
 {

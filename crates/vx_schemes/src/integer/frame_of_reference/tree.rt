@@ -1,6 +1,6 @@
 //! Integers as differences from a reference.
 
-ghost use Rattle.std.specs.Prelude.{◌≡◌, ◌≤◌, ◌^◌, length, IsTrue};
+ghost use Rattle.std.specs.Prelude.{◌≡◌, ◌≤◌, ◌^◌, false, length, IsTrue};
 ghost use Rattle.vx_base.specs.Answers.{Answers};
 ghost use Rattle.vx_base.specs.declared.dtype.Nullability.TheVariants.{NonNullable};
 ghost use Rattle.vx_base.specs.Integers.{lies_in};
@@ -14,13 +14,13 @@ ghost use Rattle.vx_model.specs.Rows.{rows};
 ghost use Rattle.vx_model.specs.Tree.{frame_of_reference};
 ghost use Rattle.vx_model.specs.TreeType.{tree_type};
 ghost use Rattle.vx_model.specs.WellFormed.{differences_type};
+ghost use Rattle.vx_schemes.specs.BitPacking.Tree.{has_negative};
 ghost use Rattle.vx_schemes.specs.FrameOfReference.Tree.{least_value, differences, packed_or_plain, for_made};
 
 use crate::integer::bit_packing::bit_packing_tree;
 use std::alloc::Global;
-use vx_array::{ArrayRef, Node};
+use vx_array::ArrayRef;
 use vx_base::{ExecutionCtx, Nullability, PType, Scalar, VortexResult};
-use vx_values::copy_validity;
 
 /// A plain column of integers as differences from its least value, bit packed, or plain where bit packing makes nothing
 /// of them. None where there is no least value, since every row is null.
@@ -48,6 +48,7 @@ pub(crate) fn frame_of_reference_tree(
 // The differences bit packed, or as they are where bit packing makes nothing of them.
 fn packed_or_plain(array: ArrayRef, ctx: &mut ExecutionCtx) -> VortexResult<ArrayRef>
     requires plain { IsPlain array }
+    requires natural { has_negative (column_of array) ≡ false }
     requires few { length (rows array) ≤ 2 ^ 32 }
     ensures answer { Answers result (packed_or_plain (column_of array)) }
     ensures ctx { ctx.new ≡ ctx.old }
@@ -58,8 +59,13 @@ fn packed_or_plain(array: ArrayRef, ctx: &mut ExecutionCtx) -> VortexResult<Arra
     }
 }
 
-// The differences from a reference of the type, under it.
-fn framed(alloc: Global, encoded: ArrayRef, ptype: PType, reference: i128) -> VortexResult<ArrayRef>
+/// A tree of differences under their reference, which is of the type that the rows get.
+pub fn framed(
+    alloc: Global,
+    encoded: ArrayRef,
+    ptype: PType,
+    reference: i128,
+) -> VortexResult<ArrayRef>
     requires held { IsTrue (lies_in ptype reference) }
     requires of_type { tree_type encoded ≡ differences_type (types.primitive ptype NonNullable) (tree_type encoded) }
     ensures { Answers result (frame_of_reference encoded (scalar (types.primitive ptype NonNullable) (int reference))) }
@@ -71,23 +77,16 @@ fn framed(alloc: Global, encoded: ArrayRef, ptype: PType, reference: i128) -> Vo
     }
 }
 
-// The rows less a reference, 0 beneath nulls, as a plain tree of the unsigned type of their width.
-fn differences(alloc: Global, array: &ArrayRef, reference: i128) -> VortexResult<ArrayRef>
+/// A plain column of integers less a reference of its type, row by row, as a plain tree of the unsigned type of its width.
+/// A null stays, and the differences wrap.
+#[tactic(auto, using(vx_model::proofs::PrimitiveLemmas::plain_roots))]
+pub fn differences(alloc: Global, array: &ArrayRef, reference: i128) -> VortexResult<ArrayRef>
     requires plain { IsPlain array.now }
     requires held { IsTrue (lies_in (integer_of (tree_type array.now)) reference) }
     ensures { Answers result (plain (differences (column_of array.now) reference)) }
 {
-    array.known();
-    match array.node() {
-        Node::Primitive(values, valid, nullability) => {
-            let wrapped = values.differences(alloc, reference)?;
-            let zeroed = wrapped.zeroed_by(valid);
-            let bits = copy_validity(valid, alloc)?;
-            match ArrayRef::primitive(zeroed, bits, *nullability) {
-                Ok(plain) => Ok(plain),
-                Err(refused) => Err(refused.error),
-            }
-        }
-        _ => unreachable!(),
-    }
+    let (values, valid, _) = array.as_primitive();
+    let wrapped = values.differences(alloc, reference)?;
+    let zeroed = wrapped.zeroed_by(valid);
+    array.with_integers(alloc, zeroed)
 }

@@ -10,26 +10,16 @@ ghost use Rattle.vx_model.specs.TreeType.{tree_type};
 ghost use Rattle.vx_schemes.specs.ZigZag.Tree.{zigzags};
 
 use std::alloc::Global;
-use vx_array::{ArrayRef, Node};
+use vx_array::ArrayRef;
 use vx_base::VortexResult;
-use vx_values::copy_validity;
 
 /// The zigzags of a plain column of signed integers, 0 beneath nulls, as a plain tree of the unsigned type of their width.
+#[tactic(auto, using(vx_model::proofs::PrimitiveLemmas::plain_roots))]
 pub(crate) fn zigzags(alloc: Global, array: &ArrayRef) -> VortexResult<ArrayRef>
     requires plain { IsPlain array.now }
     requires signed { is_signed (integer_of (tree_type array.now)) ≡ true }
     ensures { Answers result (plain (zigzags (column_of array.now))) }
 {
-    array.known();
-    match array.node() {
-        Node::Primitive(values, valid, nullability) => {
-            let words = values.zigzagged(alloc)?;
-            let bits = copy_validity(valid, alloc)?;
-            match ArrayRef::primitive(words, bits, *nullability) {
-                Ok(plain) => Ok(plain),
-                Err(refused) => Err(refused.error),
-            }
-        }
-        _ => unreachable!(),
-    }
+    let (values, _, _) = array.as_primitive();
+    array.with_integers(alloc, values.zigzagged(alloc)?)
 }

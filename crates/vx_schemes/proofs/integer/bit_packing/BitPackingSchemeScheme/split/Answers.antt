@@ -8,4 +8,4 @@ use Rattle.vx_schemes.proofs.integer.bit_packing.BitPackingSchemeScheme.split.Go
 pub returns-clause-answer : goal.returns-clause-answer
 returns-clause-answer g c = λ taken.
     c.finished_or_kept.ensures
-    ∙ ap (λ made. split_of (finished_or_kept made)) (c.in_ok-bit_packing_tree.ensures.answer ∙ ap (λ t. bit_packing_made (column_of t)) c.array-2.ensures.array)
+    ∙ ap (λ made. split_of (finished_or_kept made)) (c.in_ok-bit_packing_tree.ensures.answer ∙ ap (λ t. bit_packing_made (column_of t)) (c.array-2.ensures.array ∙ c.in_ok-has_negative.ensures.column.array))

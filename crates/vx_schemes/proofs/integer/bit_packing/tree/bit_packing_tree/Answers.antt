@@ -1,29 +1,41 @@
 use Rattle.std.proofs.Common.{◌∙◌, true, replicate, ap, sym, subst, arith}
 use Rattle.std.specs.Prelude.{unwrap_or}
 use Rattle.vx_base.specs.Answers.{Answers}
+use Rattle.vx_model.specs.WellFormed.{WellFormed}
 use Rattle.vx_values.specs.IntsOf.{ptype_of, wholes_of}
-use Rattle.vx_array.specs.TreeOf.{tree_of}
 use Rattle.vx_schemes.specs.BitPacking.Tree.{packing_of}
 use Rattle.vx_schemes.proofs.ColumnLemmas.{length_is}
-use Rattle.vx_schemes.proofs.BitPacking.Tree.{packing-made, length-all_bits, all_bits-allowed}
+use Rattle.vx_schemes.proofs.BitPacking.Tree.{packing-made, length-all_bits, all_bits-allowed, wholes-natural}
 use Rattle.vx_schemes.proofs.integer.bit_packing.tree.bit_packing_tree.Goals as goal
 
 pub packing-requires : goal.packing-requires
 packing-requires c =
-    let a = c.in-Primitive in
-    let at = sym c.node.ensures.tree ∙ ap tree_of a.is in
-    let bits = c.in_ok-valid-in-Primitive.ensures ∙ ap (λ k. unwrap_or a.valid (replicate k true)) c.len.ensures in
-    let long = length_is c.args.plain.now (ptype_of a.values) (wholes_of a.values) a.valid a.nullability c.known.ensures at c.requires.plain in
+    let a = c.as_primitive-nullability in
+    let t = c.args.plain.now in
+    let p = ptype_of a.result.0.now in
+    let xs = wholes_of a.result.0.now in
+    let valid = a.result.1.now in
+    let n = a.result.2 in
+    let at = sym a.ensures.tree in
+    let well = subst WellFormed a.ensures.tree a.ensures.well_formed in
+    let bits = c.in_ok-valid.ensures ∙ ap (λ k. unwrap_or valid (replicate k true)) c.len.ensures in
+    let long = length_is t p xs valid n well at c.requires.plain in
     record {
-      same = rw bits (length-all_bits c.args.plain.now (ptype_of a.values) (wholes_of a.values) a.valid a.nullability c.known.ensures at c.requires.plain);
+      held = a.ensures.well_formed.0.held;
+      natural = wholes-natural t p xs valid n well at c.requires.plain c.requires.natural;
+      same = rw bits (length-all_bits t p xs valid n well at c.requires.plain);
       few = omega (arith, long, c.requires.few);
-      allowed = rw bits (all_bits-allowed c.args.plain.now (ptype_of a.values) (wholes_of a.values) a.valid a.nullability c.known.ensures at c.requires.plain);
+      allowed = rw bits (all_bits-allowed t p xs valid n well at c.requires.plain);
     }
 
 pub returns-clause-answer : goal.returns-clause-answer
 returns-clause-answer c =
-    let a = c.in-Primitive in
-    let at = sym c.node.ensures.tree ∙ ap tree_of a.is in
-    let bits = c.in_ok-valid-in-Primitive.ensures ∙ ap (λ k. unwrap_or a.valid (replicate k true)) c.len.ensures in
-    let made = packing-made c.args.plain.now (ptype_of a.values) (wholes_of a.values) a.valid a.nullability c.known.ensures at c.requires.plain in
-    subst (Answers c.packing.result) (ap (packing_of (ptype_of a.values) a.nullability (wholes_of a.values)) bits ∙ made) c.packing.ensures.answer
+    let a = c.as_primitive-nullability in
+    let t = c.args.plain.now in
+    let p = ptype_of a.result.0.now in
+    let xs = wholes_of a.result.0.now in
+    let valid = a.result.1.now in
+    let n = a.result.2 in
+    let well = subst WellFormed a.ensures.tree a.ensures.well_formed in
+    let bits = c.in_ok-valid.ensures ∙ ap (λ k. unwrap_or valid (replicate k true)) c.len.ensures in
+    subst (Answers c.packing.result) (ap (packing_of p n xs) bits ∙ packing-made t p xs valid n well (sym a.ensures.tree) c.requires.plain) c.packing.ensures.answer

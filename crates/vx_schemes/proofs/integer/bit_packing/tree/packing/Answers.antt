@@ -10,6 +10,6 @@ use Rattle.vx_schemes.proofs.integer.bit_packing.tree.packing.Goals as goal
 pub packed_tree-requires-clause-narrow : goal.packed_tree-requires-clause-narrow
 packed_tree-requires-clause-narrow c =
     let p = ptype_of c.args.values.now in
-    let within : c.in_ok-width.width ≤ bits_of p = subst (λ w. w ≤ bits_of p) (sym c.in_ok-width.ensures) (first_least-le (cost (widths_of p (wholes_of c.args.values.now) c.args.valid) (bytes_of p)) (bits_of p)) in
+    let within : c.in_ok-width.width ≤ bits_of p = subst (λ w. w ≤ bits_of p) (sym c.in_ok-width.ensures.width) (first_least-le (cost (widths_of p (wholes_of c.args.values.now) c.args.valid) (bytes_of p)) (bits_of p)) in
     let all : c.bit_width.result ≡ bits_of p = c.bit_width.ensures.width ∙ ap bits_of c.ptype.ensures in
     narrow_width p c.in_ok-width.width within (ne_eqb c.in_ok-width.width (bits_of p) (λ e. c.if-width-bit_width.false (e ∙ sym all)))

@@ -7,8 +7,8 @@ use Rattle.vx_model.proofs.MadeLemmas.{rows_fit}
 use Rattle.vx_schemes.proofs.Dictionary.Tree.{pair-admitted}
 use Rattle.vx_schemes.proofs.integer.dictionary.IntDictSchemeScheme.join.Goals as goal
 
-pub dictionary-requires : goal.dictionary-requires
-dictionary-requires c =
+pub dictionary_tree-requires : goal.dictionary_tree-requires
+dictionary_tree-requires c =
     let t = c.args.column.now.array in
     let well : WellFormed t = subst WellFormed c.array-array.ensures.array c.known.ensures in
     let integer : is_integer (tree_type t) ≡ true = search rules in

@@ -1,40 +1,29 @@
-use Rattle.std.proofs.Common.{◌≡◌, ◌∙◌, length, map, pos, sym, ap}
+use Rattle.std.proofs.Common.{◌≡◌, ◌∙◌, pos, map, ap, subst}
 use Rattle.std.specs.Int.{w128}
 use Rattle.std.proofs.lemmas.Int.{to_z-of_z}
+use Rattle.vx_base.specs.Answers.{Answers}
 use Rattle.vx_base.specs.Integers.{unsigned_of}
-use Rattle.vx_base.proofs.MakesLemmas.{MakesSurely_ok, MakesSurely_err}
 use Rattle.vx_model.specs.Decoded.{zeroed_by}
-use Rattle.vx_model.specs.Refusals.{kept, primitive_refusal}
-use Rattle.vx_model.specs.Tree.{primitive}
 use Rattle.vx_values.specs.IntsOf.{ptype_of, wholes_of}
-use Rattle.vx_array.specs.TreeOf.{tree_of}
 use Rattle.vx_schemes.specs.FrameOfReference.Tree.{less}
-use Rattle.vx_schemes.proofs.FrameOfReference.Tree.{moved_tree, moved_admitted}
+use Rattle.vx_schemes.proofs.FrameOfReference.Tree.{moved_long, moved_tree}
 use Rattle.vx_schemes.proofs.integer.frame_of_reference.tree.differences.Goals as goal
 
-pub returns-in-Ok : goal.returns-in-Ok
-returns-in-Ok c =
-    let t = c.args.array.now in
-    let p = ptype_of c.in-Primitive.values in
-    let xs = wholes_of c.in-Primitive.values in
-    let valid = c.in-Primitive.valid in
-    let n = c.in-Primitive.nullability in
-    let at : t ≡ primitive p xs valid n = sym c.node.ensures.tree ∙ ap tree_of c.in-Primitive.is in
-    let wrapped = rw (to_z-of_z w128 c.args.reference c.ranges.reference) at c.in_ok-wrapped-in-Primitive.ensures in
-    let typed : ptype_of c.zeroed_by-zeroed-in-Primitive.result ≡ unsigned_of p = c.zeroed_by-zeroed-in-Primitive.ensures.ptype ∙ wrapped.0 in
-    let wholes : wholes_of c.zeroed_by-zeroed-in-Primitive.result ≡ zeroed_by (pos 0) valid (map (less p c.args.reference) xs) = c.zeroed_by-zeroed-in-Primitive.ensures.wholes ∙ ap (zeroed_by (pos 0) valid) wrapped.1 in
-    MakesSurely_ok _ _ _ _ c.in-Ok.ensures ∙ (λ i. primitive (typed i) (wholes i) (kept (c.in_ok-bits-in-Primitive.ensures i)) n)
-    ∙ moved_tree t p xs valid n c.known.ensures at c.requires.plain c.args.reference
+pub with_integers-requires-clause-rows : goal.with_integers-requires-clause-rows
+with_integers-requires-clause-rows c =
+    let parts = c.as_primitive in
+    let p = ptype_of parts.result.0.now in
+    let xs = wholes_of parts.result.0.now in
+    let wrapped = rw (to_z-of_z w128 c.args.reference c.ranges.reference) at c.in_ok-wrapped.ensures in
+    let wholes : wholes_of c.zeroed_by-zeroed.result ≡ zeroed_by (pos 0) parts.result.1.now (map (less p c.args.reference) xs) = c.zeroed_by-zeroed.ensures.wholes ∙ ap (zeroed_by (pos 0) parts.result.1.now) wrapped.1 in
+    moved_long c.args.array.now p xs parts.result.1.now parts.result.2 parts.ensures.tree parts.ensures.well_formed c.requires.plain c.args.reference _ wholes
 
-pub returns-in-Err : goal.returns-in-Err
-returns-in-Err c =
-    let t = c.args.array.now in
-    let p = ptype_of c.in-Primitive.values in
-    let xs = wholes_of c.in-Primitive.values in
-    let valid = c.in-Primitive.valid in
-    let n = c.in-Primitive.nullability in
-    let at : t ≡ primitive p xs valid n = sym c.node.ensures.tree ∙ ap tree_of c.in-Primitive.is in
-    let wrapped = rw (to_z-of_z w128 c.args.reference c.ranges.reference) at c.in_ok-wrapped-in-Primitive.ensures in
-    let wholes : wholes_of c.zeroed_by-zeroed-in-Primitive.result ≡ zeroed_by (pos 0) valid (map (less p c.args.reference) xs) = c.zeroed_by-zeroed-in-Primitive.ensures.wholes ∙ ap (zeroed_by (pos 0) valid) wrapped.1 in
-    let admitted = moved_admitted t p xs valid n c.known.ensures at c.requires.plain c.args.reference in
-    absurd (MakesSurely_err _ _ _ _ ((λ i. primitive_refusal (length (wholes i)) (c.in_ok-bits-in-Primitive.ensures i) n) ∙ admitted) c.in-Err.ensures)
+pub returns : goal.returns
+returns c =
+    let parts = c.as_primitive in
+    let p = ptype_of parts.result.0.now in
+    let xs = wholes_of parts.result.0.now in
+    let wrapped = rw (to_z-of_z w128 c.args.reference c.ranges.reference) at c.in_ok-wrapped.ensures in
+    let typed : ptype_of c.zeroed_by-zeroed.result ≡ unsigned_of p = c.zeroed_by-zeroed.ensures.ptype ∙ wrapped.0 in
+    let wholes : wholes_of c.zeroed_by-zeroed.result ≡ zeroed_by (pos 0) parts.result.1.now (map (less p c.args.reference) xs) = c.zeroed_by-zeroed.ensures.wholes ∙ ap (zeroed_by (pos 0) parts.result.1.now) wrapped.1 in
+    subst (Answers c.with_integers.result) (moved_tree c.args.array.now p xs parts.result.1.now parts.result.2 parts.ensures.tree parts.ensures.well_formed c.requires.plain c.args.reference _ wholes _ typed) c.with_integers.ensures

@@ -1,4 +1,4 @@
-use Rattle.std.proofs.Common.{◌≡◌, ◌≤◌, ◌^◌, ◌∙◌, length, Some, rules, sym, ap, subst, to_z, of_z}
+use Rattle.std.proofs.Common.{◌≡◌, ◌≤◌, ◌^◌, ◌∙◌, length, Some, false, rules, sym, ap, subst, to_z, of_z}
 use Rattle.std.specs.Prelude.{FitsSigned, option_map}
 use Rattle.std.specs.Int.{w128}
 use Rattle.std.proofs.lemmas.Int.{to_z-of_z}
@@ -14,8 +14,9 @@ use Rattle.vx_model.specs.Tree.{frame_of_reference}
 use Rattle.vx_model.specs.TreeType.{tree_type}
 use Rattle.vx_model.specs.WellFormed.{differences_type}
 use Rattle.vx_model.proofs.PlainLemmas.{plain_is_plain}
+use Rattle.vx_schemes.specs.BitPacking.Tree.{has_negative}
 use Rattle.vx_schemes.specs.FrameOfReference.Tree.{framed, differences, packed_or_plain}
-use Rattle.vx_schemes.proofs.FrameOfReference.Framed.{encoded-is, least-in, plain-few, less-typed}
+use Rattle.vx_schemes.proofs.FrameOfReference.Framed.{encoded-is, least-in, plain-few, plain-natural, less-typed}
 use Rattle.vx_schemes.proofs.integer.frame_of_reference.tree.frame_of_reference_tree.Goals as goal
 
 pub differences-requires-clause-held : goal.differences-requires-clause-held
@@ -25,6 +26,10 @@ differences-requires-clause-held c =
 
 pub packed_or_plain-requires-clause-plain : goal.packed_or_plain-requires-clause-plain
 packed_or_plain-requires-clause-plain c = subst IsPlain (sym c.in_ok-differences.ensures) (plain_is_plain (differences (column_of c.args.array.now) (to_z w128 (of_z w128 c.in-Some.reference))))
+
+pub packed_or_plain-requires-clause-natural : goal.packed_or_plain-requires-clause-natural
+packed_or_plain-requires-clause-natural c =
+    subst (λ d. has_negative (column_of d) ≡ false) (sym c.in_ok-differences.ensures) (plain-natural c.args.array.now (to_z w128 (of_z w128 c.in-Some.reference)) c.requires.integer c.known.ensures)
 
 pub packed_or_plain-requires-clause-few : goal.packed_or_plain-requires-clause-few
 packed_or_plain-requires-clause-few c =

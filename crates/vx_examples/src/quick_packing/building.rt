@@ -1,13 +1,11 @@
-//! The compressors over the shipped schemes and a caller's own.
+//! The compressor over the shipped schemes and quick packing.
 
 ghost use Rattle.std.specs.Prelude.{◌≡◌, map};
 ghost use Rattle.vx_base.specs.Answers.{OrMemory};
 ghost use Rattle.vx_btrblocks.specs.AnyMeaning.{any_meaning};
 ghost use Rattle.vx_examples.specs.QuickPacking.{quick_packing, with_quick_packing};
-ghost use Rattle.vx_examples.specs.SpanFrame.{span_frame, with_span_frames};
 
-use crate::quick_packing::QuickPacking;
-use crate::span_frame::SpanFrame;
+use super::QuickPacking;
 use std::alloc::Global;
 use vx_base::VortexResult;
 use vx_btrblocks::{AnyScheme, BtrBlocksCompressor};
@@ -32,29 +30,6 @@ pub fn compressor(alloc: Global) -> VortexResult<BtrBlocksCompressor<QuickPackin
     ensures { OrMemory result (λ compressor. map (any_meaning (λ scheme. quick_packing)) compressor.0 ≡ with_quick_packing) }
 {
     match CascadingCompressor::new(alloc, schemes(alloc)?) {
-        Ok(compressor) => Ok(BtrBlocksCompressor(compressor)),
-        Err(refused) => Err(refused.error),
-    }
-}
-
-// Span frames, and then the shipped schemes in their order.
-fn schemes_behind_frames(alloc: Global) -> VortexResult<Schemes<AnyScheme<SpanFrame>>>
-    ensures { OrMemory result (λ schemes. map (any_meaning (λ scheme. span_frame)) schemes ≡ with_span_frames) }
-{
-    let mut list = Vec::new(alloc);
-    list.push(AnyScheme::Own(SpanFrame))?;
-    list.push(AnyScheme::FoR(FoRScheme::v1()))?;
-    list.push(AnyScheme::ZigZag(ZigZagScheme))?;
-    list.push(AnyScheme::BitPacking(BitPackingScheme::v1()))?;
-    list.push(AnyScheme::IntDict(IntDictScheme))?;
-    Ok(Schemes::from_vec(list))
-}
-
-/// The compressor over the shipped schemes, with span frames in front of them. Refuses NoMemory alone.
-pub fn compressor_with_frames(alloc: Global) -> VortexResult<BtrBlocksCompressor<SpanFrame>>
-    ensures { OrMemory result (λ compressor. map (any_meaning (λ scheme. span_frame)) compressor.0 ≡ with_span_frames) }
-{
-    match CascadingCompressor::new(alloc, schemes_behind_frames(alloc)?) {
         Ok(compressor) => Ok(BtrBlocksCompressor(compressor)),
         Err(refused) => Err(refused.error),
     }
