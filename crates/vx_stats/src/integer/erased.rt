@@ -54,6 +54,13 @@ impl ErasedStats {
         with_typed!(self, typed => typed.least())
     }
 
+    /// The greatest integer; without a valid one the type's least.
+    pub fn greatest(&self) -> i128
+        ensures { result ≡ (extremes_of self.now).greatest }
+    {
+        with_typed!(self, typed => typed.greatest())
+    }
+
     pub fn min_is_zero(&self) -> bool
         ensures { result ≡ int_eq (extremes_of self.now).least (pos 0) }
     {

@@ -126,6 +126,12 @@ impl<T: Integer> TypedStats<T> {
         self.min.to_whole()
     }
 
+    pub(crate) fn greatest(&self) -> i128
+        ensures { result ≡ self.now.extremes.greatest }
+    {
+        self.max.to_whole()
+    }
+
     /// The greatest less the least.
     pub(crate) fn span(&self) -> u64
         requires { self.now.extremes.least ≤ℤ self.now.extremes.greatest }

@@ -104,7 +104,7 @@ pub fn dictionary_tree(alloc: Global, codes: ArrayRef, values: ArrayRef) -> Vort
     requires { dict_refusal codes values ≡ None }
     ensures { Answers result (dict codes values) }
 {
-    match ArrayRef::dict(alloc, codes, values) {
+    match ArrayRef::dict_of_places(alloc, codes, values) {
         Ok(tree) => Ok(tree),
         Err(refused) => Err(refused.error),
     }
