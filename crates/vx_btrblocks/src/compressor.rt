@@ -1,6 +1,6 @@
 //! The top call of the library.
 
-ghost use Rattle.std.specs.Prelude.{◌≡◌, map};
+ghost use Rattle.std.specs.Prelude.{◌≡◌, IfOk, map};
 ghost use Rattle.vx_base.specs.Answers.{Decided, OrMemory};
 ghost use Rattle.vx_model.specs.Cascade.{cascade};
 ghost use Rattle.vx_model.specs.Column.{column_of};
@@ -45,11 +45,12 @@ impl<X: Scheme> BtrBlocksCompressor<X> {
         }
     }
 
-    /// The tree of the array's column: its type and rows decide, and the context's words; its own encodings don't.
-    /// Refuses TooManyRows exactly where an extent of the array passes 2^31 rows, and NoMemory. The context stays as it
+    /// The tree of the array's column: its type and rows decide, and the context's words; its own encodings don't. The
+    /// tree has the array's type and rows. Refuses TooManyRows exactly where an extent of the array passes 2^31 rows, and NoMemory. The context stays as it
     /// was.
     pub fn compress(&self, array: &ArrayRef, ctx: &mut ExecutionCtx) -> VortexResult<ArrayRef>
         ensures answer { Decided (compress_refusal array.now) (λ tree. tree ≡ cascade (leaf_tree (setting (any_meaning X.meaning) self.now.0 ctx.old)) (column_of array.now)) result }
+        ensures kept { IfOk result (λ tree. column_of tree ≡ column_of array.now) }
         ensures ctx { ctx.new ≡ ctx.old }
     {
         self.0.compress(array, ctx)

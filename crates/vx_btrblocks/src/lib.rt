@@ -6,3 +6,4 @@ mod compressor;
 
 pub use any_scheme::AnyScheme;
 pub use compressor::BtrBlocksCompressor;
+pub use vx_scheme::NoScheme;

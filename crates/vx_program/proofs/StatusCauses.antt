@@ -1,5 +1,5 @@
 -- The status of a reply, and what it comes of.
-use Rattle.std.proofs.Common.{◌≡◌, ◌<◌, ℕ, List, length, Bool, true, false, cond, ltb, Option, Some, None, IfSome, codes, refl, ap, subst, sym, arith, inl, inr}
+use Rattle.std.proofs.Common.{◌≡◌, ◌<◌, ℕ, List, length, Bool, true, false, cond, ltb, Option, Some, None, IfSome, codes, refl, ap, subst, sym, ◌∙◌, arith, inl, inr}
 use Rattle.std.specs.Prelude.{◌↔◌, ◌⊎◌}
 use Rattle.std.proofs.lemmas.Bool.{ltb-true, ltb-false}
 use Rattle.std.proofs.lemmas.Option.{IfSome_then}
@@ -121,6 +121,11 @@ module _ (left : Option (List ℕ)) (before now : ℕ) (words : List (List ℕ))
   pub reply_usage_causes : IsReply left before now words reply → reply.0 ≡ 2 ↔ IsUsage words
   reply_usage_causes (inl h) = subst (λ r. r.0 ≡ 2 ↔ IsUsage words) (sym h.2) (causes-answer words h.0).usage
   reply_usage_causes (inr h) = let e = ap (λ r. r.0) h.1 in let built = h.0 in neither (λ k. omega (arith, e, k)) (λ u. cc)
+
+  pub reply_is_usage : IsReply left before now words reply → IsUsage words → reply ≡ refusal 2 (codes "Usage")
+  unfolding answer
+  reply_is_usage (inl h) other = h.2 ∙ rw other refl
+  reply_is_usage (inr h) other = let built = h.0 in absurd cc
 
   pub reply_rose : IsReply left before now words reply → reply.0 ≡ 5 → Rose before now
   reply_rose (inl h) e = absurd ((causes-answer words h.0).answered.1 (subst (λ r. r.0 ≡ 5) h.2 e))

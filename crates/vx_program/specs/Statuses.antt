@@ -1,5 +1,5 @@
 -- Why a status is answered.
-use Rattle.std.specs.Prelude.{◌≡◌, ◌≢◌, ◌↔◌, ◌<◌, ◌≤◌, ◌+◌, ℕ, List, length, true, false, Option, Some, None, IfSome, IsSomeAnd}
+use Rattle.std.specs.Prelude.{◌≡◌, ◌≢◌, ◌↔◌, ◌⊎◌, ◌<◌, ◌≤◌, ◌+◌, ℕ, List, length, true, false, Option, Some, None, IfSome, IsSomeAnd}
 use Rattle.vx_program.specs.Reading.{limit}
 use Rattle.vx_program.specs.Document.{document}
 use Rattle.vx_program.specs.Answer.{is_built, counts_fit}
@@ -15,6 +15,10 @@ IsAnswered status = (status ≢ 1) × (status ≢ 5) × (status ≢ 6)
 -- The status comes exactly where its cause holds of all bytes of a source that tells them: 1, 5 and 6 stand in its place.
 abbrev pub ComesExactly : ℕ → ℕ → Option (List ℕ) → (List ℕ → Type 0) → Type 0
 ComesExactly status result left IsCause = IsAnswered result → IfSome left (λ all. result ≡ status ↔ IsCause all)
+
+-- The reply rests on all bytes of the source.
+abbrev pub RestsOnAll : ℕ → Type 0
+RestsOnAll status = (status ≡ 0) ⊎ (status ≡ 3) ⊎ (status ≡ 4)
 
 -- 2: the words have none of the built forms
 abbrev pub IsUsage : List (List ℕ) → Type 0

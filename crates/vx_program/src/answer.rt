@@ -1,6 +1,8 @@
 //! From words and a source to a status and a text.
 
-ghost use Rattle.std.specs.Prelude.{◌≡◌, ◌≢◌, ◌<◌, ◌+◌, ◌^◌, ◌++◌, ◌↔◌, [], List, ℕ, Option, IfOk, IfSome, OnErr, string_bytes, length, map};
+ghost use Rattle.std.specs.Prelude.{◌≡◌, ◌≢◌, ◌<◌, ◌+◌, ◌^◌, ◌++◌, ◌↔◌, [], true, List, ℕ, Option, IfOk, IfSome, OnErr, string_bytes, length, map};
+ghost use Rattle.std.specs.Cow.{cow_str_bytes};
+ghost use Rattle.std.specs.Io.KnownBytes.{IsAtEnd};
 ghost use Rattle.vx_base.specs.declared.error.VortexError.TheVariants.{NoMemory};
 ghost use Rattle.vx_base.specs.ErrorName.{error_name};
 ghost use Rattle.vx_model.specs.Column.{column_of};
@@ -13,17 +15,17 @@ ghost use Rattle.vx_scheme.specs.NoMeaning.{no_meaning};
 ghost use Rattle.vx_btrblocks.specs.AnyMeaning.{any_meaning};
 ghost use Rattle.vx_btrblocks.specs.Shipped.{shipped_schemes};
 ghost use Rattle.vx_program.specs.Answer.{texts_of, is_built, refusal, report, of_column, of_document, IsReply};
-ghost use Rattle.vx_program.specs.Statuses.{IsUsage, IsTooLong};
+ghost use Rattle.vx_program.specs.Statuses.{RestsOnAll, IsUsage, IsTooLong};
 
 use crate::document::{Document, Unread, read_document};
 use crate::listing::{push_sizes, push_tree};
 use crate::outside::Source;
 use crate::reading::{Input, read_all};
 use std::alloc::{AllocError, Global};
+use std::borrow::CowStr;
 use vx_array::ArrayRef;
 use vx_base::{ExecutionCtx, VortexError};
-use vx_btrblocks::BtrBlocksCompressor;
-use vx_scheme::NoScheme;
+use vx_btrblocks::{BtrBlocksCompressor, NoScheme};
 
 /// The whole output is written.
 pub const DONE: u8 = 0;
@@ -55,15 +57,18 @@ pub struct Reply {
     /// 0, 2 to 5 or 7.
     pub status: u8,
     /// The output.
-    pub text: String,
+    pub text: CowStr<'static>,
 }
 
-// A refusal's status, and its name as the text.
-fn refuse(alloc: Global, status: u8, name: &str) -> Result<Reply, AllocError>
-    ensures { IfOk result (λ r. (r.status, string_bytes r.text) ≡ refusal status name.now) }
+// A refusal whose text is constant. It takes no memory.
+fn refusal(status: u8, text: &'static str) -> Reply
+    ensures status { result.status ≡ status }
+    ensures text { cow_str_bytes result.text ≡ text.now }
 {
-    let text = format!(in alloc; "refused: {name}\n")?;
-    Ok(Reply { status, text })
+    Reply {
+        status,
+        text: CowStr::Borrowed(text),
+    }
 }
 
 // The one built form: the word `compress` alone.
@@ -91,22 +96,26 @@ fn report_text(alloc: Global, plain: u128, tree: &ArrayRef) -> Result<String, Al
 // The reply to a column, by its compressed tree.
 fn report(alloc: Global, plain: u128, tree: ArrayRef) -> Result<Reply, AllocError>
     requires { size tree < 2 ^ 128 }
-    ensures { IfOk result (λ r. (r.status, string_bytes r.text)
+    ensures { IfOk result (λ r. (r.status, cow_str_bytes r.text)
         ≡ report plain tree) }
 {
-    let text = report_text(alloc, plain, &tree)?;
+    let text = CowStr::Owned(report_text(alloc, plain, &tree)?);
     Ok(Reply { status: DONE, text })
 }
 
 // The reply to an error of the library. Want of memory stays one.
 fn refuse_document(alloc: Global, error: VortexError) -> Result<Reply, AllocError>
-    ensures { IfOk result (λ r. (error ≢ NoMemory) × ((r.status, string_bytes r.text)
+    ensures { IfOk result (λ r. (error ≢ NoMemory) × ((r.status, cow_str_bytes r.text)
         ≡ refusal 4 (error_name error))) }
 {
-    match error {
-        VortexError::NoMemory => Err(AllocError),
-        error => refuse(alloc, REFUSED, error.name()),
+    if matches!(error, VortexError::NoMemory) {
+        return Err(AllocError);
     }
+    let text = CowStr::Owned(format!(in alloc; "refused: {}\n", error.name())?);
+    Ok(Reply {
+        status: REFUSED,
+        text,
+    })
 }
 
 // The reply to a column, by its plain tree, over a compressor of the shipped schemes. The context's words place samples.
@@ -118,7 +127,7 @@ fn reply_over(
 ) -> Result<Reply, AllocError>
     requires shipped { map (any_meaning no_meaning) compressor.now.0 ≡ shipped_schemes }
     requires plain { IsPlain array.now }
-    ensures { IfOk result (λ r. (r.status, string_bytes r.text) ≡ of_column ctx.old (column_of array.now)) }
+    ensures { IfOk result (λ r. (r.status, cow_str_bytes r.text) ≡ of_column ctx.old (column_of array.now)) }
 {
     match compressor.compress(array, ctx) {
         Ok(tree) => report(alloc, array.nbytes(), tree),
@@ -133,7 +142,7 @@ fn reply_to_array(
     ctx: &mut ExecutionCtx,
 ) -> Result<Reply, AllocError>
     requires { IsPlain array.now }
-    ensures { IfOk result (λ r. (r.status, string_bytes r.text) ≡ of_column ctx.old (column_of array.now)) }
+    ensures { IfOk result (λ r. (r.status, cow_str_bytes r.text) ≡ of_column ctx.old (column_of array.now)) }
 {
     match BtrBlocksCompressor::shipped(alloc) {
         Ok(compressor) => reply_over(alloc, &compressor, array, ctx),
@@ -145,7 +154,7 @@ fn reply_to_array(
 fn reply_to_document(alloc: Global, document: Document) -> Result<Reply, AllocError>
     requires plain { IsPlain document.array }
     requires words { 0 < length document.words }
-    ensures { IfOk result (λ r. (r.status, string_bytes r.text)
+    ensures { IfOk result (λ r. (r.status, cow_str_bytes r.text)
         ≡ of_column document.words (column_of document.array)) }
 {
     let Document { array, words } = document;
@@ -156,35 +165,37 @@ fn reply_to_document(alloc: Global, document: Document) -> Result<Reply, AllocEr
 // The reply of the built form to these bytes.
 #[tactic(auto, unfolding(crate::specs::Answer::of_document))]
 fn reply_to_bytes(alloc: Global, bytes: Vec<u8>) -> Result<Reply, AllocError>
-    ensures { IfOk result (λ r. (r.status, string_bytes r.text)
+    ensures { IfOk result (λ r. (r.status, cow_str_bytes r.text)
         ≡ of_document (document bytes.items)) }
 {
     match read_document(alloc, bytes) {
         Ok(document) => reply_to_document(alloc, document),
         Err(Unread::NoMemory) => Err(AllocError),
-        Err(Unread::BadDocument) => refuse(alloc, BAD_DOCUMENT, "BadDocument"),
+        Err(Unread::BadDocument) => Ok(refusal(BAD_DOCUMENT, "refused: BadDocument\n")),
     }
 }
 
-/// The reply to the words and to all that the source gives.
+/// The reply to the words and to all that the source gives. For words that have no built form it takes no memory.
 pub fn reply_to<I: Source>(
     alloc: Global,
     words: &[String],
     source: &mut I,
 ) -> Result<Reply, AllocError>
     ensures answer { IfOk result (λ r. IsReply (I.left source.old) (I.faults source.old)
-        (I.faults source.new) (texts_of words.now) (r.status, string_bytes r.text)) }
+        (I.faults source.new) (texts_of words.now) (r.status, cow_str_bytes r.text)) }
+    ensures no_memory { OnErr result (is_built (texts_of words.now) ≡ true) }
+    ensures ended { IfOk result (λ r. RestsOnAll r.status → IsAtEnd (I.left source.new)) }
     ensures too_long { IfOk result (λ r. IfSome (I.left source.old) (λ old.
         r.status ≡ 7 ↔ IsTooLong old (I.left source.new))) }
     ensures most { TakesAtMost (I.left source.old) (I.left source.new) (limit + 1) }
     ensures nothing_read { IsUsage (texts_of words.now) → source.new ≡ source.old }
 {
     if !is_built(words) {
-        return refuse(alloc, USAGE, "Usage");
+        return Ok(refusal(USAGE, "refused: Usage\n"));
     }
     match read_all(alloc, source)? {
-        Input::Fault => refuse(alloc, READ_FAULT, "ReadFault"),
-        Input::TooLong => refuse(alloc, TOO_LONG, "TooLong"),
+        Input::Fault => Ok(refusal(READ_FAULT, "refused: ReadFault\n")),
+        Input::TooLong => Ok(refusal(TOO_LONG, "refused: TooLong\n")),
         Input::Whole(bytes) => reply_to_bytes(alloc, bytes),
     }
 }

@@ -1,6 +1,6 @@
 //! Where bytes come from and where they go, and how often that failed.
 
-ghost use Rattle.std.specs.Prelude.{◌≡◌, ◌+◌, ◌<◌, ◌≤◌, ℕ, List, Option, length, IfOk, IfErr, OnOk};
+ghost use Rattle.std.specs.Prelude.{◌≡◌, ◌+◌, ◌<◌, ◌≤◌, ℕ, List, Option, length, IfOk, IfErr, IsOk, OnOk};
 ghost use Rattle.std.specs.Io.{ReadsAtMost, WritesAtMost};
 ghost use Rattle.std.specs.Io.KnownBytes.{ReadConsumes, WriteAppends};
 ghost use Rattle.vx_base.specs.declared.error.VortexError.TheVariants.{NoMemory};
@@ -39,10 +39,12 @@ pub trait Sink {
     /// How many bytes may be written with no further memory.
     ghost spare: { Self → ℕ };
 
-    /// Makes room for `count` bytes. The only refusal is want of memory; neither outcome writes anything.
+    /// Makes room for `count` bytes, surely where there is such room already. The only refusal is want of memory; neither
+    /// outcome writes anything.
     fn reserve(&mut self, count: u64) -> VortexResult<()>
         ensures room { OnOk result (count ≤ spare self.new) }
         ensures only_memory { IfErr result (λ e. e ≡ NoMemory) }
+        ensures sure { count ≤ spare self.old → IsOk result }
         ensures written { written self.new ≡ written self.old }
         ensures faults { faults self.new ≡ faults self.old };
 

@@ -1,11 +1,12 @@
 //! The top call: from words and bytes to a status and bytes.
 
-ghost use Rattle.std.specs.Prelude.{◌≡◌, ◌≢◌, ◌+◌, ◌↔◌, ◌⊎◌, List, ℕ, Option, IfSome};
-ghost use Rattle.vx_program.specs.Answer.{texts_of, answer, IsReply};
+ghost use Rattle.std.specs.Prelude.{◌≡◌, ◌≢◌, ◌≤◌, ◌+◌, ◌↔◌, ◌⊎◌, List, ℕ, Option, IfSome, codes, length};
+ghost use Rattle.std.specs.Io.KnownBytes.{IsAtEnd};
+ghost use Rattle.vx_program.specs.Answer.{texts_of, answer, refusal, IsReply};
 ghost use Rattle.vx_program.specs.Causes.{Rose};
 ghost use Rattle.vx_program.specs.Reading.{limit, TakesAtMost};
 ghost use Rattle.vx_program.specs.Run.{Replies, Breaks};
-ghost use Rattle.vx_program.specs.Statuses.{IsWritten, IsAnswered, ComesExactly, IsUsage, IsTooLong, IsBadDocument, HasTooManyRows, IsCompressible};
+ghost use Rattle.vx_program.specs.Statuses.{RestsOnAll, IsWritten, IsAnswered, ComesExactly, IsUsage, IsTooLong, IsBadDocument, HasTooManyRows, IsCompressible};
 ghost use Rattle.vx_program.specs.Sure.{sink_bytes};
 
 use crate::answer::{NO_MEMORY, WRITE_FAULT, reply_to};
@@ -28,8 +29,11 @@ pub fn run<I: Source, O: Sink>(alloc: Global, words: &[String], source: &mut I, 
     ensures no_memory { result ≡ 1 → O.written sink.new ≡ O.written sink.old }
     // Whatever happens, at most one byte above the limit is read, and nothing for other words.
     ensures most { TakesAtMost (I.left source.old) (I.left source.new) (limit + 1) }
+    // Where the reply rests on all bytes, the source is at its end.
+    ensures ended { RestsOnAll result → IsAtEnd (I.left source.new) }
     ensures nothing_read { IsUsage (texts_of words.now) → source.new ≡ source.old }
-    // Where each status comes.
+    // Where each status comes. For words that have no built form memory is wanting only where the sink has no room.
+    ensures usage_surely { IsUsage (texts_of words.now) → length (refusal 2 (codes "Usage")).1 ≤ O.spare sink.old → result ≢ 1 }
     ensures usage { IsWritten result → (result ≡ 2 ↔ IsUsage (texts_of words.now)) }
     ensures too_long { IsWritten result → IfSome (I.left source.old) (λ old.
         result ≡ 7 ↔ IsTooLong old (I.left source.new)) }

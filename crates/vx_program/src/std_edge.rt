@@ -1,13 +1,15 @@
 //! Any reader and any writer of std as a source and a sink, which count what fails.
 
-ghost use Rattle.std.specs.Prelude.{◌-◌, ◌^◌, ◌≤◌, None};
-ghost use Rattle.vx_program.specs.Causes.{Rose};
+ghost use Rattle.std.specs.Prelude.{◌-◌, ◌^◌, ◌<◌, ◌≤◌, None, IfOk, length, take};
+ghost use Rattle.std.specs.Io.{WritesAtMost};
+ghost use Rattle.std.specs.Io.KnownBytes.{Appends};
+ghost use Rattle.vx_program.specs.Causes.{HasCause, Rose};
 
 use crate::outside::{Failed, Sink, Source};
 use std::io::{Read, Write};
 use vx_base::VortexResult;
 
-/// A failure, counted.
+/// A failure, counted once.
 fn count_fault(faults: &mut u64) -> Failed
     ensures later { faults.old ≤ faults.new }
     ensures rose { Rose faults.old faults.new }
@@ -52,7 +54,7 @@ impl<R: Read> Source for StdSource<R> {
 }
 
 /// A writer as a sink. It flushes after each write, and counts each Err, each write that takes nothing and each
-/// failed flush. It tells nothing of what is written, since a flush can fail after a write that took bytes.
+/// failed flush. As a sink it tells nothing of what is written, since a flush can fail after a write that took bytes.
 #[derive(Drop)]
 pub struct StdSink<W: Write> {
     writer: W,
@@ -73,7 +75,7 @@ impl<W: Write> StdSink<W> {
 }
 
 impl<W: Write> Sink for StdSink<W> {
-    ghost use Rattle.vx_program.specs.StdEdge.{write_faults};
+    ghost use Rattle.vx_program.specs.StdEdge.{write_faults, writer_of};
 
     ghost written = { λ _. None };
 
@@ -86,8 +88,13 @@ impl<W: Write> Sink for StdSink<W> {
         Ok(())
     }
 
-    /// With no bytes the writer isn't called.
-    fn write(&mut self, bytes: &[u8]) -> Result<usize, Failed> {
+    /// With no bytes the writer isn't called. On Ok the writer has taken as many, where it tells what it has.
+    fn write(&mut self, bytes: &[u8]) -> Result<usize, Failed>
+        ensures bound { WritesAtMost result bytes.now }
+        ensures progress { 0 < length bytes.now → IfOk result (λ n. 0 < n) }
+        ensures cause { HasCause (write_faults self.old) (write_faults self.new) result }
+        ensures taken { IfOk result (λ n. Appends (W.contents (writer_of self.old)) (W.contents (writer_of self.new)) (take n bytes.now)) }
+    {
         if bytes.is_empty() {
             return Ok(0);
         }

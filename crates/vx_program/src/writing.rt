@@ -1,8 +1,9 @@
 //! A text to a sink, whole or up to a fault.
 
-ghost use Rattle.std.specs.Prelude.{◌≡◌, ◌≤◌, OnOk, OnErr, IfErr, length};
+ghost use Rattle.std.specs.Prelude.{◌≡◌, ◌≢◌, ◌≤◌, Err, OnOk, OnErr, IfErr, length};
 ghost use Rattle.std.specs.Io.KnownBytes.{Appends};
 ghost use Rattle.vx_program.specs.Writing.{Fails, Stops};
+ghost use Rattle.vx_program.specs.declared.writing.Stop.TheVariants as stop;
 
 use crate::outside::{Failed, Sink};
 
@@ -30,10 +31,12 @@ fn write_whole<O: Sink>(sink: &mut O, bytes: &[u8]) -> Result<(), Failed>
     Ok(())
 }
 
-/// Asks for room for the whole text, and then writes it. No memory is wanted between the writes.
+/// Asks for room for the whole text, and then writes it. No memory is wanted between the writes, and none at all where
+/// there is room already.
 pub fn deliver<O: Sink>(sink: &mut O, text: &str) -> Result<(), Stop>
     ensures done { OnOk result (Appends (O.written sink.old) (O.written sink.new) text.now) }
     ensures same { OnOk result (O.faults sink.new ≡ O.faults sink.old) }
+    ensures sure { length text.now ≤ O.spare sink.old → result ≢ Err stop.NoMemory }
     ensures stop { IfErr result (Stops (O.written sink.old) (O.written sink.new)
         (O.faults sink.old) (O.faults sink.new) text.now) }
 {

@@ -7,14 +7,14 @@ use Rattle.vx_program.proofs.answer.reply_to.Goals as goal
 pub returns-then-not-is_built-clause-answer : goal.returns-then-not-is_built-clause-answer
 returns-then-not-is_built-clause-answer g c =
     let other = sym c.is_built.ensures ∙ c.if-not-is_built.true in
-    IfOk-weaker c.refuse.result _ _ (λ r e. reply_usage _ _ _ (g.I.Source.left c.args.source.now) _ _ other refl e) c.refuse.ensures
+    reply_usage _ _ _ (g.I.Source.left c.args.source.now) _ _ other refl (λ i. (c.refusal.ensures.status i, c.refusal.ensures.text i))
 
 pub returns-in-TooLong-clause-answer : goal.returns-in-TooLong-clause-answer
 returns-in-TooLong-clause-answer g c =
     let built = sym c.is_built.ensures ∙ c.if-not-is_built.false in
     let came = rw c.in-TooLong.is at c.in_ok-read_all.ensures.bytes in
     let same = rw c.in-TooLong.is at c.in_ok-read_all.ensures.cause in
-    IfOk-weaker c.refuse-in-TooLong.result _ _ (λ r e. reply_long _ _ _ _ _ _ came.0 built came.1 came.2 same e) c.refuse-in-TooLong.ensures
+    reply_long _ _ _ _ _ _ came.0 built came.1 came.2 same (λ i. (c.refusal-in-TooLong.ensures.status i, c.refusal-in-TooLong.ensures.text i))
 
 pub returns-in-Whole-clause-answer : goal.returns-in-Whole-clause-answer
 returns-in-Whole-clause-answer g c =
