@@ -1,19 +1,21 @@
 //! The phases of a compression.
 
 use anyhow::{Result, bail};
+use serde_json::Value;
 use std::alloc::Global;
 use std::io::Read;
 use std::time::{Clock, Duration, Instant};
 use vx_array::ArrayRef;
 use vx_base::{ExecutionCtx, Words};
-use vx_btrblocks::BtrBlocksCompressor;
+use vx_btrblocks::{BtrBlocksCompressor, NoScheme};
 use vx_program::{Document, Input, StdSource, listing_text, read_all, read_document};
-use vx_scheme::{GenerateStatsOptions, IntegerStats, NoScheme};
+use vx_scheme::{GenerateStatsOptions, IntegerStats};
 
 /// How long each phase took, and how many distinct values the statistics tell.
 #[derive(Clone, Copy)]
 struct Phases {
     read: Duration,
+    json: Duration,
     parse: Duration,
     statistics: Duration,
     distinct: u32,
@@ -72,21 +74,49 @@ fn listed(alloc: Global, tree: &ArrayRef) -> Result<usize> {
     Ok(listing_text(alloc, tree)?.len())
 }
 
-/// The document of the reader's bytes, and how long it took to read and to parse them.
-fn parsed<R: Read>(
-    rt: &(impl AllocGlobal + Clock),
-    reader: R,
-) -> Result<(Document, Duration, Duration)>
+/// Reads the bytes as JSON and drops the value.
+fn drop_json(alloc: Global, bytes: &[u8]) -> Result<()> {
+    match Value::from_slice(alloc, bytes) {
+        Ok(_value) => Ok(()),
+        Err(_) => bail!("no JSON, or want of memory"),
+    }
+}
+
+/// How long it takes to read the bytes as JSON and to drop the value, once that was done before.
+fn read_as_json(rt: &(impl AllocGlobal + Clock), bytes: &[u8]) -> Result<Duration> {
+    drop_json(rt.alloc(), bytes)?;
+    let start = Instant::now(rt)?;
+    drop_json(rt.alloc(), bytes)?;
+    Ok(start.elapsed(rt)?)
+}
+
+/// A document, and how long it took to come by it.
+#[derive(Drop)]
+struct Parsed {
+    document: Document,
+    read: Duration,
+    json: Duration,
+    parse: Duration,
+}
+
+/// The document of the reader's bytes. Between reading and parsing they are read as JSON alone.
+fn read_and_parse<R: Read>(rt: &(impl AllocGlobal + Clock), reader: R) -> Result<Parsed>
 where
     R: Drop,
 {
     let start = Instant::now(rt)?;
     let bytes = bytes_of(rt.alloc(), reader)?;
     let read = start.elapsed(rt)?;
+    let json = read_as_json(rt, bytes.as_slice())?;
     let start = Instant::now(rt)?;
     let document = document_of(rt.alloc(), bytes)?;
     let parse = start.elapsed(rt)?;
-    Ok((document, read, parse))
+    Ok(Parsed {
+        document,
+        read,
+        json,
+        parse,
+    })
 }
 
 /// How long the statistics of the column take, once they were made before, and how many distinct values they tell.
@@ -112,11 +142,17 @@ fn measured<R: Read>(rt: &(impl AllocGlobal + Clock), reader: R) -> Result<Phase
 where
     R: Drop,
 {
-    let (document, read, parse) = parsed(rt, reader)?;
+    let Parsed {
+        document,
+        read,
+        json,
+        parse,
+    } = read_and_parse(rt, reader)?;
     let (statistics, distinct) = counted(rt, &document.array)?;
     let (compress, list) = packed(rt, document)?;
     Ok(Phases {
         read,
+        json,
         parse,
         statistics,
         distinct,
@@ -149,6 +185,7 @@ where
 {
     let phases = measured(rt, reader)?;
     show(rt, "read", phases.read)?;
+    show(rt, "json", phases.json)?;
     show(rt, "parse", phases.parse)?;
     show(rt, "statistics", phases.statistics)?;
     println!(rt; "distinct {}", phases.distinct)?;
