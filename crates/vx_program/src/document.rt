@@ -1,6 +1,8 @@
 //! A document from its bytes.
 
-ghost use Rattle.std.specs.Prelude.{◌≡◌, ◌<◌, length, IfOk};
+ghost use Rattle.std.specs.Prelude.{◌≡◌, ◌<◌, ℕ, List, length, false, option_map, IfOk};
+ghost use Rattle.std.specs.Str.{bytes_eq};
+ghost use Rattle.serde_json.specs.Find.{get_member};
 ghost use Rattle.serde_json.specs.View.{view, items_view, members_view};
 ghost use Rattle.vx_program.specs.Document.{Gives, all_by, word_of, value_of, words_of, is_known, all_known, document_of, document};
 ghost use Rattle.vx_model.specs.Column.{column_of};
@@ -56,8 +58,8 @@ fn value_of(alloc: Global, bytes: Vec<u8>) -> Result<Value, Unread>
 }
 
 // The words of a list of values.
-fn read_words(alloc: Global, list: &Vec<Value>) -> Result<Vec<u64>, Unread>
-    ensures { Gives (λ v. v.items) result (all_by word_of (items_view list.now.items)) }
+fn read_words(alloc: Global, list: Vec<Value>) -> Result<Vec<u64>, Unread>
+    ensures { Gives (λ v. v.items) result (all_by word_of (items_view list.items)) }
 {
     let mut words = Vec::with_capacity(alloc, list.len())?;
     for value in list {
@@ -71,11 +73,11 @@ fn read_words(alloc: Global, list: &Vec<Value>) -> Result<Vec<u64>, Unread>
 
 // The words of a value, at least one and at most `MOST_WORDS`.
 #[tactic(auto, unfolding(crate::specs::Document::words_of))]
-fn words_of(alloc: Global, value: &Value) -> Result<Words, Unread>
-    ensures words { Gives (λ words. words) result (words_of (view value.now)) }
+fn words_of(alloc: Global, value: Value) -> Result<Words, Unread>
+    ensures words { Gives (λ words. words) result (words_of (view value)) }
     ensures some { IfOk result (λ words. 0 < length words) }
 {
-    let Some(list) = value.as_array() else {
+    let Value::Array(list) = value else {
         return Err(Unread::BadDocument);
     };
     let words = read_words(alloc, list)?;
@@ -104,30 +106,48 @@ fn all_known(map: &Map<String, Value>) -> bool
     true
 }
 
-// The document that a value is.
+// A member of the object.
+fn member<'m>(map: &'m Map<String, Value>, name: &str) -> Option<&'m Value>
+    ensures { option_map (λ v. view v.now) result ≡ get_member name.now (members_view map.now.entries) }
+{
+    map.get(name)
+}
+
+// Takes a member out of the object; the other keys keep theirs.
+fn take_member(map: &mut Map<String, Value>, name: &str) -> Option<Value>
+    ensures taken { option_map view result ≡ get_member name.now (members_view map.old.entries) }
+    ensures others { (key : List ℕ) → bytes_eq name.now key ≡ false
+        → get_member key (members_view map.new.entries) ≡ get_member key (members_view map.old.entries) }
+{
+    map.remove(name)
+}
+
+// The document that a value is. The list of its rows is let go as they are read.
 #[tactic(auto, unfolding(crate::specs::Document::document_of))]
-fn document_of(alloc: Global, value: &Value) -> Result<Document, Unread>
-    ensures document { Gives (λ d. record { column = column_of d.array; words = d.words }) result (document_of (view value.now)) }
+fn document_of(alloc: Global, value: Value) -> Result<Document, Unread>
+    ensures document { Gives (λ d. record { column = column_of d.array; words = d.words }) result (document_of (view value)) }
     ensures plain { IfOk result (λ d. IsPlain d.array) }
     ensures words { IfOk result (λ d. 0 < length d.words) }
 {
-    let Some(map) = value.as_object() else {
+    let Value::Object(mut map) = value else {
         return Err(Unread::BadDocument);
     };
-    if !all_known(map) {
+    if !all_known(&map) {
         return Err(Unread::BadDocument);
     }
-    let (Some(kind), Some(rows), Some(words)) = (
-        value.get("type"),
-        value.get("rows"),
-        value.get("words"),
-    ) else {
+    let Some(kind) = member(&map, "type") else {
         return Err(Unread::BadDocument);
     };
     let Some(text) = kind.as_str() else {
         return Err(Unread::BadDocument);
     };
     let Some((ptype, nullability)) = type_named(text) else {
+        return Err(Unread::BadDocument);
+    };
+    let Some(rows) = take_member(&mut map, "rows") else {
+        return Err(Unread::BadDocument);
+    };
+    let Some(words) = take_member(&mut map, "words") else {
         return Err(Unread::BadDocument);
     };
     let array = read_column(alloc, rows, ptype, nullability)?;
@@ -144,5 +164,5 @@ pub fn read_document(alloc: Global, bytes: Vec<u8>) -> Result<Document, Unread>
     ensures words { IfOk result (λ d. 0 < length d.words) }
 {
     let value = value_of(alloc, bytes)?;
-    document_of(alloc, &value)
+    document_of(alloc, value)
 }

@@ -38,12 +38,12 @@ macro_rules! typed_rows {
 // The rows of a list of values, of an integer type.
 fn read_typed(
     alloc: Global,
-    list: &Vec<Value>,
+    list: Vec<Value>,
     ptype: PType,
     nullability: Nullability,
 ) -> Result<TypedRows, Unread>
     ensures { GivesForm (λ rows values. (ptype_of rows.values ≡ ptype) × AreRows nullability (wholes_of rows.values) rows.valid values) result
-        (all_by (row_of (primitive ptype nullability)) (items_view list.now.items)) }
+        (all_by (row_of (primitive ptype nullability)) (items_view list.items)) }
 {
     match ptype {
         PType::U8 => typed_rows!(alloc, list, nullability, U8),
@@ -60,11 +60,11 @@ fn read_typed(
 // The plain tree of a list of values.
 fn read_list(
     alloc: Global,
-    list: &Vec<Value>,
+    list: Vec<Value>,
     ptype: PType,
     nullability: Nullability,
 ) -> Result<ArrayRef, Unread>
-    ensures rows { Gives rows result (all_by (row_of (primitive ptype nullability)) (items_view list.now.items)) }
+    ensures rows { Gives rows result (all_by (row_of (primitive ptype nullability)) (items_view list.items)) }
     ensures dtype { IfOk result (λ array. tree_type array ≡ primitive ptype nullability) }
     ensures plain { IfOk result (λ array. IsPlain array) }
 {
@@ -80,16 +80,16 @@ fn read_list(
 #[tactic(auto, unfolding(crate::specs::Document::rows_of))]
 pub(crate) fn read_column(
     alloc: Global,
-    value: &Value,
+    value: Value,
     ptype: PType,
     nullability: Nullability,
 ) -> Result<ArrayRef, Unread>
-    ensures rows { Gives rows result (rows_of (primitive ptype nullability) (view value.now)) }
+    ensures rows { Gives rows result (rows_of (primitive ptype nullability) (view value)) }
     ensures dtype { IfOk result (λ array. tree_type array ≡ primitive ptype nullability) }
     ensures plain { IfOk result (λ array. IsPlain array) }
 {
-    match value.as_array() {
-        Some(list) => read_list(alloc, list, ptype, nullability),
-        None => Err(Unread::BadDocument),
+    match value {
+        Value::Array(list) => read_list(alloc, list, ptype, nullability),
+        _ => Err(Unread::BadDocument),
     }
 }

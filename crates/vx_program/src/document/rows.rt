@@ -4,7 +4,7 @@ ghost use Rattle.std.specs.Prelude.{◌≡◌, ◌∷◌, ◌++◌, [], map, is_
 ghost use Rattle.serde_json.specs.View.{view, items_view};
 ghost use Rattle.vx_base.specs.PlainType.{primitive};
 ghost use Rattle.vx_base.specs.PlainValue.{cell, whole_or_zero};
-ghost use Rattle.vx_program.specs.Document.{GivesForm, AreRows, all_by, whole_of, row_of, bits_of};
+ghost use Rattle.vx_program.specs.Document.{GivesForm, AreRows, all_by, row_of, bits_of};
 
 use crate::document::unread::Unread;
 use serde_json::Value;
@@ -18,33 +18,22 @@ pub(crate) struct Rows<T> {
     pub(crate) valid: Option<Mask>,
 }
 
-// The whole number of a value that is one.
-fn whole_of(value: &Value) -> Option<i128>
-    ensures { result ≡ whole_of (view value.now) }
-{
-    match value.as_number() {
-        Some(number) => number.as_i128(),
-        None => None,
-    }
-}
-
 // A row, which is null or a value of the type.
 #[tactic(auto, unfolding(crate::specs::Document::row_of))]
-fn read_row<T: Integer>(value: &Value, nullability: Nullability) -> Option<Option<T>>
+fn read_row<T: Integer>(value: Value, nullability: Nullability) -> Option<Option<T>>
     ensures { option_map (λ row. cell (option_map T.whole row)) result
-        ≡ row_of (primitive T.kind nullability) (view value.now) }
+        ≡ row_of (primitive T.kind nullability) (view value) }
 {
-    if value.is_null() {
-        return if nullability.allows_null() {
-            Some(None)
-        } else {
-            None
-        };
+    match value {
+        Value::Null if nullability.allows_null() => Some(None),
+        Value::Number(number) => {
+            let whole = number.as_i128()?;
+            let item = T::from_whole(whole)?;
+            let _held = item.to_whole();
+            Some(Some(item))
+        }
+        _ => None,
     }
-    let whole = whole_of(value)?;
-    let item = T::from_whole(whole)?;
-    let _held = item.to_whole();
-    Some(Some(item))
 }
 
 // A row's item: 0 beneath a null.
@@ -67,14 +56,14 @@ fn push_bit(valid: &mut Option<Vec<bool>>, bit: bool) -> Result<(), AllocError>
     Ok(())
 }
 
-// The rows of a list of values.
+// The rows of a list of values, each of which is let go as it is read.
 pub(crate) fn read_rows<T: Integer>(
     alloc: Global,
-    list: &Vec<Value>,
+    list: Vec<Value>,
     nullability: Nullability,
 ) -> Result<Rows<T>, Unread>
     ensures { GivesForm (λ rows. AreRows nullability (map T.whole rows.items) rows.valid) result
-        (all_by (row_of (primitive T.kind nullability)) (items_view list.now.items)) }
+        (all_by (row_of (primitive T.kind nullability)) (items_view list.items)) }
 {
     let mut items = Vec::with_capacity(alloc, list.len())?;
     let mut valid = bits_for(alloc, nullability, list.len())?;
