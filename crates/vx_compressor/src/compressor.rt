@@ -144,5 +144,5 @@ fn counted<L: Ledger, S: Scheme>(
     let words = ctx.words().copy(ctx.alloc())?;
     let plain = array.canonical(ctx.alloc())?;
     let mut steps = Steps::<L>::new(blank);
-    compressor.site_tree(words.as_slice(), array, plain, site, ctx, &mut steps)
+    compressor.site_tree(words.as_slice(), plain, site, ctx, &mut steps)
 }
