@@ -13,7 +13,7 @@ ghost use Rattle.vx_compressor.specs.Choice.{best_of};
 ghost use Rattle.vx_compressor.specs.Judging.{Holds, IsAskable, IsReady, WasPutOff, found, meant, meant_pair};
 ghost use Rattle.vx_compressor.specs.Reach.{IsInReach};
 
-use crate::by_value::{ByValue, by_value, smaller};
+use crate::by_value::{by_value, smaller};
 use crate::choice::{Score, better, is_always, scheme_of};
 use crate::compressor::CascadingCompressor;
 use crate::eligible::merged_options;
@@ -40,9 +40,9 @@ impl<S: Scheme> CascadingCompressor<S> {
         ensures answer { Answers result (leaf_tree (setting S.meaning self.now words.now) (column_of canonical) (site_of site.now)) }
         ensures ctx { ctx.new ≡ ctx.old }
     {
-        match by_value(ctx.alloc(), canonical, site)? {
-            ByValue::Decided(tree) => Ok(tree),
-            ByValue::Open(plain) => self.best_tree(words, plain, site, ctx, steps),
+        match by_value(ctx.alloc(), &canonical, site)? {
+            Some(tree) => Ok(tree),
+            None => self.best_tree(words, canonical, site, ctx, steps),
         }
     }
 

@@ -37,31 +37,23 @@ use Rattle.vx_compressor.proofs.compressor.CascadingCompressor.+site.Goals as go
 pub site_tree-best_tree-requires : goal.site_tree-best_tree-requires
 site_tree-best_tree-requires g t c =
     let own = column_of c.args.canonical in
-    let budget = (site_of c.args.site.now).budget in
-    let here = open-here c.in_ok-tree.field-0 c.in-Open.plain own own (site_of c.args.site.now) c.in_ok-tree.ensures c.in-Open.is refl in
-    let same : column_of c.in-Open.plain ≡ own = column_of-is c.in-Open.plain own here.plain in
-    let plain : IsPlain c.in-Open.plain = plain-is c.in-Open.plain own here.plain in
-    let value : HasValue (column_of c.in-Open.plain) = subst HasValue (sym same) here.value in
-    let askable : IsAskable (column_of c.in-Open.plain) = subst IsAskable (sym same) (record { some = here.some; few = few_in_reach own budget c.requires.reach }) in
-    let reach : IsInReach (column_of c.in-Open.plain) budget = subst (λ col. IsInReach col budget) (sym same) c.requires.reach in
+    let here = open-here c.in_ok-tree.field-0 own (site_of c.args.site.now) c.in_ok-tree.ensures c.in-None.is in
+    let value : HasValue own = here.value in
+    let askable : IsAskable own = record { some = here.some; few = few_in_reach own (site_of c.args.site.now).budget c.requires.reach } in
     search rules
 
-pub site_tree-returns-in-Decided-clause-answer : goal.site_tree-returns-in-Decided-clause-answer
-site_tree-returns-in-Decided-clause-answer g t c =
+pub site_tree-returns-in-Some-clause-answer : goal.site_tree-returns-in-Some-clause-answer
+site_tree-returns-in-Some-clause-answer g t c =
     let set = setting g.S.Scheme.meaning c.args.self.now c.args.words.now in
     let site = site_of c.args.site.now in
-    let own = column_of c.args.canonical in
-    decided-here c.in_ok-tree.field-0 c.in-Decided.tree own own site c.in_ok-tree.ensures c.in-Decided.is refl (chosen (children_of set site) set)
+    decided-here c.in_ok-tree.field-0 c.in-Some.tree (column_of c.args.canonical) site c.in_ok-tree.ensures c.in-Some.is (chosen (children_of set site) set)
 
-pub site_tree-returns-in-Open-clause-answer : goal.site_tree-returns-in-Open-clause-answer
-site_tree-returns-in-Open-clause-answer g t c =
+pub site_tree-returns-in-None-clause-answer : goal.site_tree-returns-in-None-clause-answer
+site_tree-returns-in-None-clause-answer g t c =
     let set = setting g.S.Scheme.meaning c.args.self.now c.args.words.now in
     let site = site_of c.args.site.now in
-    let own = column_of c.args.canonical in
-    let chooses = chosen (children_of set site) set in
-    let here = open-here c.in_ok-tree.field-0 c.in-Open.plain own own site c.in_ok-tree.ensures c.in-Open.is refl in
-    let same = column_of-is c.in-Open.plain own here.plain in
-    answers_along c.best_tree.result _ _ (ap (λ col. chosen_or_plain col (chooses col site)) same ∙ here.chosen chooses) c.best_tree.ensures.answer
+    let here = open-here c.in_ok-tree.field-0 (column_of c.args.canonical) site c.in_ok-tree.ensures c.in-None.is in
+    answers_along c.best_tree.result _ _ (here.chosen (chosen (children_of set site) set)) c.best_tree.ensures.answer
 
 -- ---- best_tree
 
