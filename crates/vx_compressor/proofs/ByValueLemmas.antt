@@ -1,5 +1,5 @@
 -- What the values of a plain tree decide.
-use Rattle.std.proofs.Common.{◌≡◌, ◌≢◌, ◌∙◌, true, false, length, Some, None, sym, subst, arith}
+use Rattle.std.proofs.Common.{◌≡◌, ◌≢◌, ◌∙◌, true, false, length, Option, Some, None, sym, subst, arith}
 use Rattle.vx_base.specs.PlainScalar.{scalar}
 use Rattle.vx_base.specs.PlainValue.{PlainValue, null}
 use Rattle.vx_model.specs.Column.{Column, column_of}
@@ -10,42 +10,38 @@ use Rattle.vx_model.specs.Site.{Site}
 use Rattle.vx_model.specs.Tree.{Tree, constant}
 use Rattle.vx_model.specs.TreeType.{tree_type}
 use Rattle.vx_model.proofs.OneValueLemmas.{first_valid-some}
-use Rattle.vx_compressor.specs.declared.by_value.ByValue.{ByValue}
-use Rattle.vx_compressor.specs.declared.by_value.ByValue.TheVariants.{Decided, Open}
 use Rattle.vx_compressor.specs.ByValue.{IsByValue, IsOpen}
 use Rattle.vx_compressor.proofs.LeafCases.{length-first_valid, leaf-empty, leaf-nulls, leaf-sampled, leaf-one, leaf-many}
 
 module _ (t : Tree) (site : Site) where
-  pub decided-empty : IsPlain t → length (rows t) ≡ 0 → IsByValue (column_of t) site (Decided t)
-  decided-empty p e = λ chooses. p ∙ sym (leaf-empty chooses (column_of t) site e)
+  pub decided-empty : (u : Tree) → IsPlain t → length (rows t) ≡ 0 → u ≡ t → IsByValue (column_of t) site (Some u)
+  decided-empty u p e is = λ chooses. is ∙ p ∙ sym (leaf-empty chooses (column_of t) site e)
 
-  pub decided-nulls : (u : Tree) → length (rows t) ≢ 0 → first_valid (rows t) ≡ None → u ≡ constant (scalar (tree_type t) null) (length (rows t)) → IsByValue (column_of t) site (Decided u)
+  pub decided-nulls : (u : Tree) → length (rows t) ≢ 0 → first_valid (rows t) ≡ None → u ≡ constant (scalar (tree_type t) null) (length (rows t)) → IsByValue (column_of t) site (Some u)
   decided-nulls u full e is = λ chooses. is ∙ sym (leaf-nulls chooses (column_of t) site full e)
 
   module _ (v : PlainValue) (e : first_valid (rows t) ≡ Some v) where
-    pub decided-one : (u : Tree) → site.sampled ≡ false → each_null_or v (rows t) ≡ true → u ≡ smaller_or_plain (column_of t) (one_value_tree (column_of t) v) → IsByValue (column_of t) site (Decided u)
+    pub decided-one : (u : Tree) → site.sampled ≡ false → each_null_or v (rows t) ≡ true → u ≡ smaller_or_plain (column_of t) (one_value_tree (column_of t) v) → IsByValue (column_of t) site (Some u)
     decided-one u whole each is = λ chooses. is ∙ sym (leaf-one chooses (column_of t) site v e whole each)
 
-    pub open-sampled : IsPlain t → site.sampled ≡ true → IsByValue (column_of t) site (Open t)
-    open-sampled p sampled = record {
-      plain = p;
+    pub open-sampled : site.sampled ≡ true → IsByValue (column_of t) site None
+    open-sampled sampled = record {
       value = first_valid-some (rows t) v e;
       some = let full = length-first_valid (rows t) v e in omega arith;
       chosen = λ chooses. sym (leaf-sampled chooses (column_of t) site v e sampled);
     }
 
-    pub open-many : IsPlain t → each_null_or v (rows t) ≡ false → IsByValue (column_of t) site (Open t)
-    open-many p each = record {
-      plain = p;
+    pub open-many : each_null_or v (rows t) ≡ false → IsByValue (column_of t) site None
+    open-many each = record {
       value = first_valid-some (rows t) v e;
       some = let full = length-first_valid (rows t) v e in omega arith;
       chosen = λ chooses. sym (leaf-many chooses (column_of t) site v e each);
     }
 
--- ---- of a column by another name
+-- ---- by the result
 
-pub decided-here : (v : ByValue) (tree : Tree) (c here : Column) (site : Site) → IsByValue c site v → v ≡ Decided tree → c ≡ here → IsByValue here site (Decided tree)
-decided-here v tree c here site h is same = subst (λ c. IsByValue c site (Decided tree)) same (subst (IsByValue c site) is h)
+pub decided-here : (v : Option Tree) (tree : Tree) (c : Column) (site : Site) → IsByValue c site v → v ≡ Some tree → IsByValue c site (Some tree)
+decided-here v tree c site h is = subst (IsByValue c site) is h
 
-pub open-here : (v : ByValue) (tree : Tree) (c here : Column) (site : Site) → IsByValue c site v → v ≡ Open tree → c ≡ here → IsOpen here site tree
-open-here v tree c here site h is same = subst (λ c. IsByValue c site (Open tree)) same (subst (IsByValue c site) is h)
+pub open-here : (v : Option Tree) (c : Column) (site : Site) → IsByValue c site v → v ≡ None → IsOpen c site
+open-here v c site h is = subst (IsByValue c site) is h

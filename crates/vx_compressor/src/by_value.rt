@@ -1,7 +1,7 @@
 //! The cases of a leaf column's tree that its values alone decide.
 
 ghost use Rattle.std.specs.Prelude.{◌≡◌};
-ghost use Rattle.vx_base.specs.Answers.{OrMemory};
+ghost use Rattle.vx_base.specs.Answers.{Answers, OrMemory};
 ghost use Rattle.vx_model.specs.Column.{column_of};
 ghost use Rattle.vx_model.specs.Leaf.{smaller_or_plain};
 ghost use Rattle.vx_model.specs.Plain.{IsPlain};
@@ -14,39 +14,42 @@ use vx_array::ArrayRef;
 use vx_base::VortexResult;
 use vx_scheme::CompressorContext;
 
-/// What a column's values decide of its tree.
-#[derive(Drop)]
-pub(crate) enum ByValue {
-    /// The tree, whatever schemes there are.
-    Decided(ArrayRef),
-    /// Nothing: this is the plain tree, and schemes are to be asked.
-    Open(ArrayRef),
-}
-
-/// An empty column stays plain, and nulls alone become a constant. Outside samples one value becomes a constant, masked
-/// where rows are null, if that is smaller.
+/// The tree that the values of a plain tree decide alone, whatever schemes there are. An empty column stays plain, and
+/// nulls alone become a constant. Outside samples one value becomes a constant, masked where rows are null, if that is
+/// smaller. None where schemes are to be asked.
 pub(crate) fn by_value(
     alloc: Global,
-    plain: ArrayRef,
+    plain: &ArrayRef,
     site: &CompressorContext,
-) -> VortexResult<ByValue>
-    requires { IsPlain plain }
-    ensures { OrMemory result (IsByValue (column_of plain) (site_of site.now)) }
+) -> VortexResult<Option<ArrayRef>>
+    requires { IsPlain plain.now }
+    ensures { OrMemory result (IsByValue (column_of plain.now) (site_of site.now)) }
 {
     if plain.len() == 0 {
-        return Ok(ByValue::Decided(plain));
+        return Ok(Some(plain.copy(alloc)?));
     }
-    match shared_of(&plain) {
-        Shared::Nothing => Ok(ByValue::Decided(null_tree(alloc, &plain)?)),
+    match shared_of(plain) {
+        Shared::Nothing => Ok(Some(null_tree(alloc, plain)?)),
         Shared::One(whole) => {
             if site.is_sample() {
-                return Ok(ByValue::Open(plain));
+                return Ok(None);
             }
-            let tree = whole_tree(alloc, &plain, whole)?;
-            Ok(ByValue::Decided(smaller(tree, plain)))
+            let tree = whole_tree(alloc, plain, whole)?;
+            Ok(Some(smaller_or_copy(alloc, tree, plain)?))
         }
-        Shared::Many => Ok(ByValue::Open(plain)),
+        Shared::Many => Ok(None),
     }
+}
+
+// The tree where it is smaller than the plain one, else a copy of the plain one.
+fn smaller_or_copy(alloc: Global, tree: ArrayRef, plain: &ArrayRef) -> VortexResult<ArrayRef>
+    requires { IsPlain plain.now }
+    ensures { Answers result (smaller_or_plain (column_of plain.now) tree) }
+{
+    if plain.nbytes() <= tree.nbytes() {
+        return plain.copy(alloc);
+    }
+    Ok(tree)
 }
 
 /// The tree where it is smaller than the plain one, else the plain one.

@@ -16,6 +16,7 @@ ghost use Rattle.vx_compressor.specs.Distinct.{have_own_names, schemes_refusal};
 ghost use Rattle.vx_compressor.specs.Reach.{IsInReach, most_part_rows};
 
 use crate::bans::{Ban, bans_of};
+use crate::by_value::by_value;
 use crate::distinct::have_own_names;
 use crate::excluded::is_excluded;
 use std::alloc::Global;
@@ -126,7 +127,8 @@ impl<S: Scheme> CascadingCompressor<S> {
     }
 }
 
-// The tree of the array's column at a site, with a count of its own.
+// The tree of the array's column at a site, with a count of its own. A plain array is copied only where its values alone
+// don't decide.
 fn counted<L: Ledger, S: Scheme>(
     compressor: &CascadingCompressor<S>,
     blank: Blank,
@@ -141,8 +143,13 @@ fn counted<L: Ledger, S: Scheme>(
     ensures answer { Answers result (leaf_tree (setting S.meaning compressor.now ctx.old) (column_of array.now) (site_of site.now)) }
     ensures ctx { ctx.new ≡ ctx.old }
 {
+    if array.is_plain() {
+        if let Some(tree) = by_value(ctx.alloc(), array, site)? {
+            return Ok(tree);
+        }
+    }
     let words = ctx.words().copy(ctx.alloc())?;
     let plain = array.canonical(ctx.alloc())?;
     let mut steps = Steps::<L>::new(blank);
-    compressor.site_tree(words.as_slice(), array, plain, site, ctx, &mut steps)
+    compressor.site_tree(words.as_slice(), plain, site, ctx, &mut steps)
 }

@@ -27,20 +27,19 @@ pub(crate) struct Told<S> {
     pub(crate) deferred: Vec<(S, DeferredEstimate)>,
 }
 
-// What a scheme tells of the array's column, which the bundle holds.
+// What a scheme tells of the column that the bundle holds.
 fn ask<S: Scheme>(
     scheme: &S,
-    array: &ArrayRef,
     column: &mut ArrayAndStats,
     site: &CompressorContext,
     ctx: &mut ExecutionCtx,
 ) -> VortexResult<CompressionEstimate>
-    requires holds { Holds column.old (column_of array.now) (options_of site.now) }
-    requires askable { IsAskable (column_of array.now) }
-    requires value { HasValue (column_of array.now) }
-    requires ready { IsReady (column_of array.now) (options_of site.now) (S.meaning scheme.now) }
-    ensures answer { Answers result ((S.meaning scheme.now).estimate (column_of array.now) (site_of site.now)) }
-    ensures holds { Holds column.new (column_of array.now) (options_of site.now) }
+    requires holds { Holds column.old (column_of column.old.array) (options_of site.now) }
+    requires askable { IsAskable (column_of column.old.array) }
+    requires value { HasValue (column_of column.old.array) }
+    requires ready { IsReady (column_of column.old.array) (options_of site.now) (S.meaning scheme.now) }
+    ensures answer { Answers result ((S.meaning scheme.now).estimate (column_of column.old.array) (site_of site.now)) }
+    ensures holds { Holds column.new (column_of column.old.array) (options_of site.now) }
     ensures ctx { ctx.new ≡ ctx.old }
 {
     scheme.expected_compression_ratio(column, site, ctx)
@@ -49,18 +48,17 @@ fn ask<S: Scheme>(
 /// The verdict that a scheme put off.
 pub(crate) fn resolve<S: Scheme>(
     scheme: &S,
-    array: &ArrayRef,
     column: &mut ArrayAndStats,
     site: &CompressorContext,
     ctx: &mut ExecutionCtx,
 ) -> VortexResult<EstimateVerdict>
-    requires holds { Holds column.old (column_of array.now) (options_of site.now) }
-    requires askable { IsAskable (column_of array.now) }
-    requires value { HasValue (column_of array.now) }
-    requires ready { IsReady (column_of array.now) (options_of site.now) (S.meaning scheme.now) }
-    requires put_off { HasPutOff (S.meaning scheme.now) (column_of array.now) (site_of site.now) }
-    ensures answer { Answers result ((S.meaning scheme.now).resolve (column_of array.now) (site_of site.now)) }
-    ensures holds { Holds column.new (column_of array.now) (options_of site.now) }
+    requires holds { Holds column.old (column_of column.old.array) (options_of site.now) }
+    requires askable { IsAskable (column_of column.old.array) }
+    requires value { HasValue (column_of column.old.array) }
+    requires ready { IsReady (column_of column.old.array) (options_of site.now) (S.meaning scheme.now) }
+    requires put_off { HasPutOff (S.meaning scheme.now) (column_of column.old.array) (site_of site.now) }
+    ensures answer { Answers result ((S.meaning scheme.now).resolve (column_of column.old.array) (site_of site.now)) }
+    ensures holds { Holds column.new (column_of column.old.array) (options_of site.now) }
     ensures ctx { ctx.new ≡ ctx.old }
 {
     scheme.resolve_estimate(column, None, site, ctx)
@@ -71,21 +69,20 @@ impl<S: Scheme> Told<S> {
     fn hear(
         &mut self,
         scheme: &S,
-        array: &ArrayRef,
         column: &mut ArrayAndStats,
         site: &CompressorContext,
         ctx: &mut ExecutionCtx,
     ) -> VortexResult<()>
-        requires holds { Holds column.old (column_of array.now) (options_of site.now) }
-        requires askable { IsAskable (column_of array.now) }
-        requires value { HasValue (column_of array.now) }
-        requires ready { IsReady (column_of array.now) (options_of site.now) (S.meaning scheme.now) }
-        ensures best { OrMemory result (λ _. self.new.best ≡ best_of self.old.best (told_by scheme.now ((S.meaning scheme.now).estimate (column_of array.now) (site_of site.now)) [])) }
-        ensures deferred { IfOk result (λ _. self.new.deferred.items ≡ self.old.deferred.items ++ put_off_by scheme.now ((S.meaning scheme.now).estimate (column_of array.now) (site_of site.now)) []) }
-        ensures holds { Holds column.new (column_of array.now) (options_of site.now) }
+        requires holds { Holds column.old (column_of column.old.array) (options_of site.now) }
+        requires askable { IsAskable (column_of column.old.array) }
+        requires value { HasValue (column_of column.old.array) }
+        requires ready { IsReady (column_of column.old.array) (options_of site.now) (S.meaning scheme.now) }
+        ensures best { OrMemory result (λ _. self.new.best ≡ best_of self.old.best (told_by scheme.now ((S.meaning scheme.now).estimate (column_of column.old.array) (site_of site.now)) [])) }
+        ensures deferred { IfOk result (λ _. self.new.deferred.items ≡ self.old.deferred.items ++ put_off_by scheme.now ((S.meaning scheme.now).estimate (column_of column.old.array) (site_of site.now)) []) }
+        ensures holds { Holds column.new (column_of column.old.array) (options_of site.now) }
         ensures ctx { ctx.new ≡ ctx.old }
     {
-        match ask(scheme, array, column, site, ctx)? {
+        match ask(scheme, column, site, ctx)? {
             CompressionEstimate::Verdict(verdict) => {
                 self.best = better(self.best, *scheme, verdict_score(verdict));
             }
@@ -98,18 +95,17 @@ impl<S: Scheme> Told<S> {
 /// What the schemes of a site tell at once. With an always-use no later scheme is asked.
 pub(crate) fn first_pass<S: Scheme>(
     schemes: &[S],
-    array: &ArrayRef,
     column: &mut ArrayAndStats,
     site: &CompressorContext,
     ctx: &mut ExecutionCtx,
 ) -> VortexResult<Told<S>>
-    requires holds { Holds column.old (column_of array.now) (options_of site.now) }
-    requires askable { IsAskable (column_of array.now) }
-    requires value { HasValue (column_of array.now) }
-    requires ready { All (λ s. IsReady (column_of array.now) (options_of site.now) (S.meaning s)) schemes.now }
-    ensures best { OrMemory result (λ all. meant S.meaning all.best ≡ best_of None (told (column_of array.now) (site_of site.now) (map S.meaning schemes.now))) }
-    ensures deferred { IfOk result (λ all. is_always all.best ≡ false → map (meant_pair S.meaning) all.deferred.items ≡ put_off (column_of array.now) (site_of site.now) (map S.meaning schemes.now)) }
-    ensures holds { Holds column.new (column_of array.now) (options_of site.now) }
+    requires holds { Holds column.old (column_of column.old.array) (options_of site.now) }
+    requires askable { IsAskable (column_of column.old.array) }
+    requires value { HasValue (column_of column.old.array) }
+    requires ready { All (λ s. IsReady (column_of column.old.array) (options_of site.now) (S.meaning s)) schemes.now }
+    ensures best { OrMemory result (λ all. meant S.meaning all.best ≡ best_of None (told (column_of column.old.array) (site_of site.now) (map S.meaning schemes.now))) }
+    ensures deferred { IfOk result (λ all. is_always all.best ≡ false → map (meant_pair S.meaning) all.deferred.items ≡ put_off (column_of column.old.array) (site_of site.now) (map S.meaning schemes.now)) }
+    ensures holds { Holds column.new (column_of column.old.array) (options_of site.now) }
     ensures ctx { ctx.new ≡ ctx.old }
 {
     let mut all = Told {
@@ -117,7 +113,7 @@ pub(crate) fn first_pass<S: Scheme>(
         deferred: Vec::new(ctx.alloc()),
     };
     for scheme in schemes {
-        all.hear(scheme, array, column, site, ctx)?;
+        all.hear(scheme, column, site, ctx)?;
         if is_always(all.best) {
             return Ok(all);
         }

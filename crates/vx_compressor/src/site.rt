@@ -5,7 +5,7 @@ ghost use Rattle.std.specs.Prelude.{◌≡◌, ◌<◌, All, length, map, option
 ghost use Rattle.vx_base.specs.Answers.{Answers, OrMemory};
 ghost use Rattle.vx_model.specs.Column.{column_of};
 ghost use Rattle.vx_model.specs.Leaf.{chosen_or_plain};
-ghost use Rattle.vx_model.specs.Plain.{plain};
+ghost use Rattle.vx_model.specs.Plain.{IsPlain};
 ghost use Rattle.vx_scheme.specs.Asked.{HasValue};
 ghost use Rattle.vx_scheme.specs.Contexts.{site_of, options_of};
 ghost use Rattle.vx_compressor.specs.Cascade.{setting, deferred_score, eligible, choice, chosen, children_of, leaf_tree};
@@ -13,7 +13,7 @@ ghost use Rattle.vx_compressor.specs.Choice.{best_of};
 ghost use Rattle.vx_compressor.specs.Judging.{Holds, IsAskable, IsReady, WasPutOff, found, meant, meant_pair};
 ghost use Rattle.vx_compressor.specs.Reach.{IsInReach};
 
-use crate::by_value::{ByValue, by_value, smaller};
+use crate::by_value::{by_value, smaller};
 use crate::choice::{Score, better, is_always, scheme_of};
 use crate::compressor::CascadingCompressor;
 use crate::eligible::merged_options;
@@ -24,26 +24,25 @@ use vx_base::{ExecutionCtx, Steps, VortexResult};
 use vx_scheme::{ArrayAndStats, CompressorContext, DeferredEstimate, Scheme};
 
 impl<S: Scheme> CascadingCompressor<S> {
-    /// The tree of the array's column, whose plain tree is handed over, at a site.
+    /// The tree of a plain tree's column at a site.
     #[cycle(site)]
     pub(crate) fn site_tree<L: Ledger>(
         &self,
         words: &[u64],
-        array: &ArrayRef,
         canonical: ArrayRef,
         site: &CompressorContext,
         ctx: &mut ExecutionCtx,
         steps: &mut Steps<L>,
     ) -> VortexResult<ArrayRef>
         requires words { 0 < length words.now }
-        requires reach { IsInReach (column_of array.now) (site_of site.now).budget }
-        requires canonical { canonical ≡ plain (column_of array.now) }
-        ensures answer { Answers result (leaf_tree (setting S.meaning self.now words.now) (column_of array.now) (site_of site.now)) }
+        requires reach { IsInReach (column_of canonical) (site_of site.now).budget }
+        requires plain { IsPlain canonical }
+        ensures answer { Answers result (leaf_tree (setting S.meaning self.now words.now) (column_of canonical) (site_of site.now)) }
         ensures ctx { ctx.new ≡ ctx.old }
     {
-        match by_value(ctx.alloc(), canonical, site)? {
-            ByValue::Decided(tree) => Ok(tree),
-            ByValue::Open(plain) => self.best_tree(words, array, plain, site, ctx, steps),
+        match by_value(ctx.alloc(), &canonical, site)? {
+            Some(tree) => Ok(tree),
+            None => self.best_tree(words, canonical, site, ctx, steps),
         }
     }
 
@@ -52,33 +51,24 @@ impl<S: Scheme> CascadingCompressor<S> {
     fn best_tree<L: Ledger>(
         &self,
         words: &[u64],
-        array: &ArrayRef,
         canonical: ArrayRef,
         site: &CompressorContext,
         ctx: &mut ExecutionCtx,
         steps: &mut Steps<L>,
     ) -> VortexResult<ArrayRef>
         requires words { 0 < length words.now }
-        requires askable { IsAskable (column_of array.now) }
-        requires reach { IsInReach (column_of array.now) (site_of site.now).budget }
-        requires value { HasValue (column_of array.now) }
-        requires canonical { canonical ≡ plain (column_of array.now) }
-        ensures answer { Answers result (chosen_or_plain (column_of array.now) (chosen (children_of (setting S.meaning self.now words.now) (site_of site.now)) (setting S.meaning self.now words.now) (column_of array.now) (site_of site.now))) }
+        requires askable { IsAskable (column_of canonical) }
+        requires reach { IsInReach (column_of canonical) (site_of site.now).budget }
+        requires value { HasValue (column_of canonical) }
+        requires plain { IsPlain canonical }
+        ensures answer { Answers result (chosen_or_plain (column_of canonical) (chosen (children_of (setting S.meaning self.now words.now) (site_of site.now)) (setting S.meaning self.now words.now) (column_of canonical) (site_of site.now))) }
         ensures ctx { ctx.new ≡ ctx.old }
     {
         let schemes = self.eligible(ctx.alloc(), canonical.dtype(), site)?;
         let options = merged_options(schemes.as_slice());
         let site = site.with_merged_stats_options(options);
         let mut column = ArrayAndStats::new(canonical, options);
-        let best = self.choose(
-            words,
-            schemes.as_slice(),
-            array,
-            &mut column,
-            &site,
-            ctx,
-            steps,
-        )?;
+        let best = self.choose(words, schemes.as_slice(), &mut column, &site, ctx, steps)?;
         let Some(scheme) = best else {
             return Ok(column.into_array());
         };
@@ -92,29 +82,28 @@ impl<S: Scheme> CascadingCompressor<S> {
         &self,
         words: &[u64],
         schemes: &[S],
-        array: &ArrayRef,
         column: &mut ArrayAndStats,
         site: &CompressorContext,
         ctx: &mut ExecutionCtx,
         steps: &mut Steps<L>,
     ) -> VortexResult<Option<S>>
         requires words { 0 < length words.now }
-        requires eligible { map S.meaning schemes.now ≡ eligible (map S.meaning self.now) (column_of array.now).dtype (site_of site.now).history }
-        requires ready { All (λ s. IsReady (column_of array.now) (options_of site.now) (S.meaning s)) schemes.now }
-        requires holds { Holds column.old (column_of array.now) (options_of site.now) }
-        requires askable { IsAskable (column_of array.now) }
-        requires reach { IsInReach (column_of array.now) (site_of site.now).budget }
-        requires value { HasValue (column_of array.now) }
-        ensures answer { OrMemory result (λ scheme. option_map S.meaning scheme ≡ choice (children_of (setting S.meaning self.now words.now) (site_of site.now)) (setting S.meaning self.now words.now) (column_of array.now) (site_of site.now)) }
-        ensures holds { Holds column.new (column_of array.now) (options_of site.now) }
+        requires eligible { map S.meaning schemes.now ≡ eligible (map S.meaning self.now) (column_of column.old.array).dtype (site_of site.now).history }
+        requires ready { All (λ s. IsReady (column_of column.old.array) (options_of site.now) (S.meaning s)) schemes.now }
+        requires holds { Holds column.old (column_of column.old.array) (options_of site.now) }
+        requires askable { IsAskable (column_of column.old.array) }
+        requires reach { IsInReach (column_of column.old.array) (site_of site.now).budget }
+        requires value { HasValue (column_of column.old.array) }
+        ensures answer { OrMemory result (λ scheme. option_map S.meaning scheme ≡ choice (children_of (setting S.meaning self.now words.now) (site_of site.now)) (setting S.meaning self.now words.now) (column_of column.old.array) (site_of site.now)) }
+        ensures holds { Holds column.new (column_of column.old.array) (options_of site.now) }
         ensures ctx { ctx.new ≡ ctx.old }
     {
-        let all = first_pass(schemes, array, column, site, ctx)?;
+        let all = first_pass(schemes, column, site, ctx)?;
         if is_always(all.best) {
             return Ok(scheme_of(all.best));
         }
         let deferred = all.deferred.as_slice();
-        let best = self.judge(words, deferred, array, column, site, all.best, ctx, steps)?;
+        let best = self.judge(words, deferred, column, site, all.best, ctx, steps)?;
         Ok(scheme_of(best))
     }
 
@@ -124,7 +113,6 @@ impl<S: Scheme> CascadingCompressor<S> {
         &self,
         words: &[u64],
         deferred: &[(S, DeferredEstimate)],
-        array: &ArrayRef,
         column: &mut ArrayAndStats,
         site: &CompressorContext,
         best: Option<(S, Score)>,
@@ -132,19 +120,19 @@ impl<S: Scheme> CascadingCompressor<S> {
         steps: &mut Steps<L>,
     ) -> VortexResult<Option<(S, Score)>>
         requires words { 0 < length words.now }
-        requires ready { All (λ p. IsReady (column_of array.now) (options_of site.now) (S.meaning p.0)) deferred.now }
-        requires put_off { All (λ p. WasPutOff (column_of array.now) (site_of site.now) (S.meaning p.0) p.1) deferred.now }
-        requires holds { Holds column.old (column_of array.now) (options_of site.now) }
-        requires askable { IsAskable (column_of array.now) }
-        requires reach { IsInReach (column_of array.now) (site_of site.now).budget }
-        requires value { HasValue (column_of array.now) }
-        ensures answer { OrMemory result (λ r. meant S.meaning r ≡ best_of (meant S.meaning best) (found (children_of (setting S.meaning self.now words.now) (site_of site.now)) words.now (column_of array.now) (site_of site.now) (map (meant_pair S.meaning) deferred.now))) }
-        ensures holds { Holds column.new (column_of array.now) (options_of site.now) }
+        requires ready { All (λ p. IsReady (column_of column.old.array) (options_of site.now) (S.meaning p.0)) deferred.now }
+        requires put_off { All (λ p. WasPutOff (column_of column.old.array) (site_of site.now) (S.meaning p.0) p.1) deferred.now }
+        requires holds { Holds column.old (column_of column.old.array) (options_of site.now) }
+        requires askable { IsAskable (column_of column.old.array) }
+        requires reach { IsInReach (column_of column.old.array) (site_of site.now).budget }
+        requires value { HasValue (column_of column.old.array) }
+        ensures answer { OrMemory result (λ r. meant S.meaning r ≡ best_of (meant S.meaning best) (found (children_of (setting S.meaning self.now words.now) (site_of site.now)) words.now (column_of column.old.array) (site_of site.now) (map (meant_pair S.meaning) deferred.now))) }
+        ensures holds { Holds column.new (column_of column.old.array) (options_of site.now) }
         ensures ctx { ctx.new ≡ ctx.old }
     {
         let mut best = best;
         for (scheme, how) in deferred {
-            let score = self.deferred_score(words, scheme, *how, array, column, site, ctx, steps)?;
+            let score = self.deferred_score(words, scheme, *how, column, site, ctx, steps)?;
             best = better(best, *scheme, score);
             if is_always(best) {
                 return Ok(best);
@@ -160,26 +148,25 @@ impl<S: Scheme> CascadingCompressor<S> {
         words: &[u64],
         scheme: &S,
         how: DeferredEstimate,
-        array: &ArrayRef,
         column: &mut ArrayAndStats,
         site: &CompressorContext,
         ctx: &mut ExecutionCtx,
         steps: &mut Steps<L>,
     ) -> VortexResult<Option<Score>>
         requires words { 0 < length words.now }
-        requires ready { IsReady (column_of array.now) (options_of site.now) (S.meaning scheme.now) }
-        requires put_off { WasPutOff (column_of array.now) (site_of site.now) (S.meaning scheme.now) how }
-        requires holds { Holds column.old (column_of array.now) (options_of site.now) }
-        requires askable { IsAskable (column_of array.now) }
-        requires reach { IsInReach (column_of array.now) (site_of site.now).budget }
-        requires value { HasValue (column_of array.now) }
-        ensures answer { Answers result (deferred_score (children_of (setting S.meaning self.now words.now) (site_of site.now)) words.now (S.meaning scheme.now) (column_of array.now) (site_of site.now) how) }
-        ensures holds { Holds column.new (column_of array.now) (options_of site.now) }
+        requires ready { IsReady (column_of column.old.array) (options_of site.now) (S.meaning scheme.now) }
+        requires put_off { WasPutOff (column_of column.old.array) (site_of site.now) (S.meaning scheme.now) how }
+        requires holds { Holds column.old (column_of column.old.array) (options_of site.now) }
+        requires askable { IsAskable (column_of column.old.array) }
+        requires reach { IsInReach (column_of column.old.array) (site_of site.now).budget }
+        requires value { HasValue (column_of column.old.array) }
+        ensures answer { Answers result (deferred_score (children_of (setting S.meaning self.now words.now) (site_of site.now)) words.now (S.meaning scheme.now) (column_of column.old.array) (site_of site.now) how) }
+        ensures holds { Holds column.new (column_of column.old.array) (options_of site.now) }
         ensures ctx { ctx.new ≡ ctx.old }
     {
         match how {
             DeferredEstimate::Callback => {
-                let verdict = resolve(scheme, array, column, site, ctx)?;
+                let verdict = resolve(scheme, column, site, ctx)?;
                 Ok(verdict_score(verdict))
             }
             DeferredEstimate::Sample => {

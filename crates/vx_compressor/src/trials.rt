@@ -74,7 +74,6 @@ impl<S: Scheme> CascadingCompressor<S> {
             Split::Kept => column.array().copy(ctx.alloc()),
             Split::Finished(tree) => Ok(tree),
             Split::Parts(parts) => {
-                let parts = parts.as_slice();
                 let trees = self.part_trees(words, scheme.id(), parts, site, ctx, steps)?;
                 scheme.join(column, site, trees, ctx)
             }
@@ -87,31 +86,32 @@ impl<S: Scheme> CascadingCompressor<S> {
         &self,
         words: &[u64],
         id: SchemeId,
-        parts: &[ArrayRef],
+        parts: Arrays,
         site: &CompressorContext,
         ctx: &mut ExecutionCtx,
         steps: &mut Steps<L>,
     ) -> VortexResult<Arrays>
         requires words { 0 < length words.now }
-        requires plain { All IsPlain parts.now }
-        requires reach { All (λ part. IsPartInReach (column_of part) (site_of site.now).budget) parts.now }
-        ensures answer { Answers result (part_trees (children_of (setting S.meaning self.now words.now) (site_of site.now)) (name_of id) (site_of site.now) 0 (map column_of parts.now)) }
+        requires plain { All IsPlain parts }
+        requires reach { All (λ part. IsPartInReach (column_of part) (site_of site.now).budget) parts }
+        ensures answer { Answers result (part_trees (children_of (setting S.meaning self.now words.now) (site_of site.now)) (name_of id) (site_of site.now) 0 (map column_of parts)) }
         ensures ctx { ctx.new ≡ ctx.old }
     {
         let mut trees = Arrays::new_in(ctx.alloc());
-        for (number, part) in parts.iter().enumerate() {
+        for part in parts.into_vec() {
+            let number = trees.len() as usize;
             let tree = self.part_tree(words, part, site, id, number, ctx, steps)?;
             trees = with_tree(trees, tree)?;
         }
         Ok(trees)
     }
 
-    // The tree of a part, which is plain: a copy where no scheme may follow, else the tree of a site of its own.
+    // The tree of a part, which is plain: the part itself where no scheme may follow, else the tree of a site of its own.
     #[cycle(site)]
     fn part_tree<L: Ledger>(
         &self,
         words: &[u64],
-        part: &ArrayRef,
+        part: ArrayRef,
         parent: &CompressorContext,
         id: SchemeId,
         number: usize,
@@ -119,17 +119,16 @@ impl<S: Scheme> CascadingCompressor<S> {
         steps: &mut Steps<L>,
     ) -> VortexResult<ArrayRef>
         requires words { 0 < length words.now }
-        requires plain { IsPlain part.now }
-        requires reach { IsPartInReach (column_of part.now) (site_of parent.now).budget }
-        ensures answer { Answers result (child_tree (setting S.meaning self.now words.now) (site_of parent.now).budget (column_of part.now) (down (site_of parent.now) (name_of id) number)) }
+        requires plain { IsPlain part }
+        requires reach { IsPartInReach (column_of part) (site_of parent.now).budget }
+        ensures answer { Answers result (child_tree (setting S.meaning self.now words.now) (site_of parent.now).budget (column_of part) (down (site_of parent.now) (name_of id) number)) }
         ensures ctx { ctx.new ≡ ctx.old }
     {
-        let plain = part.copy(ctx.alloc())?;
         if parent.finished_cascading() {
-            return Ok(plain);
+            return Ok(part);
         }
         let site = parent.descend(id, number);
-        self.site_tree(words, part, plain, &site, ctx, steps)
+        self.site_tree(words, part, &site, ctx, steps)
     }
 }
 

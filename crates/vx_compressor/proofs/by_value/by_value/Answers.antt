@@ -11,24 +11,24 @@ use Rattle.vx_compressor.proofs.ByValueLemmas.{decided-empty, decided-nulls, dec
 use Rattle.vx_compressor.proofs.by_value.by_value.Goals as goal
 
 pub returns-then-len-eq0 : goal.returns-then-len-eq0
-returns-then-len-eq0 c = decided-empty c.args.plain (site_of c.args.site.now) c.requires (omega arith)
+returns-then-len-eq0 c = decided-empty c.args.plain.now (site_of c.args.site.now) c.in_ok-copy.field-0 c.requires (omega arith) c.in_ok-copy.ensures
 
 pub returns-in_ok-null_tree-in-Nothing : goal.returns-in_ok-null_tree-in-Nothing
 returns-in_ok-null_tree-in-Nothing c =
-    let full : length (rows c.args.plain) ≢ 0 = omega arith in
-    decided-nulls c.args.plain (site_of c.args.site.now) c.in_ok-null_tree-in-Nothing.field-0 full c.in-Nothing.ensures c.in_ok-null_tree-in-Nothing.ensures
+    let full : length (rows c.args.plain.now) ≢ 0 = omega arith in
+    decided-nulls c.args.plain.now (site_of c.args.site.now) c.in_ok-null_tree-in-Nothing.field-0 full c.in-Nothing.ensures c.in_ok-null_tree-in-Nothing.ensures
 
 pub returns-then-is_sample : goal.returns-then-is_sample
 returns-then-is_sample c =
-    open-sampled c.args.plain (site_of c.args.site.now) (int c.in-One.whole) c.in-One.ensures.0 c.requires (sym c.is_sample.ensures ∙ c.if-is_sample.true)
+    open-sampled c.args.plain.now (site_of c.args.site.now) (int c.in-One.whole) c.in-One.ensures.0 (sym c.is_sample.ensures ∙ c.if-is_sample.true)
 
-pub returns-in_ok-tree-in-One : goal.returns-in_ok-tree-in-One
-returns-in_ok-tree-in-One c =
-    let t = c.args.plain in
+pub returns-in_ok-smaller_or_copy-in-One : goal.returns-in_ok-smaller_or_copy-in-One
+returns-in_ok-smaller_or_copy-in-One c =
+    let t = c.args.plain.now in
     let whole = c.in-One.whole in
     let fits : FitsSigned w128 whole = search rules in
     let tree : c.in_ok-tree-in-One.tree ≡ one_value_tree (column_of t) (int whole) = rw (to_z-of_z w128 whole fits) at c.in_ok-tree-in-One.ensures in
-    decided-one t (site_of c.args.site.now) (int whole) c.in-One.ensures.0 c.smaller.result (sym c.is_sample.ensures ∙ c.if-is_sample.false) c.in-One.ensures.1 (c.smaller.ensures ∙ ap (smaller_or_plain (column_of t)) tree)
+    decided-one t (site_of c.args.site.now) (int whole) c.in-One.ensures.0 c.in_ok-smaller_or_copy-in-One.field-0 (sym c.is_sample.ensures ∙ c.if-is_sample.false) c.in-One.ensures.1 (c.in_ok-smaller_or_copy-in-One.ensures ∙ ap (smaller_or_plain (column_of t)) tree)
 
 pub returns-in-Many : goal.returns-in-Many
-returns-in-Many c = open-many c.args.plain (site_of c.args.site.now) _ c.in-Many.ensures.1 c.requires c.in-Many.ensures.2
+returns-in-Many c = open-many c.args.plain.now (site_of c.args.site.now) _ c.in-Many.ensures.1 c.in-Many.ensures.2

@@ -9,7 +9,7 @@ use Rattle.vx_compressor.proofs.judging.first_pass.Given as goal
 abbrev pub invariant-loop-scheme : goal.invariant-loop-scheme
 invariant-loop-scheme g l =
     let meaning = g.S.Scheme.meaning in
-    let here = column_of l.array in
+    let here = column_of l.fn.column.array in
     let site = site_of l.site in
     record {
       holds : Holds l.column here (options_of l.site);

@@ -6,15 +6,15 @@ use Rattle.vx_compressor.proofs.HeldLemmas.{site_tree-held, value-held, taken-he
 use Rattle.vx_compressor.proofs.judging.resolve.Goals as goal
 
 pub resolve_estimate-requires-clause-column : goal.resolve_estimate-requires-clause-column
-resolve_estimate-requires-clause-column g c = site_tree-held c.args.column.now (column_of c.args.array.now) (options_of c.args.site.now) c.requires.holds c.requires.askable
+resolve_estimate-requires-clause-column g c = site_tree-held c.args.column.now (column_of c.args.column.now.array) (options_of c.args.site.now) c.requires.holds c.requires.askable
 
 pub resolve_estimate-requires-clause-value : goal.resolve_estimate-requires-clause-value
-resolve_estimate-requires-clause-value g c = value-held c.args.column.now (column_of c.args.array.now) (options_of c.args.site.now) c.requires.holds c.requires.value
+resolve_estimate-requires-clause-value g c = value-held c.args.column.now (column_of c.args.column.now.array) (options_of c.args.site.now) c.requires.holds c.requires.value
 
 pub returns-clause-answer : goal.returns-clause-answer
 returns-clause-answer g c =
     let m = g.S.Scheme.meaning c.args.scheme.now in
-    let here = column_of c.args.array.now in
+    let here = column_of c.args.column.now.array in
     let opts = options_of c.args.site.now in
     let taken = taken-held c.args.column.now here opts c.requires.holds m c.requires.ready in
     let same = column-held c.args.column.now here opts c.requires.holds in

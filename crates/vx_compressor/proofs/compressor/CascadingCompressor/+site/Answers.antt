@@ -1,6 +1,9 @@
-use Rattle.std.proofs.Common.{◌≡◌, ◌<◌, ◌+◌, ◌-◌, ◌^◌, rules, false, Some, All, refl, sym, ◌∙◌, ap, subst, map, drop, option_map}
+use Rattle.std.proofs.Common.{◌≡◌, ◌<◌, ◌+◌, ◌++◌, ◌-◌, ◌^◌, rules, false, Some, All, refl, sym, ◌∙◌, ap, subst, map, drop, length, option_map}
 use Rattle.std.specs.Prelude.{◌==◌}
 use Rattle.std.proofs.lemmas.Bool.{eqb-false}
+use Rattle.std.proofs.lemmas.Iterator.Adapters.{YieldsList-from_vec}
+use Rattle.std.proofs.lemmas.Iterator.Consumers.{YieldsList-turn}
+use Rattle.std.proofs.lemmas.List.{length_push}
 use Rattle.vx_base.specs.Answers.{Answers}
 use Rattle.vx_base.specs.TypeOf.{type_of}
 use Rattle.vx_model.specs.Column.{column_of}
@@ -15,7 +18,8 @@ use Rattle.vx_scheme.specs.Names.{name_of}
 use Rattle.vx_scheme.specs.declared.estimate.DeferredEstimate.TheVariants.{Sample}
 use Rattle.vx_scheme.specs.declared.split.Split.TheVariants.{Kept, Finished, Parts}
 use Rattle.vx_compressor.specs.Cascade.{setting, part_trees, eligible, trial, deferred_score, choice, chosen, children_of, leaf_tree}
-use Rattle.vx_compressor.specs.Judging.{IsAskable, IsReady, WasPutOff, meant_pair}
+use Rattle.vx_compressor.specs.Choice.{best_of}
+use Rattle.vx_compressor.specs.Judging.{Holds, IsAskable, IsReady, WasPutOff, found, meant, meant_pair}
 use Rattle.vx_compressor.specs.Reach.{IsInReach, IsPartInReach}
 use Rattle.vx_compressor.specs.Sampling.{sample}
 use Rattle.vx_compressor.proofs.ByValueLemmas.{decided-here, open-here}
@@ -30,63 +34,62 @@ use Rattle.vx_compressor.proofs.compressor.CascadingCompressor.+site.Goals as go
 
 -- ---- site_tree
 
-pub site_tree-by_value-requires : goal.site_tree-by_value-requires
-site_tree-by_value-requires g t c = plain-is c.args.canonical (column_of c.args.array.now) c.requires.canonical
-
 pub site_tree-best_tree-requires : goal.site_tree-best_tree-requires
 site_tree-best_tree-requires g t c =
-    let array = column_of c.args.array.now in
-    let here = open-here c.in_ok-tree.field-0 c.in-Open.plain (column_of c.args.canonical) array (site_of c.args.site.now) c.in_ok-tree.ensures c.in-Open.is (column_of-is c.args.canonical array c.requires.canonical) in
-    let value : HasValue array = here.value in
-    let canonical : c.in-Open.plain ≡ plain array = here.plain in
-    let askable : IsAskable array = record { some = here.some; few = few_in_reach array (site_of c.args.site.now).budget c.requires.reach } in
+    let own = column_of c.args.canonical in
+    let here = open-here c.in_ok-tree.field-0 own (site_of c.args.site.now) c.in_ok-tree.ensures c.in-None.is in
+    let value : HasValue own = here.value in
+    let askable : IsAskable own = record { some = here.some; few = few_in_reach own (site_of c.args.site.now).budget c.requires.reach } in
     search rules
 
-pub site_tree-returns-in-Decided-clause-answer : goal.site_tree-returns-in-Decided-clause-answer
-site_tree-returns-in-Decided-clause-answer g t c =
+pub site_tree-returns-in-Some-clause-answer : goal.site_tree-returns-in-Some-clause-answer
+site_tree-returns-in-Some-clause-answer g t c =
     let set = setting g.S.Scheme.meaning c.args.self.now c.args.words.now in
     let site = site_of c.args.site.now in
-    decided-here c.in_ok-tree.field-0 c.in-Decided.tree (column_of c.args.canonical) (column_of c.args.array.now) site c.in_ok-tree.ensures c.in-Decided.is (column_of-is c.args.canonical (column_of c.args.array.now) c.requires.canonical)
-    (chosen (children_of set site) set)
+    decided-here c.in_ok-tree.field-0 c.in-Some.tree (column_of c.args.canonical) site c.in_ok-tree.ensures c.in-Some.is (chosen (children_of set site) set)
 
-pub site_tree-returns-in-Open-clause-answer : goal.site_tree-returns-in-Open-clause-answer
-site_tree-returns-in-Open-clause-answer g t c =
+pub site_tree-returns-in-None-clause-answer : goal.site_tree-returns-in-None-clause-answer
+site_tree-returns-in-None-clause-answer g t c =
     let set = setting g.S.Scheme.meaning c.args.self.now c.args.words.now in
     let site = site_of c.args.site.now in
-    let here = open-here c.in_ok-tree.field-0 c.in-Open.plain (column_of c.args.canonical) (column_of c.args.array.now) site c.in_ok-tree.ensures c.in-Open.is (column_of-is c.args.canonical (column_of c.args.array.now) c.requires.canonical) in
+    let here = open-here c.in_ok-tree.field-0 (column_of c.args.canonical) site c.in_ok-tree.ensures c.in-None.is in
     answers_along c.best_tree.result _ _ (here.chosen (chosen (children_of set site) set)) c.best_tree.ensures.answer
 
 -- ---- best_tree
 
-pub best_tree-new-column-requires : goal.best_tree-new-column-requires
-best_tree-new-column-requires g t c = plain-is c.args.canonical (column_of c.args.array.now) c.requires.canonical
-
 pub best_tree-choose-requires : goal.best_tree-choose-requires
 best_tree-choose-requires g t c =
     let meaning = g.S.Scheme.meaning in
-    let here = column_of c.args.array.now in
+    let own = column_of c.args.canonical in
+    let here = column_of c.new-column.result.array in
+    let same : here ≡ own = ap (λ b. column_of b.array) c.new-column.ensures in
     let site = c.with_merged_stats_options-site.result in
     let opts = options_of site in
-    let typed = c.dtype.ensures ∙ ap (λ col. col.dtype) (column_of-is c.args.canonical here c.requires.canonical) in
     let budget : site.budget ≡ c.args.site.now.budget = ap (λ s. s.budget) c.with_merged_stats_options-site.ensures.site in
-    let reach : IsInReach here site.budget = subst (IsInReach here) (sym budget) c.requires.reach in
+    let reach : IsInReach here site.budget = subst (λ col. IsInReach col site.budget) (sym same) (subst (IsInReach own) (sym budget) c.requires.reach) in
+    let typed : type_of c.dtype.result.now ≡ here.dtype = c.dtype.ensures ∙ ap (λ col. col.dtype) (sym same) in
     let ready : All (λ s. IsReady here opts (meaning s)) c.as_slice-2.result.now =
     merged_ready meaning (map meaning c.args.self.now) here (site_of c.args.site.now).history (type_of c.dtype.result.now) c.merged_options-options.result opts
     c.in_ok-schemes.schemes c.as_slice.result.now c.as_slice-2.result.now
     c.in_ok-schemes.ensures typed c.as_slice.ensures c.as_slice-2.ensures c.with_merged_stats_options-site.ensures.options c.merged_options-options.ensures.all in
+    let array : c.new-column.result.array ≡ plain here = ap (λ b. b.array) c.new-column.ensures ∙ c.requires.plain ∙ ap plain (sym same) in
+    let askable : IsAskable here = subst IsAskable (sym same) c.requires.askable in
+    let value : HasValue here = subst HasValue (sym same) c.requires.value in
     search rules
 
 pub best_tree-trial-requires : goal.best_tree-trial-requires
 best_tree-trial-requires g t c =
     let meaning = g.S.Scheme.meaning in
-    let here = column_of c.args.array.now in
+    let own = column_of c.args.canonical in
+    let here = column_of c.new-column.result.array in
+    let same : here ≡ own = ap (λ b. column_of b.array) c.new-column.ensures in
     let after = c.with_merged_stats_options-site.result in
     let opts = options_of after in
     let set = setting meaning c.args.self.now c.args.words.now in
     let site = site_of c.args.site.now in
     let child = children_of set site in
     let held = c.in_ok-best.ensures.holds in
-    let typed = c.dtype.ensures ∙ ap (λ col. col.dtype) (column_of-is c.args.canonical here c.requires.canonical) in
+    let typed : type_of c.dtype.result.now ≡ here.dtype = c.dtype.ensures ∙ ap (λ col. col.dtype) (sym same) in
     let all = merged_ready meaning (map meaning c.args.self.now) here site.history (type_of c.dtype.result.now) c.merged_options-options.result opts
     c.in_ok-schemes.schemes c.as_slice.result.now c.in_ok-schemes.schemes
     c.in_ok-schemes.ensures typed c.as_slice.ensures refl c.with_merged_stats_options-site.ensures.options c.merged_options-options.ensures.all in
@@ -94,27 +97,28 @@ best_tree-trial-requires g t c =
     let is : Some (meaning c.in-Some.scheme) ≡ choice child set here site =
     sym (ap (option_map meaning) c.in-Some.is) ∙ c.in_ok-best.ensures.answer ∙ ap (λ s. choice (children_of set s) set here s) c.with_merged_stats_options-site.ensures.site in
     let budget : after.budget ≡ c.args.site.now.budget = ap (λ s. s.budget) c.with_merged_stats_options-site.ensures.site in
-    let column : IsSiteTree c.choose.new.column.array = site_tree-held c.choose.new.column here opts held c.requires.askable in
+    let column : IsSiteTree c.choose.new.column.array = site_tree-held c.choose.new.column here opts held (subst IsAskable (sym same) c.requires.askable) in
     let ready : IsReady (column_of c.choose.new.column.array) c.choose.new.column.options (meaning c.in-Some.scheme) =
     ready-held c.choose.new.column here opts held (meaning c.in-Some.scheme) (choice_ready meaning child set here site opts c.in_ok-schemes.schemes c.in-Some.scheme eligible_here all is) in
-    let reach : IsInReach (column_of c.choose.new.column.array) after.budget = subst (λ col. IsInReach col after.budget) (sym (column-held c.choose.new.column here opts held)) (subst (IsInReach here) (sym budget) c.requires.reach) in
+    let reach : IsInReach (column_of c.choose.new.column.array) after.budget =
+    subst (λ col. IsInReach col after.budget) (sym (column-held c.choose.new.column here opts held ∙ same)) (subst (IsInReach own) (sym budget) c.requires.reach) in
     search rules
 
 pub best_tree-returns-clause-answer : goal.best_tree-returns-clause-answer
 best_tree-returns-clause-answer g t c =
     let meaning = g.S.Scheme.meaning in
-    let here = column_of c.args.array.now in
+    let here = column_of c.new-column.result.array in
     let opts = options_of c.with_merged_stats_options-site.result in
     let set = setting meaning c.args.self.now c.args.words.now in
     let m = meaning c.in-Some.scheme in
     let site = site_of c.with_merged_stats_options-site.result in
     let child = children_of set site in
-    let same = column_of-is c.into_array-2.result here (c.into_array-2.ensures.array ∙ c.in_ok-tree.ensures.column.array ∙ c.in_ok-best.ensures.holds.array) in
+    let left = column_of-is c.into_array-2.result here (c.into_array-2.ensures.array ∙ c.in_ok-tree.ensures.column.array ∙ c.in_ok-best.ensures.holds.array) in
     let made : c.in_ok-tree.tree ≡ trial child m here site = c.in_ok-tree.ensures.answer ∙ ap (λ col. trial child m col site) (column-held c.choose.new.column here opts c.in_ok-best.ensures.holds) in
     let is : Some m ≡ choice child set here site = sym (ap (option_map meaning) c.in-Some.is) ∙ c.in_ok-best.ensures.answer in
-    c.smaller.ensures ∙ (λ i. smaller_or_plain (same i) (made i))
+    c.smaller.ensures ∙ (λ i. smaller_or_plain (left i) (made i))
     ∙ chosen-some meaning child set here site c.in-Some.scheme is
-    ∙ ap (λ s. chosen_or_plain here (chosen (children_of set s) set here s)) c.with_merged_stats_options-site.ensures.site
+    ∙ (λ i. let col = column_of (c.new-column.ensures i).array in let s = c.with_merged_stats_options-site.ensures.site i in chosen_or_plain col (chosen (children_of set s) set col s))
 
 -- ---- choose
 
@@ -123,17 +127,26 @@ choose-returns-then-is_always-clause-answer g t c =
     let meaning = g.S.Scheme.meaning in
     let set = setting meaning c.args.self.now c.args.words.now in
     let site = site_of c.args.site.now in
-    choice_at_once meaning (children_of set site) set (column_of c.args.array.now) site (map meaning c.args.schemes.now) c.in_ok-all.all.best c.scheme_of.result
+    choice_at_once meaning (children_of set site) set (column_of c.args.column.now.array) site (map meaning c.args.schemes.now) c.in_ok-all.all.best c.scheme_of.result
     c.requires.eligible c.in_ok-all.ensures.best (sym c.is_always.ensures ∙ c.if-is_always.true) c.scheme_of.ensures
 
 pub choose-judge-requires : goal.choose-judge-requires
 choose-judge-requires g t c =
     let meaning = g.S.Scheme.meaning in
-    let here = column_of c.args.array.now in
+    let here = column_of c.args.column.now.array in
     let opts = options_of c.args.site.now in
     let put_off = ap (map (meant_pair meaning)) c.as_slice-deferred.ensures.value ∙ c.in_ok-all.ensures.deferred (sym c.is_always.ensures ∙ c.if-is_always.false) in
-    let ready : All (λ p. IsReady here opts (meaning p.0)) c.as_slice-deferred.result.now = put_off_ready meaning here (site_of c.args.site.now) opts c.args.schemes.now c.as_slice-deferred.result.now c.requires.ready put_off in
-    let so : All (λ p. WasPutOff here (site_of c.args.site.now) (meaning p.0) p.1) c.as_slice-deferred.result.now = were_put_off meaning here (site_of c.args.site.now) c.args.schemes.now c.as_slice-deferred.result.now put_off in
+    let held = c.in_ok-all.ensures.holds in
+    let after = column_of c.first_pass.new.column.array in
+    let same : after ≡ here = column-held c.first_pass.new.column here opts held in
+    let ready_here : All (λ p. IsReady here opts (meaning p.0)) c.as_slice-deferred.result.now = put_off_ready meaning here (site_of c.args.site.now) opts c.args.schemes.now c.as_slice-deferred.result.now c.requires.ready put_off in
+    let put_off_here : All (λ p. WasPutOff here (site_of c.args.site.now) (meaning p.0) p.1) c.as_slice-deferred.result.now = were_put_off meaning here (site_of c.args.site.now) c.args.schemes.now c.as_slice-deferred.result.now put_off in
+    let ready : All (λ p. IsReady after opts (meaning p.0)) c.as_slice-deferred.result.now = subst (λ col. All (λ p. IsReady col opts (meaning p.0)) c.as_slice-deferred.result.now) (sym same) ready_here in
+    let were : All (λ p. WasPutOff after (site_of c.args.site.now) (meaning p.0) p.1) c.as_slice-deferred.result.now = subst (λ col. All (λ p. WasPutOff col (site_of c.args.site.now) (meaning p.0) p.1) c.as_slice-deferred.result.now) (sym same) put_off_here in
+    let holds : Holds c.first_pass.new.column after opts = subst (λ col. Holds c.first_pass.new.column col opts) (sym same) held in
+    let askable : IsAskable after = subst IsAskable (sym same) c.requires.askable in
+    let reach : IsInReach after (site_of c.args.site.now).budget = subst (λ col. IsInReach col (site_of c.args.site.now).budget) (sym same) c.requires.reach in
+    let value : HasValue after = subst HasValue (sym same) c.requires.value in
     search rules
 
 pub choose-returns-clause-answer : goal.choose-returns-clause-answer
@@ -142,8 +155,11 @@ choose-returns-clause-answer g t c =
     let set = setting meaning c.args.self.now c.args.words.now in
     let site = site_of c.args.site.now in
     let put_off = ap (map (meant_pair meaning)) c.as_slice-deferred.ensures.value ∙ c.in_ok-all.ensures.deferred (sym c.is_always.ensures ∙ c.if-is_always.false) in
-    choice_later meaning (children_of set site) set (column_of c.args.array.now) site (map meaning c.args.schemes.now) c.in_ok-all.all.best c.scheme_of-2.result
-    c.in_ok-best.best (map (meant_pair meaning) c.as_slice-deferred.result.now) c.requires.eligible c.in_ok-all.ensures.best put_off c.in_ok-best.ensures.answer c.scheme_of-2.ensures
+    let here = column_of c.args.column.now.array in
+    let same = column-held c.first_pass.new.column here (options_of c.args.site.now) c.in_ok-all.ensures.holds in
+    let best = c.in_ok-best.ensures.answer ∙ ap (λ col. best_of (meant meaning c.in_ok-all.all.best) (found (children_of set site) c.args.words.now col site (map (meant_pair meaning) c.as_slice-deferred.result.now))) same in
+    choice_later meaning (children_of set site) set here site (map meaning c.args.schemes.now) c.in_ok-all.all.best c.scheme_of-2.result
+    c.in_ok-best.best (map (meant_pair meaning) c.as_slice-deferred.result.now) c.requires.eligible c.in_ok-all.ensures.best put_off best c.scheme_of-2.ensures
 
 -- ---- judge
 
@@ -152,26 +168,32 @@ judge-returns-then-is_always-clause-answer g t c =
     let meaning = g.S.Scheme.meaning in
     let l = c.loop-scheme in
     let xs = c.args.deferred.now in
-    let here = column_of c.args.array.now in
+    let here = column_of c.args.column.now.array in
     let site = site_of c.args.site.now in
     let words = c.args.words.now in
     let child = children_of (setting meaning c.args.self.now words) site in
+    let same = column-held l.column here (options_of c.args.site.now) l.invariant.holds in
+    let p = c.loop-scheme-item.result in
+    let answer : c.in_ok-score.score ≡ deferred_score child words (meaning p.0) here site p.1 = c.in_ok-score.ensures.answer ∙ ap (λ col. deferred_score child words (meaning p.0) col site p.1) same in
     sym (best_found-always meaning child words here site c.better-best.result (drop (l.scheme-index + 1) xs) (sym c.is_always.ensures ∙ c.if-is_always.true))
-    ∙ best_found-step meaning child words here site l.best c.better-best.result xs l.scheme-index c.loop-scheme-item.result c.in_ok-score.score c.loop-scheme-test.true c.loop-scheme-item.is c.in_ok-score.ensures.answer c.better-best.ensures
+    ∙ best_found-step meaning child words here site l.best c.better-best.result xs l.scheme-index c.loop-scheme-item.result c.in_ok-score.score c.loop-scheme-test.true c.loop-scheme-item.is answer c.better-best.ensures
     ∙ l.invariant.best
 
 pub judge-loop-scheme-preserved : goal.judge-loop-scheme-preserved
 judge-loop-scheme-preserved g t c =
     let meaning = g.S.Scheme.meaning in
     let l = c.loop-scheme in
-    let here = column_of c.args.array.now in
+    let here = column_of c.args.column.now.array in
     let site = site_of c.args.site.now in
     let words = c.args.words.now in
     let child = children_of (setting meaning c.args.self.now words) site in
+    let same = column-held l.column here (options_of c.args.site.now) l.invariant.holds in
+    let p = c.loop-scheme-item.result in
+    let answer : c.in_ok-score.score ≡ deferred_score child words (meaning p.0) here site p.1 = c.in_ok-score.ensures.answer ∙ ap (λ col. deferred_score child words (meaning p.0) col site p.1) same in
     record {
-      holds = c.in_ok-score.ensures.holds;
+      holds = subst (λ col. Holds c.deferred_score.new.column col (options_of c.args.site.now)) same c.in_ok-score.ensures.holds;
       same_ctx = c.in_ok-score.ensures.ctx ∙ l.invariant.same_ctx;
-      best = best_found-step meaning child words here site l.best c.better-best.result c.args.deferred.now l.scheme-index c.loop-scheme-item.result c.in_ok-score.score c.loop-scheme-test.true c.loop-scheme-item.is c.in_ok-score.ensures.answer c.better-best.ensures ∙ l.invariant.best;
+      best = best_found-step meaning child words here site l.best c.better-best.result c.args.deferred.now l.scheme-index c.loop-scheme-item.result c.in_ok-score.score c.loop-scheme-test.true c.loop-scheme-item.is answer c.better-best.ensures ∙ l.invariant.best;
     }
 
 -- ---- deferred_score
@@ -179,11 +201,11 @@ judge-loop-scheme-preserved g t c =
 pub deferred_score-returns-in-Sample-clause-answer : goal.deferred_score-returns-in-Sample-clause-answer
 deferred_score-returns-in-Sample-clause-answer g t c =
     let m = g.S.Scheme.meaning c.args.scheme.now in
-    let here = column_of c.args.array.now in
+    let here = column_of c.args.column.now.array in
     let site = site_of c.args.site.now in
     let words = c.args.words.now in
     let child = children_of (setting g.S.Scheme.meaning c.args.self.now words) site in
-    let same = column_of-is c.array.result.now here (c.array.ensures.array ∙ c.requires.holds.array) in
+    let same = ap column_of c.array.ensures.array in
     subst (λ how. Answers c.sample_score.result (deferred_score child words m here site how)) (sym c.in-Sample.is)
     (answers_to c.sample_score.result (λ col. deferred_score child words m col site Sample) _ _ same c.sample_score.ensures.answer)
 
@@ -257,8 +279,8 @@ trial-part_trees-requires g t c =
     let made : Parts c.in-Parts.parts ≡ split_of ((meaning c.args.scheme.now).splits here site) = sym c.in-Parts.is ∙ c.in_ok-split.ensures.answer c.requires.ready.taken in
     let parts = parts_made meaning g.met.S.Scheme.lawful c.args.self.now c.args.words.now c.args.scheme.now c.args.column.now.array c.array.result.now site c.known.ensures c.array.ensures.array c.requires.column c.requires.ready.taken c.requires.reach
     c.in-Parts.parts made in
-    let plain : All IsPlain c.as_slice-parts.result.now = subst (All IsPlain) (sym c.as_slice-parts.ensures) parts.plain in
-    let reach : All (λ part. IsPartInReach (column_of part) c.args.site.now.budget) c.as_slice-parts.result.now = subst (All (λ part. IsPartInReach (column_of part) site.budget)) (sym c.as_slice-parts.ensures) parts.reach in
+    let plain : All IsPlain c.in-Parts.parts = parts.plain in
+    let reach : All (λ part. IsPartInReach (column_of part) c.args.site.now.budget) c.in-Parts.parts = parts.reach in
     search rules
 
 pub trial-join-requires-clause-column : goal.trial-join-requires-clause-column
@@ -273,7 +295,7 @@ trial-join-requires-clause-trees g t c =
     let parts = parts_made meaning g.met.S.Scheme.lawful c.args.self.now c.args.words.now c.args.scheme.now c.args.column.now.array c.array.result.now site c.known.ensures c.array.ensures.array c.requires.column c.requires.ready.taken c.requires.reach
     c.in-Parts.parts made in
     let child = children_of (setting meaning c.args.self.now c.args.words.now) site in
-    let are = c.in_ok-trees-in-Parts.ensures.answer ∙ (λ i. part_trees child (c.id.ensures i) site 0 (map column_of (c.as_slice-parts.ensures i))) in
+    let are = c.in_ok-trees-in-Parts.ensures.answer ∙ ap (λ name. part_trees child name site 0 (map column_of c.in-Parts.parts)) c.id.ensures in
     subst (λ array. FitParts ((meaning c.args.scheme.now).splits (column_of array) site) c.in_ok-trees-in-Parts.trees) (sym c.split.ensures.column.array) (parts.fit c.in_ok-trees-in-Parts.trees are)
 
 pub trial-returns-in_ok-trees-in-Parts-clause-answer : goal.trial-returns-in_ok-trees-in-Parts-clause-answer
@@ -285,19 +307,41 @@ trial-returns-in_ok-trees-in-Parts-clause-answer g t c =
     let parts = parts_made meaning g.met.S.Scheme.lawful c.args.self.now c.args.words.now c.args.scheme.now c.args.column.now.array c.array.result.now site c.known.ensures c.array.ensures.array c.requires.column c.requires.ready.taken c.requires.reach
     c.in-Parts.parts made in
     let child = children_of (setting meaning c.args.self.now c.args.words.now) site in
-    let are = c.in_ok-trees-in-Parts.ensures.answer ∙ (λ i. part_trees child (c.id.ensures i) site 0 (map column_of (c.as_slice-parts.ensures i))) in
+    let are = c.in_ok-trees-in-Parts.ensures.answer ∙ ap (λ name. part_trees child name site 0 (map column_of c.in-Parts.parts)) c.id.ensures in
     joined_answer (meaning c.args.scheme.now) c.join.result c.args.column.now.array c.split.new.column.array _ site c.in_ok-trees-in-Parts.trees c.split.ensures.column.array (parts.joined c.in_ok-trees-in-Parts.trees are) c.requires.ready.taken parts.split c.join.ensures.answer
 
 -- ---- part_trees
 
-pub part_trees-loop-number-preserved : goal.part_trees-loop-number-preserved
-part_trees-loop-number-preserved g t c =
-    let l = c.loop-number in
+pub part_trees-part_tree-requires : goal.part_trees-part_tree-requires
+part_trees-part_tree-requires g t c =
+    let l = c.loop-part in
+    let part = c.in-Some.part in
+    let items = c.into_vec-part-items in
+    let gives = c.into_iter-part-iterator.ensures.into_iter_gives in
+    let turn = YieldsList-turn (YieldsList-from_vec {s = c.into_iter-part-iterator.result} c.args.parts (gives.0 ∙ items.ensures) (gives.1 ∙ items.result.ok.0 ∙ ap length items.ensures)) l.yielded l.part-iterator l.yielded_by c.next.result c.next.new.self part c.in-Some.is c.next.ensures.steps in
+    let plain : IsPlain part = subst IsPlain (sym turn.1) (c.requires.plain (length l.yielded) part turn.0) in
+    let reach : IsPartInReach (column_of part) c.args.site.now.budget = subst (λ p. IsPartInReach (column_of p) c.args.site.now.budget) (sym turn.1) (c.requires.reach (length l.yielded) part turn.0) in
+    search rules
+
+pub part_trees-loop-part-preserved : goal.part_trees-loop-part-preserved
+part_trees-loop-part-preserved g t c =
+    let l = c.loop-part in
+    let part = c.in-Some.part in
+    let name = name_of c.args.id in
     let site = site_of c.args.site.now in
     let child = children_of (setting g.S.Scheme.meaning c.args.self.now c.args.words.now) site in
+    let items = c.into_vec-part-items in
+    let gives = c.into_iter-part-iterator.ensures.into_iter_gives in
+    let turn = YieldsList-turn (YieldsList-from_vec {s = c.into_iter-part-iterator.result} c.args.parts (gives.0 ∙ items.ensures) (gives.1 ∙ items.result.ok.0 ∙ ap length items.ensures)) l.yielded l.part-iterator l.yielded_by c.next.result c.next.new.self part c.in-Some.is c.next.ensures.steps in
+    let more = length_push l.yielded part in
+    let is = c.in_ok-tree.ensures.answer ∙ ap (λ n. child (column_of part) (down site name n)) (c.len-number.ensures ∙ l.invariant.number) in
     record {
       same_ctx = c.in_ok-tree.ensures.ctx ∙ l.invariant.same_ctx;
-      trees = part_trees-step child (name_of c.args.id) site c.args.parts.now l.number c.index-parts-number.result c.in_ok-tree.tree l.trees c.in_ok-trees.trees c.loop-number-test.true c.index-parts-number.is c.in_ok-tree.ensures.answer c.in_ok-trees.ensures ∙ l.invariant.trees;
+      number = ap length c.in_ok-trees.ensures ∙ length_push l.trees c.in_ok-tree.tree ∙ ap (λ n. n + 1) l.invariant.number ∙ sym more;
+      trees =
+          ap (λ n. c.in_ok-trees.trees ++ part_trees child name site n (map column_of (drop n c.args.parts))) more
+          ∙ part_trees-step child name site c.args.parts (length l.yielded) part c.in_ok-tree.tree l.trees c.in_ok-trees.trees turn.0 turn.1 is c.in_ok-trees.ensures
+          ∙ l.invariant.trees;
     }
 
 -- ---- part_tree
@@ -306,22 +350,21 @@ pub part_tree-returns-then-finished_cascading-clause-answer : goal.part_tree-ret
 part_tree-returns-then-finished_cascading-clause-answer g t c =
     let set = setting g.S.Scheme.meaning c.args.self.now c.args.words.now in
     let parent = site_of c.args.parent.now in
-    c.in_ok-plain.ensures ∙ c.requires.plain ∙ child_tree-none set parent.budget (column_of c.args.part.now) (down parent (name_of c.args.id) c.args.number) (sym c.finished_cascading.ensures ∙ c.if-finished_cascading.true)
+    c.requires.plain ∙ child_tree-none set parent.budget (column_of c.args.part) (down parent (name_of c.args.id) c.args.number) (sym c.finished_cascading.ensures ∙ c.if-finished_cascading.true)
 
 pub part_tree-site_tree-requires : goal.part_tree-site_tree-requires
 part_tree-site_tree-requires g t c =
-    let part = column_of c.args.part.now in
+    let part = column_of c.args.part in
     let parent = site_of c.args.parent.now in
     let more : (parent.budget == 0) ≡ false = sym c.finished_cascading.ensures ∙ c.if-finished_cascading.false in
     let some = eqb-false _ _ more in
     let budget : c.descend-site.result.budget ≡ c.args.parent.now.budget - 1 = ap (λ s. s.budget) c.descend-site.ensures.site in
     let reach : IsInReach part c.descend-site.result.budget = subst (IsInReach part) (sym budget) (reach-below part parent (name_of c.args.id) c.args.number c.requires.reach more) in
-    let canonical : c.in_ok-plain.plain ≡ plain part = c.in_ok-plain.ensures ∙ c.requires.plain in
     search rules
 
 pub part_tree-returns-clause-answer : goal.part_tree-returns-clause-answer
 part_tree-returns-clause-answer g t c =
     let set = setting g.S.Scheme.meaning c.args.self.now c.args.words.now in
-    let part = column_of c.args.part.now in
+    let part = column_of c.args.part in
     let parent = site_of c.args.parent.now in
     answers_along c.site_tree.result _ _ (ap (leaf_tree set part) c.descend-site.ensures.site ∙ child_tree-some set parent part (name_of c.args.id) c.args.number (sym c.finished_cascading.ensures ∙ c.if-finished_cascading.false)) c.site_tree.ensures.answer

@@ -1,4 +1,4 @@
-use Rattle.std.proofs.Common.{◌≡◌, ◌+◌, ◌*◌, ◌++◌, drop, map}
+use Rattle.std.proofs.Common.{◌≡◌, ◌+◌, ◌*◌, ◌++◌, drop, length, map}
 use Rattle.vx_model.specs.Column.{column_of}
 use Rattle.vx_scheme.specs.Contexts.{site_of, options_of}
 use Rattle.vx_scheme.specs.Names.{name_of}
@@ -39,7 +39,7 @@ decreases-site_tree g l = 9 * (site_of l.site.now).budget + 8
 abbrev pub invariant-judge-loop-scheme : goal.invariant-judge-loop-scheme
 invariant-judge-loop-scheme g l =
     let meaning = g.S.Scheme.meaning in
-    let here = column_of l.array in
+    let here = column_of l.fn.column.array in
     let site = site_of l.site in
     let child = children_of (setting meaning l.self l.words) site in
     record {
@@ -49,12 +49,13 @@ invariant-judge-loop-scheme g l =
     }
 
 -- the trees so far and those of the parts that are left are those of all
-abbrev pub invariant-part_trees-loop-number : goal.invariant-part_trees-loop-number
-invariant-part_trees-loop-number g l =
+abbrev pub invariant-part_trees-loop-part : goal.invariant-part_trees-loop-part
+invariant-part_trees-loop-part g l =
     let name = name_of l.id in
     let site = site_of l.site in
     let child = children_of (setting g.S.Scheme.meaning l.self l.words) site in
     record {
       same_ctx : l.ctx ≡ l.fn.ctx;
-      trees : l.trees ++ part_trees child name site l.number (map column_of (drop l.number l.parts)) ≡ part_trees child name site 0 (map column_of l.parts);
+      number : length l.trees ≡ length l.yielded;
+      trees : l.trees ++ part_trees child name site (length l.yielded) (map column_of (drop (length l.yielded) l.fn.parts)) ≡ part_trees child name site 0 (map column_of l.fn.parts);
     }
