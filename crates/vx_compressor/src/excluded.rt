@@ -11,6 +11,12 @@ use crate::bans::Ban;
 use crate::distinct::ROOT;
 use vx_scheme::SchemeId;
 
+/// The root's child that a list's offsets are.
+pub const OFFSETS: usize = 1;
+
+/// The root's child that a list's sizes would be. No list has any here.
+pub const SIZES: usize = 2;
+
 /// Whether a scheme with this id may not stand below these, each with its child number.
 pub(crate) fn is_excluded(bans: &[Ban], id: SchemeId, history: &[(SchemeId, usize)]) -> bool
     ensures { result ≡ is_excluded_by (map ban_of bans.now) (name_of id) (entries_of history.now) }
@@ -43,7 +49,7 @@ fn is_offsets(history: &[(SchemeId, usize)]) -> bool
 fn is_root_child(entry: &(SchemeId, usize)) -> bool
     ensures { result ≡ (same_name (name_of entry.now.0) root_name && (entry.now.1 == 1)) }
 {
-    entry.0 == SchemeId::of(ROOT) && entry.1 == 1
+    entry.0 == SchemeId::of(ROOT) && entry.1 == OFFSETS
 }
 
 fn is_banned(bans: &[Ban], id: SchemeId, history: &[(SchemeId, usize)]) -> bool

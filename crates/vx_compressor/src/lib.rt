@@ -19,6 +19,7 @@ mod trials;
 
 pub use choice::{Score, best_is_choice};
 pub use compressor::{CascadingCompressor, Schemes};
+pub use excluded::{OFFSETS, SIZES};
 pub use laws::laws_of_compression;
 pub use sampling::{
     SAMPLE_COUNT, SAMPLE_SIZE, laws_of_sampling, partition_indices,
