@@ -143,13 +143,15 @@ fn counted<L: Ledger, S: Scheme>(
     ensures answer { Answers result (leaf_tree (setting S.meaning compressor.now ctx.old) (column_of array.now) (site_of site.now)) }
     ensures ctx { ctx.new ≡ ctx.old }
 {
-    if array.is_plain() {
+    let plain = if array.is_plain() {
         if let Some(tree) = by_value(ctx.alloc(), array, site)? {
             return Ok(tree);
         }
-    }
+        array.copy(ctx.alloc())?
+    } else {
+        array.canonical(ctx.alloc())?
+    };
     let words = ctx.words().copy(ctx.alloc())?;
-    let plain = array.canonical(ctx.alloc())?;
     let mut steps = Steps::<L>::new(blank);
     compressor.site_tree(words.as_slice(), plain, site, ctx, &mut steps)
 }
