@@ -17,6 +17,7 @@ abbrev pub IsOwnType : Option PlainType → Tree → Type 0
 IsOwnType None tree = IsConstant tree
 IsOwnType (Some dtype) tree = dtype ≡ tree_type tree
 
+-- the tree is well formed, and the type and the length that the array keeps are the tree's
 pub record IsArray (tree : Tree) (own_type : Option PlainType) (len : ℕ) : Type 0 where
   pub well_formed : WellFormed tree
   pub own_type_is : IsOwnType own_type tree

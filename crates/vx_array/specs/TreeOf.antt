@@ -11,6 +11,7 @@ abbrev pub unboxed : Option (Box PlainPatches Global) → Option PlainPatches
 unboxed None = None
 unboxed (Some p) = Some p.value
 
+-- the tree whose root a node is; its children are seen as their trees already
 abbrev pub tree_of : Node → Tree
 tree_of (Primitive xs valid n) = primitive (ptype_of xs) (wholes_of xs) valid n
 tree_of (Constant s len) = constant s len

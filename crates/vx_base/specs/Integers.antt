@@ -25,6 +25,7 @@ bytes_of I16 = 2
 bytes_of I32 = 4
 bytes_of I64 = 8
 
+-- the type has negative numbers
 abbrev pub is_signed : PType → Bool
 is_signed U8 = false
 is_signed U16 = false
@@ -73,6 +74,7 @@ abbrev pub lies_in : PType → ℤ → Bool
 lies_in p (pos n) = nat_lt n (2 ^ natural_bits p)
 lies_in p (negsuc n) = is_signed p && nat_lt n (2 ^ natural_bits p)
 
+-- the least number with so many digits: -2^n with a sign, 0 without
 abbrev pub least_where : Bool → ℕ → ℤ
 least_where true n = negsuc (2 ^ n - 1)
 least_where false n = pos 0
@@ -81,6 +83,7 @@ least_where false n = pos 0
 abbrev pub least : PType → ℤ
 least p = least_where (is_signed p) (natural_bits p)
 
+-- the greatest number of a type
 abbrev pub greatest : PType → ℤ
 greatest p = pos (2 ^ natural_bits p - 1)
 

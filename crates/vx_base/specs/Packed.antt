@@ -2,6 +2,7 @@
 use Rattle.std.specs.Prelude.{ℕ, zero, suc, ◌+◌, ◌*◌, ◌/◌, ◌%◌, ◌^◌, nat_lt, not, ◌&&◌, Bool, false, if◌then◌else◌, List, [], ◌∷◌, length, filter, slice_index_or}
 use Rattle.std.specs.List.{range_with_len}
 
+-- rows of some bits each as one number, the first row lowest
 abbrev pub joined : ℕ → List ℕ → ℕ
 joined width [] = 0
 joined width (row ∷ rows) = row + 2 ^ width * joined width rows
@@ -23,6 +24,7 @@ packed_row bytes width row = row_in width (joined 8 bytes) row
 abbrev pub kept_row : ℕ → ℕ → Bool → ℕ
 kept_row width bits valid = if valid then (if nat_lt bits (2 ^ width) then bits else 0) else 0
 
+-- what is packed of each row, by its bits and whether it is valid
 abbrev pub kept_rows : ℕ → List ℕ → List Bool → List ℕ
 kept_rows width [] valid = []
 kept_rows width (b ∷ bits) [] = []

@@ -6,6 +6,7 @@ use Rattle.vx_base.specs.Storable.{Storable, code_of, stored×}
 use Rattle.vx_base.specs.PlainType.{PlainType, primitive, is_nullable, stored_type}
 use Rattle.vx_base.specs.PlainValue.{PlainValue, null, int, stored_value}
 
+-- a value with its type
 pub record PlainScalar : Type 0 where
   pub dtype : PlainType
   pub value : PlainValue
@@ -15,6 +16,7 @@ abbrev pub fits : PlainType → PlainValue → Bool
 fits t null = is_nullable t
 fits (primitive p n) (int z) = lies_in p z
 
+-- the value of this type
 abbrev pub scalar : PlainType → PlainValue → PlainScalar
 scalar t v = record { dtype = t; value = v }
 
@@ -22,6 +24,7 @@ scalar t v = record { dtype = t; value = v }
 abbrev pub stored_parts : Storable (PlainType × PlainValue)
 stored_parts = stored× stored_type stored_value
 
+-- a scalar is stored as its type and its value
 abbrev pub stored_scalar : Storable PlainScalar
 stored_scalar =
     record {
@@ -30,5 +33,6 @@ stored_scalar =
       back = λ s i. let p = stored_parts.back (s.dtype, s.value) i in scalar p.0 p.1;
     }
 
+-- from this code equality of scalars is decided
 abbrev pub scalar_code : Coded PlainScalar
 scalar_code = code_of stored_scalar

@@ -8,9 +8,11 @@ use Rattle.vx_base.specs.Integers.{is_signed}
 use Rattle.vx_base.specs.Storable.{Storable, rest, stored_by, stored×}
 use base.Stored.{Gv, gnum, gcons}
 
+-- a type of columns: so far an integer type, with or without nulls
 pub data PlainType : Type 0 where
   primitive : PType → Nullability → PlainType
 
+-- nulls are allowed
 abbrev pub allows_null : Nullability → Bool
 allows_null NonNullable = false
 allows_null Nullable = true
@@ -20,6 +22,7 @@ abbrev pub or_nullable : Nullability → Nullability → Nullability
 or_nullable NonNullable n = n
 or_nullable Nullable n = Nullable
 
+-- a column of the type may have nulls
 abbrev pub is_nullable : PlainType → Bool
 is_nullable (primitive p n) = allows_null n
 
@@ -31,6 +34,7 @@ with_nullability (primitive p m) n = primitive p n
 abbrev pub is_leaf : PlainType → Bool
 is_leaf (primitive p n) = true
 
+-- the values of the type are integers
 abbrev pub is_integer : PlainType → Bool
 is_integer (primitive p n) = true
 
@@ -38,9 +42,11 @@ is_integer (primitive p n) = true
 abbrev pub integer_of : PlainType → PType
 integer_of (primitive p n) = p
 
+-- the values of the type are integers, and none is negative
 abbrev pub is_unsigned : PlainType → Bool
 is_unsigned t = is_integer t && not (is_signed (integer_of t))
 
+-- whether a type allows nulls, as the code has it
 abbrev pub nullability_of : PlainType → Nullability
 nullability_of (primitive p n) = n
 
@@ -55,6 +61,7 @@ ptype_number kinds.I16 = 5
 ptype_number kinds.I32 = 6
 ptype_number kinds.I64 = 7
 
+-- the integer type that a number is stored for
 abbrev pub ptype_at : ℕ → PType
 ptype_at n =
     cond (n == 0) kinds.U8 (cond (n == 1) kinds.U16 (cond (n == 2) kinds.U32 (cond (n == 3) kinds.U64
@@ -70,10 +77,12 @@ ptype_at-number kinds.I16 = refl
 ptype_at-number kinds.I32 = refl
 ptype_at-number kinds.I64 = refl
 
+-- the number that nullability is stored as
 abbrev pub nullability_number : Nullability → ℕ
 nullability_number NonNullable = 0
 nullability_number Nullable = 1
 
+-- the nullability that a number is stored for
 abbrev pub nullability_at : ℕ → Nullability
 nullability_at n = cond (n == 0) NonNullable Nullable
 
@@ -99,5 +108,6 @@ from g = let p = stored_primitive.from (rest g) in primitive p.0 p.1
 pub from-to : (t : PlainType) → from (to t) ≡ t
 from-to (primitive p n) = λ i. let q = stored_primitive.back (p, n) i in primitive q.0 q.1
 
+-- a type is stored as a number for its kind, and its parts
 abbrev pub stored_type : Storable PlainType
 stored_type = record { to = to; from = from; back = from-to }

@@ -4,10 +4,12 @@ use Rattle.std.proofs.Common.{ap}
 use Rattle.vx_base.specs.Storable.{Storable, same, first, rest, stored_ℤ}
 use base.Stored.{Gv, gnil, gnum, gcons, num}
 
+-- a value of a column: null, or a whole number
 pub data PlainValue : Type 0 where
   null : PlainValue
   int : ℤ → PlainValue
 
+-- the value is null
 abbrev pub is_null : PlainValue → Bool
 is_null null = true
 is_null (int z) = false
@@ -34,6 +36,7 @@ pub from-to : (v : PlainValue) → from (to v) ≡ v
 from-to null = refl
 from-to (int z) = ap int (stored_ℤ.back z)
 
+-- a value is stored as a number for its kind, and its own
 abbrev pub stored_value : Storable PlainValue
 stored_value = record { to = to; from = from; back = from-to }
 

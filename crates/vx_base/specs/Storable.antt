@@ -6,24 +6,29 @@ use Rattle.std.specs.Coded.{Coded, code_by}
 use base.Stored.{Gv, gnil, gnum, gcons, num}
 use denote.Struct.Codes.{itself}
 
+-- a way to store what has the type A as a tree of numbers, and to read it back
 pub record Storable (A : Type 0) : Type 0 where
   pub to : A → Gv
   pub from : Gv → A
   pub back : (x : A) → from (to x) ≡ x
 
+-- from a way to store, the code by which equality is decided
 abbrev pub code_of : {A : Type 0} → Storable A → Coded A
 code_of s = code_by Gv itself s.to s.from s.back
 
+-- the left part of a tree of numbers
 abbrev pub first : Gv → Gv
 first gnil = gnil
 first (gnum n) = gnil
 first (gcons a b) = a
 
+-- the right part of a tree of numbers
 abbrev pub rest : Gv → Gv
 rest gnil = gnil
 rest (gnum n) = gnil
 rest (gcons a b) = b
 
+-- a natural number is stored as itself
 abbrev pub stored_ℕ : Storable ℕ
 stored_ℕ = record { to = gnum; from = num; back = λ _. refl }
 
@@ -38,6 +43,7 @@ pub bool_back : (b : Bool) → bool_from (bool_to b) ≡ b
 bool_back true = refl
 bool_back false = refl
 
+-- a truth value is stored as 1 or 0
 abbrev pub stored_bool : Storable Bool
 stored_bool = record { to = bool_to; from = bool_from; back = bool_back }
 
@@ -52,10 +58,12 @@ pub int_back : (z : ℤ) → int_from (int_to z) ≡ z
 int_back (pos n) = refl
 int_back (negsuc n) = refl
 
+-- a whole number is stored as its sign and a natural number
 abbrev pub stored_ℤ : Storable ℤ
 stored_ℤ = record { to = int_to; from = int_from; back = int_back }
 
 module _ {A B : Type 0} (a : Storable A) (b : Storable B) where
+  -- a pair is stored as its parts
   abbrev pub stored× : Storable (A × B)
   stored× = record { to = λ p. gcons (a.to p.0) (b.to p.1); from = λ g. (a.from (first g), b.from (rest g)); back = λ p i. (a.back p.0 i, b.back p.1 i) }
 
@@ -73,6 +81,7 @@ module _ {A : Type 0} (a : Storable A) where
   list_back [] = refl
   list_back (x ∷ xs) = λ i. a.back x i ∷ list_back xs i
 
+  -- a list is stored as its first item and the rest
   abbrev pub stored_list : Storable (List A)
   stored_list = record { to = list_to; from = list_from; back = list_back }
 
@@ -89,6 +98,7 @@ module _ {A : Type 0} (a : Storable A) where
   option_back None = refl
   option_back (Some x) = ap Some (a.back x)
 
+  -- an option is stored as an empty tree, or as one with the item
   abbrev pub stored_option : Storable (Option A)
   stored_option = record { to = option_to; from = option_from; back = option_back }
 
@@ -125,6 +135,7 @@ same_tree_path (gcons a b) gnil e = absurd cc
 same_tree_path (gcons a b) (gnum n) e = absurd cc
 
 module _ {A : Type 0} (s : Storable A) where
+  -- two items are stored alike
   abbrev pub same : A → A → Bool
   same x y = same_tree (s.to x) (s.to y)
 

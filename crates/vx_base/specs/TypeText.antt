@@ -8,6 +8,7 @@ use Rattle.vx_base.specs.declared.dtype.Nullability.TheVariants.{NonNullable, Nu
 use Rattle.vx_base.specs.PlainType.{PlainType, primitive}
 use Rattle.vx_base.specs.PlainValue.{PlainValue, null, int}
 
+-- the text of an integer type
 abbrev pub ptype_text : PType → List ℕ
 ptype_text U8 = codes "u8"
 ptype_text U16 = codes "u16"
@@ -23,6 +24,7 @@ abbrev pub nullable_mark : Nullability → List ℕ
 nullable_mark NonNullable = []
 nullable_mark Nullable = codes "?"
 
+-- the text of a type: that of its base, and a question mark where it is nullable
 abbrev pub type_text : PlainType → List ℕ
 type_text (primitive p n) = ptype_text p ++ nullable_mark n
 

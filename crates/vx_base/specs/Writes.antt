@@ -8,13 +8,16 @@ use Rattle.vx_base.specs.PlainType.{PlainType, primitive, ptype_number, nullabil
 use Rattle.vx_base.specs.PlainValue.{PlainValue, null, int, stored_value}
 use Rattle.vx_base.specs.PlainScalar.{PlainScalar, stored_scalar}
 
+-- what a hash is fed of a type
 abbrev pub type_writes : PlainType → HashWrites
 type_writes (primitive p n) = fed.u8 (ptype_number p) ++ fed.u8 (nullability_number n)
 
+-- what a hash is fed of a value: its kind, and the number
 abbrev pub value_writes : PlainValue → HashWrites
 value_writes null = fed.u8 0
 value_writes (int z) = fed.u8 1 ++ fed.i128 z
 
+-- what a hash is fed of a scalar: its type and then its value
 abbrev pub scalar_writes : PlainScalar → HashWrites
 scalar_writes s = type_writes s.dtype ++ value_writes s.value
 

@@ -14,9 +14,11 @@ pub record Unpacks (kind : PType) (values : List ℤ) (valid : List Bool) (width
   pub packed : IsPacked width (kept_rows width (map (bits_in kind) values) valid) bytes
   pub unpacked : IsUnpacked bytes width start end rows
 
+-- the bits of a row's value in its type
 abbrev pub bits_at : PType → List ℤ → ℕ → ℕ
 bits_at kind values row = bits_in kind (slice_index_or values row (pos 0))
 
+-- the row is valid
 abbrev pub is_set_at : List Bool → ℕ → Bool
 is_set_at valid row = slice_index_or valid row false
 

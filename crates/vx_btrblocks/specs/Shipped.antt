@@ -14,8 +14,10 @@ use Rattle.vx_compressor.specs.Cascade.{Setting, leaf_tree}
 abbrev pub shipped_schemes : List Meaning
 shipped_schemes = for_meaning (record { 0 = tt }) ∷ zig_zag_meaning (record {}) ∷ bit_packing_meaning (record { 0 = tt }) ∷ int_dict_meaning (record {}) ∷ []
 
+-- the shipped schemes with these sample words
 abbrev pub shipped_setting : List ℕ → Setting
 shipped_setting words = record { schemes = shipped_schemes; words = words }
 
+-- the tree that a compressor over the shipped schemes makes of a column with these sample words
 abbrev pub shipped_tree : List ℕ → Column → Tree
 shipped_tree words = cascade (leaf_tree (shipped_setting words))

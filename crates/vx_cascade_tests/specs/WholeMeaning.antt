@@ -17,6 +17,7 @@ abbrev pub tree_or_plain : Column → Option Tree → Tree
 tree_or_plain c None = plain c
 tree_or_plain c (Some t) = t
 
+-- what a scheme means whose one part is the column itself
 abbrev pub whole_meaning : CompressionEstimate → Meaning
 whole_meaning estimate = record {
   name = codes "test.whole";

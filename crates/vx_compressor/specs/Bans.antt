@@ -15,6 +15,7 @@ pub record PlainBan : Type 0 where
   pub above : List ℕ
   pub children : ChildSelection
 
+-- a ban of the code, with its names as bytes
 abbrev pub ban_of : Ban → PlainBan
 ban_of b = record { banned = name_of b.banned; above = name_of b.above; children = b.children }
 
@@ -22,12 +23,15 @@ ban_of b = record { banned = name_of b.banned; above = name_of b.above; children
 abbrev pub against_others : List ℕ → List Rule → List PlainBan
 against_others name rules = map (λ r. record { banned = r.scheme; above = name; children = r.children }) rules
 
+-- the rules by which a scheme keeps itself away from below others
 abbrev pub against_itself : List ℕ → List Rule → List PlainBan
 against_itself name rules = map (λ r. record { banned = name; above = r.scheme; children = r.children }) rules
 
+-- the bans that a scheme declares, against others and against itself
 abbrev pub bans_of : Meaning → List PlainBan
 bans_of m = against_others m.name m.descendants ++ against_itself m.name m.ancestors
 
+-- the bans of all schemes, in the order of the list
 abbrev pub all_bans : List Meaning → List PlainBan
 all_bans [] = []
 all_bans (m ∷ ms) = bans_of m ++ all_bans ms
@@ -36,6 +40,7 @@ all_bans (m ∷ ms) = bans_of m ++ all_bans ms
 abbrev pub stands_below : List ℕ → ChildSelection → History → Bool
 stands_below above children history = list_any (λ e. same_name e.0 above && selects children e.1) history
 
+-- a ban keeps the scheme of this name from a site with this history
 abbrev pub is_banned : List ℕ → History → PlainBan → Bool
 is_banned name history b = same_name b.banned name && stands_below b.above b.children history
 

@@ -40,16 +40,19 @@ abbrev pub part_trees : Leaves → List ℕ → Site → ℕ → List Column →
 part_trees child name site number [] = []
 part_trees child name site number (c ∷ cs) = child c (down site name number) ∷ part_trees child name site (number + 1) cs
 
+-- the tree that a scheme makes of what it split a column into
 abbrev pub made_tree : Leaves → Meaning → Column → Site → PlainSplit → Tree
 made_tree child m c site kept = plain c
 made_tree child m c site (finished tree) = tree
 made_tree child m c site (parts columns) = m.joined c site (part_trees child m.name site 0 columns)
 
+-- the tree that a scheme makes of a column at a site
 abbrev pub trial : Leaves → Meaning → Column → Site → Tree
 trial child m c site = made_tree child m c site (m.splits c site)
 
 -- ---- how good a scheme is for a column
 
+-- the score of a verdict; none where the scheme is skipped
 abbrev pub verdict_score : EstimateVerdict → Option Score
 verdict_score Skip = None
 verdict_score AlwaysUse = Some Always
@@ -64,14 +67,17 @@ size_score before (suc after) = if nat_le before (suc after) then None else Some
 abbrev pub sample_score : Leaves → Meaning → Column → Site → Option Score
 sample_score child m s site = size_score (size (plain s)) (size (trial child m s (sample_site site)))
 
+-- the score that is found by a trial on the sample, or by asking the scheme again
 abbrev pub deferred_score : Leaves → List ℕ → Meaning → Column → Site → DeferredEstimate → Option Score
 deferred_score child words m c site Sample = sample_score child m (sample site.sampled words c) site
 deferred_score child words m c site Callback = verdict_score (m.resolve c site)
 
+-- the score of an estimate
 abbrev pub estimate_score : Leaves → List ℕ → Meaning → Column → Site → CompressionEstimate → Option Score
 estimate_score child words m c site (Verdict v) = verdict_score v
 estimate_score child words m c site (Deferred d) = deferred_score child words m c site d
 
+-- how good a scheme is for a column at a site; none where it can't serve it
 abbrev pub score : Leaves → List ℕ → Meaning → Column → Site → Option Score
 score child words m c site = estimate_score child words m c site (m.estimate c site)
 
@@ -81,9 +87,11 @@ score child words m c site = estimate_score child words m c site (m.estimate c s
 abbrev pub is_eligible : List Meaning → PlainType → History → Meaning → Bool
 is_eligible schemes dtype history m = m.takes dtype && not (excluded schemes m.name history)
 
+-- the schemes that take the type and may stand below this history
 abbrev pub eligible : List Meaning → PlainType → History → List Meaning
 eligible schemes dtype history = filter (is_eligible schemes dtype history) schemes
 
+-- the estimate is a verdict that comes at once
 abbrev pub is_verdict : CompressionEstimate → Bool
 is_verdict (Verdict v) = true
 is_verdict (Deferred d) = false
@@ -92,6 +100,7 @@ is_verdict (Deferred d) = false
 abbrev pub with_verdict : Column → Site → List Meaning → List Meaning
 with_verdict c site ms = filter (λ m. is_verdict (m.estimate c site)) ms
 
+-- the schemes whose estimate is put off
 abbrev pub deferring : Column → Site → List Meaning → List Meaning
 deferring c site ms = filter (λ m. not (is_verdict (m.estimate c site))) ms
 
@@ -110,6 +119,7 @@ choice child set c site = choice_of (map (λ m. (m, score child set.words m c si
 abbrev pub chosen : Leaves → Setting → Chooses
 chosen child set c site = option_map (λ m. trial child m c site) (choice child set c site)
 
+-- the tree of a leaf column at a site, over any way in which parts become trees
 abbrev pub site_tree : Leaves → Setting → Leaves
 site_tree child set = leaf (chosen child set)
 
@@ -129,6 +139,7 @@ child_tree set (suc budget) = site_tree (child_tree set budget) set
 abbrev pub children_of : Setting → Site → Leaves
 children_of set site = child_tree set site.budget
 
+-- the tree of a leaf column at a site; its parts become the trees of their own sites
 abbrev pub leaf_tree : Setting → Leaves
 leaf_tree set c site = site_tree (children_of set site) set c site
 

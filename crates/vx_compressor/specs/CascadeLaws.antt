@@ -9,6 +9,7 @@ use Rattle.vx_model.specs.TreeType.{tree_type}
 use Rattle.vx_scheme.specs.Lawful.{Lawful}
 use Rattle.vx_compressor.specs.Cascade.{Setting, leaf_tree}
 
+-- each scheme of the setting is lawful
 abbrev pub IsLawful : Setting → Type 0
 IsLawful set = AllByRecursion Lawful set.schemes
 

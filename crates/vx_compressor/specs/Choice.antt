@@ -26,6 +26,7 @@ is_greatest xs (Some (Finite f)) = is_above_one f && list_all (λ x. is_at_most 
 is_greatest xs (Some Always) = false
 is_greatest xs None = false
 
+-- the first, or the other where there is none
 abbrev pub or_else : {A : Type 0} → Option A → Option A → Option A
 or_else (Some x) other = Some x
 or_else None other = other

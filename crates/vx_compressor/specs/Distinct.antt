@@ -13,6 +13,7 @@ abbrev pub are_distinct : List (List ℕ) → Bool
 are_distinct [] = true
 are_distinct (name ∷ names) = not (list_any (same_name name) names) && are_distinct names
 
+-- the names of the schemes, in their order
 abbrev pub names_of : List Meaning → List (List ℕ)
 names_of schemes = map (λ m. m.name) schemes
 
@@ -20,5 +21,6 @@ names_of schemes = map (λ m. m.name) schemes
 abbrev pub have_own_names : List Meaning → Bool
 have_own_names schemes = are_distinct (root_name ∷ names_of schemes)
 
+-- why schemes make no compressor: a name stands twice, or is the root's
 abbrev pub schemes_refusal : List Meaning → Option VortexError
 schemes_refusal schemes = unless (have_own_names schemes) DuplicateScheme None

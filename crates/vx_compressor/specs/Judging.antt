@@ -41,6 +41,7 @@ abbrev pub told_by : {A : Type 0} → A → CompressionEstimate → List (A × O
 told_by x (Verdict v) rest = (x, verdict_score v) ∷ rest
 told_by x (Deferred d) rest = rest
 
+-- the schemes with a verdict that comes at once, and their scores
 abbrev pub told : Column → Site → List Meaning → List (Meaning × Option Score)
 told c site [] = []
 told c site (m ∷ ms) = told_by m (m.estimate c site) (told c site ms)
@@ -50,6 +51,7 @@ abbrev pub put_off_by : {A : Type 0} → A → CompressionEstimate → List (A �
 put_off_by x (Verdict v) rest = rest
 put_off_by x (Deferred d) rest = (x, d) ∷ rest
 
+-- the schemes whose estimate is put off, and how it is found
 abbrev pub put_off : Column → Site → List Meaning → List (Meaning × DeferredEstimate)
 put_off c site [] = []
 put_off c site (m ∷ ms) = put_off_by m (m.estimate c site) (put_off c site ms)
@@ -66,5 +68,6 @@ found child words c site ps = map (λ p. (p.0, deferred_score child words p.0 c 
 abbrev pub meant_pair : {S A : Type 0} → (S → Meaning) → S × A → Meaning × A
 meant_pair meaning p = (meaning p.0, p.1)
 
+-- a choice of the code, with the meaning of the scheme in its place
 abbrev pub meant : {S : Type 0} → (S → Meaning) → Option (S × Score) → Option (Meaning × Score)
 meant meaning best = option_map (meant_pair meaning) best

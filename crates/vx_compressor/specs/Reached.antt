@@ -25,5 +25,6 @@ pub record IsBounded (d : Column) (site : Site) : Type 0 where
   pub names : are_distinct (map (λ e. e.0) site.history) ≡ true
   pub levels : length site.history + site.budget ≡ max_cascade
 
+-- each site that a column within the limit comes to has few rows and no scheme twice above it
 abbrev pub SitesAreBounded : Setting → Type 0
 SitesAreBounded set = (c : Column) → IsWithin c → (d : Column) (site : Site) → IsReached set c d site → IsBounded d site

@@ -6,6 +6,7 @@ use Rattle.vx_model.specs.Rows.{below}
 
 -- ---- partitions: nearly equal parts of so many rows, the longer ones first
 
+-- how many rows partition i of n has: the first ones have one more
 abbrev pub partition_rows : ℕ → ℕ → ℕ → ℕ
 partition_rows rows n i = if nat_lt i (rows % n) then rows / n + 1 else rows / n
 
@@ -17,6 +18,7 @@ partition_start rows n i = i * (rows / n) + min i (rows % n)
 abbrev pub partition : ℕ → ℕ → ℕ → ℕ × ℕ
 partition rows n i = (partition_start rows n i, partition_start rows n i + partition_rows rows n i)
 
+-- all n partitions of so many rows
 abbrev pub partitions : ℕ → ℕ → List (ℕ × ℕ)
 partitions rows n = below (partition rows n) n
 
@@ -43,6 +45,7 @@ abbrev pub slice_start : ℕ → List ℕ → ℕ → ℕ
 slice_start rows words i =
     partition_start rows (slice_count rows) i + word_at words i % (partition_rows rows (slice_count rows) i - 63)
 
+-- slice i of the sample: 64 rows from its start on
 abbrev pub slice_of : ℕ → List ℕ → ℕ → ℕ × ℕ
 slice_of rows words i = (slice_start rows words i, slice_start rows words i + 64)
 

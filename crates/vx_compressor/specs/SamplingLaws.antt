@@ -9,6 +9,7 @@ pub record Covers (rows n : ℕ) : Type 0 where
   pub in_order : (i : ℕ) → (partition rows n (i + 1)).0 ≡ (partition rows n i).1
   pub to_last : (partition rows n (n - 1)).1 ≡ rows
 
+-- partitions cover the rows, for any number of them above 0
 abbrev pub PartitionsCover : Type 0
 PartitionsCover = (rows n : ℕ) → 0 < n → Covers rows n
 
@@ -29,5 +30,6 @@ pub record IsLeastCount (rows count : ℕ) : Type 0 where
   pub enough : rows / 100 / 64 ≤ count
   pub least : (k : ℕ) → 16 ≤ 16 * k → rows / 100 / 64 ≤ 16 * k → count ≤ 16 * k
 
+-- the count of slices is the least that is asked, for any number of rows
 abbrev pub CountsAreLeast : Type 0
 CountsAreLeast = (rows : ℕ) → IsLeastCount rows (slice_count rows)

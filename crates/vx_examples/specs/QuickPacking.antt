@@ -24,6 +24,7 @@ use Rattle.vx_btrblocks.specs.Shipped.{shipped_schemes}
 abbrev pub quick_verdict : ℕ → Extremes → EstimateVerdict
 quick_verdict bits e = if int_lt e.least (pos 0) then Skip else ratio_of bits (digits (unsigned_abs e.greatest))
 
+-- the verdict for a column, by the extremes of its values
 abbrev pub quick_estimate : Column → EstimateVerdict
 quick_estimate c = quick_verdict (bits_of (integer_of c.dtype)) (extremes_in (integer_of c.dtype) c.values)
 

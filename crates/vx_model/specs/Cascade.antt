@@ -14,5 +14,6 @@ Leaves = Column → Site → Tree
 abbrev pub cascade_of : Leaves → PlainType → List PlainValue → Tree
 cascade_of leaves (primitive p n) values = leaves (column (primitive p n) values) fresh
 
+-- the tree of a column, by its type
 abbrev pub cascade : Leaves → Column → Tree
 cascade leaves c = cascade_of leaves c.dtype c.values

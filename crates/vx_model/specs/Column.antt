@@ -8,10 +8,12 @@ use Rattle.vx_model.specs.Tree.{Tree}
 use Rattle.vx_model.specs.TreeType.{tree_type}
 use Rattle.vx_model.specs.Rows.{rows}
 
+-- a type and its values, row by row
 pub record Column : Type 0 where
   pub dtype : PlainType
   pub values : List PlainValue
 
+-- the column of this type with these values
 abbrev pub column : PlainType → List PlainValue → Column
 column t vs = record { dtype = t; values = vs }
 

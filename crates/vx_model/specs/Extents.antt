@@ -25,5 +25,6 @@ extents (dict codes values) = extents codes
 abbrev pub row_limit : ℕ
 row_limit = 2 ^ 31
 
+-- each extent is within the limit of rows
 abbrev pub extents_fit : Tree → Bool
 extents_fit t = list_all (λ extent. nat_le extent row_limit) (extents t)

@@ -44,6 +44,7 @@ one_value_tree c v =
 abbrev pub smaller_or_plain : Column → Tree → Tree
 smaller_or_plain c t = if nat_lt (size t) (size (plain c)) then t else plain c
 
+-- the tree that was chosen, where it is smaller than the plain one
 abbrev pub chosen_or_plain : Column → Option Tree → Tree
 chosen_or_plain c None = plain c
 chosen_or_plain c (Some t) = smaller_or_plain c t

@@ -4,6 +4,7 @@ use Rattle.vx_base.specs.declared.array_id.ArrayId.{ArrayId}
 use Rattle.vx_base.specs.declared.array_id.ArrayId.TheVariants as ids
 use Rattle.vx_model.specs.Tree.{Tree, primitive, constant, masked, bit_packed, bit_packed_with, frame_of_reference, zig_zag, dict}
 
+-- the encoding of a tree's root
 abbrev pub encoding : Tree → ArrayId
 encoding (primitive p xs valid n) = ids.Primitive
 encoding (constant s len) = ids.Constant
@@ -14,6 +15,7 @@ encoding (frame_of_reference encoded reference) = ids.FoR
 encoding (zig_zag encoded) = ids.ZigZag
 encoding (dict codes values) = ids.Dict
 
+-- the trees inside, in their order
 abbrev pub children : Tree → List Tree
 children (primitive p xs valid n) = []
 children (constant s len) = []

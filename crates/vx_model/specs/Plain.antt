@@ -11,6 +11,7 @@ use Rattle.vx_model.specs.Column.{Column, column_of}
 abbrev pub valid_bits : List PlainValue → List Bool
 valid_bits values = map (λ v. not (is_null v)) values
 
+-- one truth value a row where some row is null, else none
 abbrev pub validity : List PlainValue → Validity
 validity values = if list_any is_null values then Some (valid_bits values) else None
 
@@ -18,6 +19,7 @@ validity values = if list_any is_null values then Some (valid_bits values) else 
 abbrev pub plain_of : PlainType → List PlainValue → Tree
 plain_of (types.primitive p n) values = primitive p (map whole_or_zero values) (validity values) n
 
+-- the one tree of a column without any encoding
 abbrev pub plain : Column → Tree
 plain c = plain_of c.dtype c.values
 

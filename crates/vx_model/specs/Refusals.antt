@@ -35,21 +35,25 @@ abbrev pub kept : Validity → Validity
 kept None = None
 kept (Some bits) = if list_all (λ bit. bit) bits then None else Some bits
 
+-- why integers and validity are no primitive node
 abbrev pub primitive_refusal : ℕ → Validity → Nullability → Option VortexError
 primitive_refusal len valid n = unless (validity_length valid len) LengthMismatch (unless (validity_allowed valid n) MismatchedTypes None)
 
+-- why a tree and a mask are no masked node
 abbrev pub masked_refusal : Tree → List Bool → Option VortexError
 masked_refusal child valid =
     unless (is_leaf (tree_type child) && is_nullable (tree_type child)) MismatchedTypes
     (unless (length valid == length (rows child)) LengthMismatch
     (unless (not (list_any is_null (rows child))) MismatchedTypes None))
 
+-- why trees are no patches
 abbrev pub patches_refusal : PlainPatches → Option VortexError
 patches_refusal p =
     unless (is_integer (tree_type p.indices) && not (is_nullable (tree_type p.indices))) MismatchedTypes
     (unless (length (rows p.indices) == length (rows p.values)) LengthMismatch
     (unless (ascend p.offset (p.offset + p.array_len) (rows p.indices)) IndicesNotAscending None))
 
+-- two types are one
 abbrev pub same_type : PlainType → PlainType → Bool
 same_type = same stored_type
 
@@ -63,6 +67,7 @@ abbrev pub patches_length : ℕ → Option PlainPatches → Bool
 patches_length len None = true
 patches_length len (Some patches) = patches.array_len == len
 
+-- why packed integers, with or without patches, are no node
 abbrev pub bit_packed_refusal : PlainPacked → Option PlainPatches → Option VortexError
 bit_packed_refusal k patches =
     unless (patches_of_type k.ptype patches) MismatchedTypes
@@ -70,16 +75,20 @@ bit_packed_refusal k patches =
     (unless (nat_le k.width (natural_bits k.ptype)) OutOfBounds
     (unless (validity_allowed k.valid k.nullability) MismatchedTypes None)))
 
+-- packed integers, without validity that is true throughout
 abbrev pub kept_packed : PlainPacked → PlainPacked
 kept_packed k = record k { valid = kept k.valid }
 
+-- why a tree and a scalar are no frame of reference
 abbrev pub for_refusal : Tree → PlainScalar → Option VortexError
 for_refusal encoded reference =
     unless (is_integer reference.dtype && (not (is_null reference.value) && same_type (tree_type encoded) (differences_type reference.dtype (tree_type encoded)))) MismatchedTypes None
 
+-- why a tree is no zigzag
 abbrev pub zig_zag_refusal : Tree → Option VortexError
 zig_zag_refusal encoded = unless (is_unsigned (tree_type encoded)) MismatchedTypes None
 
+-- why codes and values are no dictionary
 abbrev pub dict_refusal : Tree → Tree → Option VortexError
 dict_refusal codes values =
     unless (is_integer (tree_type codes) && is_leaf (tree_type values)) MismatchedTypes

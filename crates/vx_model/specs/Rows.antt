@@ -20,10 +20,12 @@ abbrev pub valid_rows : Validity → List PlainValue → List PlainValue
 valid_rows None rows = rows
 valid_rows (Some bits) rows = masked_rows bits rows
 
+-- row i is valid
 abbrev pub is_valid_at : Validity → ℕ → Bool
 is_valid_at None i = true
 is_valid_at (Some bits) i = slice_index_or bits i false
 
+-- row i, null where there is none
 abbrev pub row_at : List PlainValue → ℕ → PlainValue
 row_at rows i = slice_index_or rows i null
 
@@ -84,6 +86,7 @@ looked_up values null = null
 looked_up values (int (pos k)) = row_at values k
 looked_up values (int (negsuc k)) = null
 
+-- the values that a tree stands for, row by row
 abbrev pub rows : Tree → List PlainValue
 rows (primitive p xs valid n) = valid_rows valid (map int xs)
 rows (constant s len) = replicate len s.value

@@ -11,6 +11,7 @@ use Rattle.vx_model.specs.Tree as trees
 abbrev pub bit_bytes : ℕ → ℕ
 bit_bytes bits = (bits + 7) / 8
 
+-- the bytes of validity, one bit a row
 abbrev pub validity_size : Validity → ℕ
 validity_size None = 0
 validity_size (Some bits) = bit_bytes (length bits)
@@ -20,6 +21,7 @@ abbrev pub payload : PlainType → PlainValue → ℕ
 payload t null = 0
 payload (primitive p n) (int z) = bytes_of p
 
+-- the bytes of a tree
 abbrev pub size : Tree → ℕ
 size (trees.primitive p xs valid n) = length xs * bytes_of p + validity_size valid
 size (constant s len) = 1 + payload s.dtype s.value
@@ -30,6 +32,7 @@ size (frame_of_reference encoded reference) = size encoded
 size (zig_zag encoded) = size encoded
 size (dict codes values) = size codes + size values
 
+-- the bytes of patches, where there are patches
 abbrev pub patches_size : Option PlainPatches → ℕ
 patches_size None = 0
 patches_size (Some p) = size p.indices + size p.values

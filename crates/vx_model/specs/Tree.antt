@@ -17,9 +17,11 @@ pub record PlainPacked : Type 0 where
   pub valid : Validity
   pub nullability : Nullability
 
+-- integers of this type, packed so
 abbrev pub plain_packed : PType → ℕ → List ℕ → ℕ → Validity → Nullability → PlainPacked
 plain_packed p width bytes len valid n = record { ptype = p; width = width; bytes = bytes; len = len; valid = valid; nullability = n }
 
+-- a tree of encodings, one constructor for each node
 pub data Tree : Type 0 where
   -- integers of one type, their validity and nullability
   primitive : PType → List ℤ → Validity → Nullability → Tree
@@ -56,9 +58,11 @@ pub record PlainPatches : Type 0 where
   pub indices : Tree
   pub values : Tree
 
+-- patches of these parts
 abbrev pub patches : ℕ → ℕ → Tree → Tree → PlainPatches
 patches len offset indices values = record { array_len = len; offset = offset; indices = indices; values = values }
 
+-- how many nodes patches have, and one more
 abbrev pub patches_count : PlainPatches → ℕ
 patches_count p = suc (node_count p.indices + node_count p.values)
 

@@ -9,9 +9,11 @@ use Rattle.vx_base.specs.Storable.{Storable, code_of, first, rest, stored_ℕ, s
 use Rattle.vx_model.specs.Tree.{Tree, Validity, PlainPacked, PlainPatches, patches, primitive, constant, masked, bit_packed, bit_packed_with, frame_of_reference, zig_zag, dict}
 use base.Stored.{Gv, gnil, gnum, gcons, num}
 
+-- truth values are stored as a list
 abbrev pub stored_bits : Storable (List Bool)
 stored_bits = stored_list stored_bool
 
+-- validity is stored as an option of a list
 abbrev pub stored_validity : Storable Validity
 stored_validity = stored_option stored_bits
 
@@ -21,6 +23,7 @@ stored_primitive = stored× stored_ptype (stored× (stored_list stored_ℤ) (sto
 abbrev pub stored_constant : Storable (PlainScalar × ℕ)
 stored_constant = stored× stored_scalar stored_ℕ
 
+-- the fields of packed integers, as pairs
 abbrev pub Packed : Type 0
 Packed = (PType × (ℕ × List ℕ)) × (ℕ × (Validity × Nullability))
 
@@ -44,6 +47,7 @@ stored_packed =
 abbrev pub stored_packed_with : Storable (PlainPacked × (ℕ × ℕ))
 stored_packed_with = stored× stored_packed (stored× stored_ℕ stored_ℕ)
 
+-- a number, a label and the trees inside, as one tree of numbers
 abbrev pub node : ℕ → Gv → Gv → Gv
 node number label inside = gcons (gcons (gnum number) label) inside
 
@@ -64,6 +68,7 @@ to (frame_of_reference encoded reference) = node 5 (stored_scalar.to reference) 
 to (zig_zag encoded) = node 6 gnil (one (to encoded))
 to (dict codes values) = node 7 gnil (two (to codes) (to values))
 
+-- any tree, where there is none to read
 abbrev pub some_tree : Tree
 some_tree = constant (stored_scalar.from gnil) 0
 
@@ -114,9 +119,11 @@ from-to (frame_of_reference encoded reference) = λ i. frame_of_reference (from-
 from-to (zig_zag encoded) = λ i. zig_zag (from-to encoded i)
 from-to (dict codes values) = λ i. dict (from-to codes i) (from-to values i)
 
+-- a tree is stored as the number of its root, the root's own data, and the trees inside
 abbrev pub stored_tree : Storable Tree
 stored_tree = record { to = to; from = from; back = from-to }
 
+-- from this code equality of trees is decided
 abbrev pub tree_code : Coded Tree
 tree_code = code_of stored_tree
 
@@ -131,6 +138,7 @@ patches_parts p = ((p.array_len, p.offset), (p.indices, p.values))
 abbrev pub patches_by : (ℕ × ℕ) × (Tree × Tree) → PlainPatches
 patches_by l = patches l.0.0 l.0.1 l.1.0 l.1.1
 
+-- patches are stored as their numbers and their trees
 abbrev pub stored_patches : Storable PlainPatches
 stored_patches =
     record {
@@ -139,5 +147,6 @@ stored_patches =
       back = λ p i. patches_by (stored_patches_parts.back (patches_parts p) i);
     }
 
+-- from this code equality of patches is decided
 abbrev pub patches_code : Coded PlainPatches
 patches_code = code_of stored_patches

@@ -12,6 +12,7 @@ zig_zag_type encoded = types.primitive (signed_of (integer_of encoded)) (nullabi
 abbrev pub dict_type : PlainType → PlainType → PlainType
 dict_type codes values = with_nullability values (or_nullable (nullability_of values) (nullability_of codes))
 
+-- the type of a tree
 abbrev pub tree_type : Tree → PlainType
 tree_type (primitive p xs valid n) = types.primitive p n
 tree_type (constant s len) = s.dtype

@@ -19,10 +19,12 @@ abbrev pub IsValidityOf : Validity → ℕ → Nullability → Type 0
 IsValidityOf None len n = Unit {0}
 IsValidityOf (Some bits) len n = (length bits ≡ len) × (n ≡ Nullable) × (list_all (λ bit. bit) bits ≡ false)
 
+-- each integer lies in the type, and validity has a bit a row and no false without nulls
 pub record IsPrimitive (p : PType) (xs : List ℤ) (valid : Validity) (n : Nullability) : Type 0 where
   pub held : IsTrue (list_all (lies_in p) xs)
   pub validity : IsValidityOf valid (length xs) n
 
+-- the child is of a nullable leaf type and has no null, and the mask has a bit a row
 pub record IsMasked (child : Tree) (valid : List Bool) : Type 0 where
   pub leaf : IsTrue (is_leaf (tree_type child))
   pub nullable : IsTrue (is_nullable (tree_type child))
@@ -68,12 +70,14 @@ pub record IsPatched (k : PlainPacked) (len : ℕ) (values : Tree) : Type 0 wher
 abbrev pub differences_type : PlainType → PlainType → PlainType
 differences_type reference t = types.primitive (unsigned_of (integer_of reference)) (nullability_of t)
 
+-- the reference is an integer that isn't null, and the child has the unsigned type of its width
 pub record IsFrame (encoded : Tree) (reference : PlainScalar) : Type 0 where
   pub reference_type : IsTrue (is_integer reference.dtype)
   pub not_null : is_null reference.value ≡ false
   pub fitting : IsTrue (fits reference.dtype reference.value)
   pub encoded_type : tree_type encoded ≡ differences_type reference.dtype (tree_type encoded)
 
+-- the child's type is unsigned
 pub record IsZigZag (encoded : Tree) : Type 0 where
   pub unsigned : IsTrue (is_unsigned (tree_type encoded))
 
@@ -83,6 +87,7 @@ is_place len null = true
 is_place len (int (pos k)) = nat_lt k len
 is_place len (int (negsuc k)) = false
 
+-- the codes are integers, the values of a leaf type, and each code that isn't null is a place of a value
 pub record IsDict (codes values : Tree) : Type 0 where
   pub codes_type : IsTrue (is_integer (tree_type codes))
   pub values_type : IsTrue (is_leaf (tree_type values))
@@ -92,6 +97,7 @@ pub record IsDict (codes values : Tree) : Type 0 where
 abbrev pub RowsFit : Tree → Type 0
 RowsFit t = IsTrue (list_all (fits (tree_type t)) (rows t))
 
+-- each node's own conditions hold, and every row fits the type
 abbrev pub WellFormed : Tree → Type 0
 WellFormed (primitive p xs valid n) = IsPrimitive p xs valid n × RowsFit (primitive p xs valid n)
 WellFormed (constant s len) = IsTrue (fits s.dtype s.value) × RowsFit (constant s len)
@@ -104,5 +110,6 @@ WellFormed (frame_of_reference encoded reference) = WellFormed encoded × IsFram
 WellFormed (zig_zag encoded) = WellFormed encoded × IsZigZag encoded × RowsFit (zig_zag encoded)
 WellFormed (dict codes values) = WellFormed codes × WellFormed values × IsDict codes values × RowsFit (dict codes values)
 
+-- the trees of the patches are well formed, and their indices ascend within the array's rows
 abbrev pub WellFormedPatches : PlainPatches → Type 0
 WellFormedPatches p = WellFormed p.indices × WellFormed p.values × IsPatches p.array_len p.offset p.indices p.values

@@ -18,6 +18,7 @@ use Rattle.vx_program.specs.declared.document.unread.Unread.{Unread}
 use Rattle.vx_program.specs.declared.document.unread.Unread.TheVariants.{NoMemory, BadDocument}
 
 infixl 10 ◌>>=◌
+-- what comes of the first, handed on, or none
 abbrev pub ◌>>=◌ : {A B : Type 0} → Option A → (A → Option B) → Option B
 o >>= f = option_and_then f o
 
@@ -65,6 +66,7 @@ row_of t d = do
   _ ← when (fits t value)
   Some value
 
+-- the rows of a list, where each is one of the type
 unfoldable pub rows_of : PlainType → Data → Option (List PlainValue)
 rows_of t d = as_array d >>= all_by (row_of t)
 
@@ -84,13 +86,16 @@ words_of d = do
 
 -- ---- the document
 
+-- the key is one of the three
 abbrev pub is_known : List ℕ → Bool
 is_known key = bytes_eq key (codes "type") || (bytes_eq key (codes "rows") || bytes_eq key (codes "words"))
 
+-- each key is known
 abbrev pub all_known : Members → Bool
 all_known no_members = true
 all_known (member key d ms) = is_known key && all_known ms
 
+-- a column, and the sample words
 pub record PlainDocument : Type 0 where
   pub column : Column
   pub words : List ℕ

@@ -9,6 +9,7 @@ use Rattle.vx_model.specs.TreeType.{tree_type}
 use Rattle.vx_model.specs.Rows.{rows}
 use Rattle.vx_model.specs.Size.{size}
 
+-- the numbers of packed integers: the bits of a row, and how many patches there are
 abbrev pub packed_numbers : ℕ → ℕ → List ℕ
 packed_numbers width patches = codes " width=" ++ decimal width ++ codes " patches=" ++ decimal patches
 

@@ -7,6 +7,7 @@ use Rattle.vx_model.specs.Tree.{Tree}
 use Rattle.vx_model.specs.TreeCode.{tree_code}
 use Rattle.vx_stats.specs.declared.options.GenerateStatsOptions.{GenerateStatsOptions}
 
+-- a plain array, the options of its statistics, and which of these are kept
 pub record Bundle : Type 0 where
   pub array : Tree
   pub options : GenerateStatsOptions

@@ -10,9 +10,11 @@ use Rattle.vx_scheme.specs.declared.context.CompressorContext.{CompressorContext
 abbrev pub entries_of : List (SchemeId × ℕ) → List (List ℕ × ℕ)
 entries_of entries = map (λ e. (name_of e.0, e.1)) entries
 
+-- where in the cascade a context stands
 abbrev pub site_of : CompressorContext → Site
 site_of c = record { budget = c.budget; sampled = c.sampled; history = entries_of (take c.depth c.history) }
 
+-- the statistics that a context asks for
 abbrev pub options_of : CompressorContext → GenerateStatsOptions
 options_of c = c.options
 

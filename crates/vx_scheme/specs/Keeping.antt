@@ -11,6 +11,7 @@ pub record KeepsIntegers (answered : Bool) (old new : Bundle) : Type 0 where
   pub stays : StaysKept old new
   pub kept : answered ≡ true → new.integers_kept ≡ true
 
+-- once the statistics are given back, the bundle is as it was, and keeps them
 abbrev pub LendsIntegers : MutBor Bundle → Bool → Fml
 LendsIntegers bundle answered = follows_so the_row the_row bundle.ghost_name none (λ _ _. ⊤) (λ v. KeepsIntegers answered bundle.now v)
 
@@ -21,5 +22,6 @@ pub record KeepsSummary (answered : Bool) (old new : Bundle) : Type 0 where
   pub kept : answered ≡ true → new.summary_kept ≡ true
   pub integers : new.integers_kept ≡ old.integers_kept
 
+-- once the summary is given back, the bundle is as it was, and keeps it
 abbrev pub LendsSummary : MutBor Bundle → Bool → Fml
 LendsSummary bundle answered = follows_so the_row the_row bundle.ghost_name none (λ _ _. ⊤) (λ v. KeepsSummary answered bundle.now v)

@@ -14,6 +14,7 @@ pub record IsPart (c part : Column) : Type 0 where
   pub leaf : is_leaf part.dtype ≡ true
   pub rows : length part.values ≤ length c.values + 1024
 
+-- what every scheme proves of its meaning
 pub record Lawful (m : Meaning) : Type 0 where
   -- a finished tree stands for the column
   pub finished_well : (c : Column) (site : Site) (tree : Tree) → IsAsked m c → m.splits c site ≡ finished tree → WellFormed tree × (column_of tree ≡ c)

@@ -19,6 +19,7 @@ pub data PlainSplit : Type 0 where
   finished : Tree → PlainSplit
   parts : List Column → PlainSplit
 
+-- what a scheme means: its name, its types and rules, what it expects, what it splits a column into, and what it joins
 pub record Meaning : Type 0 where
   pub name : List ℕ
   pub takes : PlainType → Bool

@@ -18,6 +18,7 @@ ptype_in (I16 e) = kinds.I16
 ptype_in (I32 e) = kinds.I32
 ptype_in (I64 e) = kinds.I64
 
+-- the statistics without their type
 abbrev pub typed_of : ErasedStats → PlainTyped
 typed_of (U8 e) = e
 typed_of (U16 e) = e
@@ -28,9 +29,11 @@ typed_of (I16 e) = e
 typed_of (I32 e) = e
 typed_of (I64 e) = e
 
+-- the least and the greatest value
 abbrev pub extremes_of : ErasedStats → Extremes
 extremes_of stats = (typed_of stats).extremes
 
+-- the distinct values with their counts, where they were asked for
 abbrev pub distinct_of : ErasedStats → Option (List (ℤ × ℕ))
 distinct_of stats = (typed_of stats).distinct
 

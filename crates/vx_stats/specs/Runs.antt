@@ -6,6 +6,7 @@ use Rattle.std.specs.Ordering.{int_eq}
 abbrev pub whole_count : {T : Type 0} → (T → ℤ) → T × ℕ → ℤ × ℕ
 whole_count whole c = (whole c.0, c.1)
 
+-- values with their counts, as whole numbers
 abbrev pub whole_counts : {T : Type 0} → (T → ℤ) → List (T × ℕ) → List (ℤ × ℕ)
 whole_counts whole counts = map (whole_count whole) counts
 
@@ -23,6 +24,7 @@ abbrev pub IsRisingFrom : ℤ → List ℤ → Type 0
 IsRisingFrom z [] = ⊤
 IsRisingFrom z (w ∷ ws) = (int_lt w z ≡ false) × IsRisingFrom w ws
 
+-- no number is less than the one before
 abbrev pub IsRising : List ℤ → Type 0
 IsRising [] = ⊤
 IsRising (z ∷ zs) = IsRisingFrom z zs

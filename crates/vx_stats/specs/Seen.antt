@@ -32,6 +32,7 @@ abbrev pub merged_from : ℤ → ℕ → List (ℤ × ℕ) → List (ℤ × ℕ)
 merged_from z n [] = (z, n) ∷ []
 merged_from z n (c ∷ cs) = if int_eq z c.0 then merged_from z (n + c.1) cs else (z, n) ∷ merged_from c.0 c.1 cs
 
+-- counts of equal numbers one after another, in one
 abbrev pub merged : List (ℤ × ℕ) → List (ℤ × ℕ)
 merged [] = []
 merged (c ∷ cs) = merged_from c.0 c.1 cs

@@ -16,9 +16,11 @@ use Rattle.vx_stats.specs.declared.options.GenerateStatsOptions.{GenerateStatsOp
 abbrev pub valid_wholes : List PlainValue → List ℤ
 valid_wholes values = integers_in values
 
+-- how many rows are null
 abbrev pub null_count : List PlainValue → ℕ
 null_count values = count_by is_null values
 
+-- how many rows have a value
 abbrev pub value_count : List PlainValue → ℕ
 value_count values = length (valid_wholes values)
 
@@ -40,6 +42,7 @@ average_run_length values = if value_count values == 0 then 0 else value_count v
 abbrev pub least_in : PType → List PlainValue → ℤ
 least_in p values = fold int_min (greatest p) (valid_wholes values)
 
+-- the greatest value, the type's least where there is none
 abbrev pub greatest_in : PType → List PlainValue → ℤ
 greatest_in p values = fold int_max (least p) (valid_wholes values)
 
@@ -48,6 +51,7 @@ pub record Extremes : Type 0 where
   pub least : ℤ
   pub greatest : ℤ
 
+-- the least and the greatest value
 abbrev pub extremes_in : PType → List PlainValue → Extremes
 extremes_in p values = record { least = least_in p values; greatest = greatest_in p values }
 
@@ -55,9 +59,11 @@ extremes_in p values = record { least = least_in p values; greatest = greatest_i
 abbrev pub distinct_values : List PlainValue → List ℤ
 distinct_values values = numbers.distinct (valid_wholes values)
 
+-- the numbers that occur, ascending, each with how often it does
 abbrev pub distinct_counts : List PlainValue → List (ℤ × ℕ)
 distinct_counts values = numbers.counted (valid_wholes values)
 
+-- how many numbers occur
 abbrev pub distinct_count : List PlainValue → ℕ
 distinct_count values = length (distinct_values values)
 
@@ -74,9 +80,11 @@ pub record PlainTyped : Type 0 where
   pub extremes : Extremes
   pub distinct : Option (List (ℤ × ℕ))
 
+-- the extremes, without distinct values
 abbrev pub extremes_alone : Extremes → PlainTyped
 extremes_alone e = record { extremes = e; distinct = None }
 
+-- the extremes, and the distinct values where they are asked for
 abbrev pub typed_of : GenerateStatsOptions → PType → List PlainValue → PlainTyped
 typed_of options p values = record { extremes = extremes_in p values; distinct = distinct_info options values }
 
@@ -89,6 +97,7 @@ pub record PlainStats : Type 0 where
   pub extremes : Extremes
   pub distinct : Option (List (ℤ × ℕ))
 
+-- the statistics of a column, by what is asked for
 abbrev pub stats_of : GenerateStatsOptions → PType → List PlainValue → PlainStats
 stats_of options p values =
     record {

@@ -22,6 +22,7 @@ kind_of (primitive p n) = ints p
 abbrev pub kind_in : Values → ValueKind
 kind_in (Ints xs) = ints (ptype_of xs)
 
+-- the values of a flat list, as plain data
 abbrev pub values_of : Values → List PlainValue
 values_of (Ints xs) = map int (wholes_of xs)
 

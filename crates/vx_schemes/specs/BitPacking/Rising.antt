@@ -46,6 +46,7 @@ rows_below low n (row ∷ chosen) h =
 pub ascend-whole : (low high : ℕ) (is : List PlainValue) → ascend low high is ≡ true → map int (map whole_or_zero is) ≡ is
 ascend-whole low high = by_ascent high (λ low is. map int (map whole_or_zero is) ≡ is) (λ low. refl) (λ low n is from under rest later. ap (λ vs. int (pos n) ∷ vs) later) low
 
+-- each value fits the type without nulls
 abbrev pub fit_all : PType → List PlainValue → Bool
 fit_all q is = list_all (fits (types.primitive q NonNullable)) is
 

@@ -17,6 +17,7 @@ use Rattle.vx_model.specs.Tree.{Tree, PlainPatches, patches, plain_packed, packe
 use Rattle.vx_schemes.specs.Patches.Compressed.{compressed_patches}
 use Rattle.vx_schemes.specs.Widths.{best_width_of}
 
+-- the number is below 0
 abbrev pub is_negative : ℤ → Bool
 is_negative z = int_lt z (pos 0)
 
@@ -47,5 +48,6 @@ abbrev pub packing_of : PType → Nullability → List ℤ → List Bool → Opt
 packing_of p n xs valid =
     if list_any is_negative xs || (best_width_of p xs valid == bits_of p) then None else Some (packed_tree p n xs valid (best_width_of p xs valid))
 
+-- the column, packed at the width of least cost, or nothing
 abbrev pub bit_packing_made : Column → Option Tree
 bit_packing_made c = packing_of (integer_of c.dtype) (nullability_of c.dtype) (map whole_or_zero c.values) (valid_bits c.values)

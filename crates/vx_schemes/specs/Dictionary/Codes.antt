@@ -4,9 +4,11 @@ use Rattle.vx_base.specs.declared.ptype.PType.{PType}
 use Rattle.vx_base.specs.Wrapping.{wrap}
 use Rattle.vx_schemes.specs.Dictionary.Tree.{place_in}
 
+-- the code of a number: its place among the distinct ones, in a type
 abbrev pub as_code : PType → List ℤ → ℤ → ℤ
 as_code p numbers z = wrap p (pos (place_in numbers z))
 
+-- the codes of numbers, in their order
 abbrev pub codes_in : PType → List ℤ → List ℤ → List ℤ
 codes_in p numbers zs = map (as_code p numbers) zs
 

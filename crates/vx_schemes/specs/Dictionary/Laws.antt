@@ -35,6 +35,7 @@ use Rattle.vx_schemes.specs.Dictionary.Places.{place-holds}
 
 -- ---- the values of the rows are among the distinct ones
 
+-- each number of the second list occurs in the first
 abbrev pub Holds : List ℤ → List ℤ → Type 0
 Holds numbers zs = (z : ℤ) → 0 < times zs z → 0 < times numbers z
 

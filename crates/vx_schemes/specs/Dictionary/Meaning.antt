@@ -34,6 +34,7 @@ abbrev pub dictionary_verdict : ℕ → ℕ → ℕ → ℕ → EstimateVerdict
 dictionary_verdict bits values distinct run_length =
     if (values == 0) || nat_lt (values / 2) distinct then Skip else ratio_of (values * bits) (bits * distinct + code_bits (digits distinct) values run_length)
 
+-- what a dictionary is expected to do for a column
 abbrev pub dictionary_estimate : Column → EstimateVerdict
 dictionary_estimate c = dictionary_verdict (bits_of (integer_of c.dtype)) (value_count c.values) (distinct_count c.values) (average_run_length c.values)
 

@@ -25,6 +25,7 @@ abbrev pub shared_value : List PlainValue → Option PlainValue
 shared_value [] = None
 shared_value (v ∷ vs) = if list_all (λ w. same_value w v) vs then Some v else None
 
+-- a constant of the value that all rows share, else the plain tree
 abbrev pub shared_or_plain : Column → Option PlainValue → Tree
 shared_or_plain c None = plain c
 shared_or_plain c (Some v) = constant (scalar c.dtype v) (length c.values)
@@ -33,6 +34,7 @@ shared_or_plain c (Some v) = constant (scalar c.dtype v) (length c.values)
 abbrev pub constant_or_plain : Column → Tree
 constant_or_plain c = shared_or_plain c (shared_value c.values)
 
+-- the same patches in a short form: narrow indices, and one scalar where all values are equal
 abbrev pub compressed_patches : PlainPatches → PlainPatches
 compressed_patches p = patches p.array_len p.offset (narrowed p.indices) (constant_or_plain (column_of p.values))
 
