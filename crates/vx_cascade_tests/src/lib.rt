@@ -16,4 +16,6 @@ mod shipped;
 #[cfg(test)]
 mod span_frame;
 #[cfg(test)]
+mod there_and_back;
+#[cfg(test)]
 mod whole;

@@ -1,0 +1,42 @@
+//! From a plain column to its tree and back, as the README has it, with ample memory.
+
+use crate::comparing::form_of;
+use std::alloc::Global;
+use std::test::Fail;
+use vx_array::ArrayRef;
+use vx_base::ArrayId::{FoR, Primitive};
+use vx_base::Nullability::NonNullable;
+use vx_base::{ExecutionCtx, IntList, VortexResult, Words};
+use vx_btrblocks::BtrBlocksCompressor;
+use vx_scheme::NoScheme;
+use vx_values::Ints;
+
+fn there_and_back(alloc: Global, rows: Vec<i64>) -> VortexResult<(ArrayRef, ArrayRef)> {
+    let values = Ints::I64(IntList::from_vec(rows));
+    let column = ArrayRef::primitive(values, None, NonNullable).map_err(|refused| refused.error)?;
+    let words = Words::from_vec(vec![in alloc; 0]?);
+    let mut ctx = ExecutionCtx::new(alloc, words);
+    let compressor = BtrBlocksCompressor::<NoScheme>::shipped(alloc)?;
+    let tree = compressor.compress(&column, &mut ctx)?;
+    let plain = tree.canonical(alloc)?;
+    Ok((tree, plain))
+}
+
+// A thousand moments, one a minute.
+fn moments(alloc: Global) -> VortexResult<Vec<i64>> {
+    let mut rows = Vec::new(alloc);
+    for minute in 0..1000_u16 {
+        rows.push(1_000_000_000 + 60 * i64::from(minute))?;
+    }
+    Ok(rows)
+}
+
+// The greatest difference, 59,940, has 16 binary digits: 128 * 16 bytes.
+#[test]
+fn a_column_comes_back(rt: HostRuntime) -> Result<(), Fail> {
+    let (tree, plain) = there_and_back(rt.alloc(), moments(rt.alloc())?)?;
+    let (encoding, nbytes, _) = form_of(&tree);
+    assert!(rt; encoding == FoR && nbytes == 2048);
+    assert!(rt; form_of(&plain) == (Primitive, 8000, None));
+    Ok(())
+}
