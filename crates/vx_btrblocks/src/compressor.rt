@@ -46,8 +46,8 @@ impl<X: Scheme> BtrBlocksCompressor<X> {
     }
 
     /// The tree of the array's column: its type and rows decide, and the context's words; its own encodings don't. The
-    /// tree has the array's type and rows. Refuses TooManyRows exactly where an extent of the array passes 2^31 rows, and NoMemory. The context stays as it
-    /// was.
+    /// tree has the array's type and rows. Refuses TooManyRows exactly where an extent of the array passes 2^31 rows, and
+    /// NoMemory. The context stays as it was.
     pub fn compress(&self, array: &ArrayRef, ctx: &mut ExecutionCtx) -> VortexResult<ArrayRef>
         ensures answer { Decided (compress_refusal array.now) (λ tree. tree ≡ cascade (leaf_tree (setting (any_meaning X.meaning) self.now.0 ctx.old)) (column_of array.now)) result }
         ensures kept { IfOk result (λ tree. column_of tree ≡ column_of array.now) }

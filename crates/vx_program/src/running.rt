@@ -27,7 +27,8 @@ pub fn run<I: Source, O: Sink>(alloc: Global, words: &[String], source: &mut I, 
         (IsReply (I.left source.old) (I.faults source.old) (I.faults source.new) (texts_of words.now))
         (O.written sink.old) (O.written sink.new) (O.faults sink.old) (O.faults sink.new) }
     ensures no_memory { result ≡ 1 → O.written sink.new ≡ O.written sink.old }
-    // Whatever happens, at most one byte above the limit is read, and nothing for other words.
+    // Whatever happens, at most one byte above the limit is read of a source that tells its bytes, and nothing for other
+    // words.
     ensures most { TakesAtMost (I.left source.old) (I.left source.new) (limit + 1) }
     // Where the reply rests on all bytes, the source is at its end.
     ensures ended { RestsOnAll result → IsAtEnd (I.left source.new) }
