@@ -1,27 +1,34 @@
 -- What a node is decoded to, by what the trees inside are.
-use Rattle.std.proofs.Common.{◌≡◌, ◌∙◌, ℤ, pos, List, map, length, Bool, ap, refl, sym, true, Some, None, Option}
+use Rattle.std.proofs.Common.{◌≡◌, ◌∙◌, ℕ, ℤ, pos, List, [], ◌∷◌, map, length, Bool, ap, refl, sym, true, false, cond, Some, None, Option}
+use Rattle.std.specs.Prelude.{IsTrue}
 use Rattle.std.specs.List.{list_any, range_with_len}
-use Rattle.std.proofs.lemmas.Bool.{cond_both}
+use Rattle.std.proofs.lemmas.Bool.{cond_both, or_parts}
 use Rattle.std.proofs.lemmas.List.{length-map}
 use Rattle.vx_base.specs.declared.ptype.PType.{PType}
 use Rattle.vx_base.specs.declared.dtype.Nullability.{Nullability}
 use Rattle.vx_base.specs.Defaults.{default_of, or_default}
 use Rattle.vx_base.specs.Integers.{signed_of}
 use Rattle.vx_base.specs.PlainScalar.{PlainScalar}
-use Rattle.vx_base.specs.PlainType.{PlainType, is_integer, integer_of, nullability_of}
+use Rattle.vx_base.specs.PlainType.{PlainType, is_integer, is_bytes, is_nullable, integer_of, nullability_of}
 use Rattle.vx_base.specs.PlainType as types
-use Rattle.vx_base.specs.PlainValue.{PlainValue, int, is_null, whole_or_zero}
+use Rattle.vx_base.specs.PlainValue.{PlainValue, truth, int, bytes, is_null, whole_or_zero}
+use Rattle.vx_base.specs.Timestamps.{PlainTimestamp}
 use Rattle.vx_model.specs.Decoded.{zeroed, zeroed_by, picked, picks_valid}
 use Rattle.vx_model.specs.Plain.{validity, valid_bits}
 use Rattle.vx_model.specs.Refusals.{validity_length, kept}
-use Rattle.vx_model.specs.Rows.{rows, below, packed_or_patch, summed, unzigzagged_whole}
-use Rattle.vx_model.specs.Tree.{Tree, Validity, PlainPacked, PlainPatches, primitive, masked, packed_of, frame_of_reference, zig_zag, dict}
+use Rattle.vx_model.specs.Rows.{rows, below, packed_or_patch, summed, unzigzagged_whole, valid_rows, cut_at}
+use Rattle.vx_model.specs.Tree.{Tree, Validity, PlainPacked, PlainPatches, bool, primitive, var_bin_view, var_bin, timestamp, masked, packed_of, frame_of_reference, zig_zag, dict}
 use Rattle.vx_model.specs.TreeType.{tree_type, dict_type}
-use Rattle.vx_model.specs.WellFormed.{WellFormed}
-use Rattle.vx_model.proofs.DecodeLemmas.{length-validity, map-masked_rows, wholes-valid_rows, values-wholes, wholes-values, validity-cells, validity-masked_rows}
+use Rattle.vx_model.specs.WellFormed.{WellFormed, IsValidityOf}
+use Rattle.vx_model.proofs.BoolLemmas.{validity-bool}
+use Rattle.vx_model.proofs.DecodeLemmas.{length-validity, map-masked_rows, map-valid_rows, wholes-valid_rows, values-wholes, wholes-values, validity-cells, validity-masked_rows, no_null}
 use Rattle.vx_model.proofs.DictDecodeLemmas.{map-dict, validity-dict, validity-dict_codes, default_of-dict}
+use Rattle.vx_model.proofs.ItemMapLemmas.{map-zeroed_by}
+use Rattle.vx_model.proofs.MadeLemmas.{rows_fit}
 use Rattle.vx_model.proofs.PackedDecodeLemmas.{wholes-frame_of_reference, validity-frame_of_reference}
 use Rattle.vx_model.proofs.PackedOfLemmas.{type-packed_of, map-packed_of, validity-packed_of}
+use Rattle.vx_model.proofs.VarBinLemmas.{validity-var_bin}
+use Rattle.vx_model.proofs.ViewLemmas.{validity-var_bin_view}
 use Rattle.vx_model.proofs.ZigZagLemmas.{wholes-zig_zag, validity-zig_zag}
 use Rattle.vx_values.specs.declared.decoded.Decoded.{Decoded}
 use Rattle.vx_values.specs.declared.ints.Ints.{Ints}
@@ -29,64 +36,142 @@ use Rattle.vx_values.specs.declared.values.Values.{Values}
 use Rattle.vx_values.specs.declared.values.Values.TheVariants as lists
 use Rattle.vx_values.specs.Codes.{validity_by_codes}
 use Rattle.vx_values.specs.IntsOf.{ptype_of, wholes_of}
-use Rattle.vx_values.specs.ValuesOf.{ints, kind_of, kind_in, values_of, default_in, AreRows}
+use Rattle.vx_values.specs.ValuesOf.{truths, ints, byte_rows, kind_of, kind_in, holds_integers, values_of, default_in, AreRows}
 use Rattle.vx_array.specs.IsDecoded.{IsDecoded}
 
 -- ---- the kind of a tree's type
 
 default_in-kind_of : (t : PlainType) → default_in (kind_of t) ≡ default_of t
+default_in-kind_of (types.boolean n) = refl
 default_in-kind_of (types.primitive p n) = refl
+default_in-kind_of (types.utf8 n) = refl
+default_in-kind_of (types.binary n) = refl
+default_in-kind_of (types.timestamp k n) = refl
 
 -- the default of values that are of a type's kind
 default_of_kind : (t : PlainType) (values : Values) → kind_in values ≡ kind_of t → default_in (kind_in values) ≡ default_of t
 default_of_kind t values e = ap default_in e ∙ default_in-kind_of t
 
 kind_of-dict : (codes values : PlainType) → kind_of (dict_type codes values) ≡ kind_of values
+kind_of-dict codes (types.boolean n) = refl
 kind_of-dict codes (types.primitive p n) = refl
+kind_of-dict codes (types.utf8 n) = refl
+kind_of-dict codes (types.binary n) = refl
+kind_of-dict codes (types.timestamp k n) = refl
+
+-- ---- items and their validity, with the default beneath nulls
+
+module _ {A : Type 0} (value : A → PlainValue) (some : (x : A) → is_null (value x) ≡ false) (t : PlainType) (default : A) (own : default_of t ≡ value default) where
+  no_default : (xs : List A) → map (or_default (default_of t)) (map value xs) ≡ map value xs
+  no_default [] = refl
+  no_default (x ∷ xs) = λ i. cond (some x i) (default_of t) (value x) ∷ no_default xs i
+
+  values-items : (xs : List A) (valid : Validity) (n : Nullability) → IsValidityOf valid (length xs) n → map value (zeroed_by default valid xs) ≡ map (or_default (default_of t)) (valid_rows valid (map value xs))
+  values-items xs valid n h =
+      map-zeroed_by value default valid xs ∙ (λ i. zeroed_by (sym own i) valid (sym (no_default xs) i))
+      ∙ sym (map-valid_rows (or_default (default_of t)) valid (map value xs) n (rw length-map h))
+
+pub bool_rows : (bs : List Bool) (valid : Validity) (n : Nullability) (d : Decoded) → WellFormed (bool bs valid n) → AreRows truths (map truth (zeroed_by false valid bs)) valid d → IsDecoded (bool bs valid n) d
+bool_rows bs valid n d w r = (r.0, r.1 ∙ values-items truth (λ b. refl) (types.boolean n) false refl bs valid n w.0, r.2 ∙ sym (validity-bool bs valid n w))
+
+pub bytes_kind : (t : PlainType) → is_bytes t ≡ true → (byte_rows ≡ kind_of t) × (default_of t ≡ bytes [])
+bytes_kind (types.utf8 n) e = (refl, refl)
+bytes_kind (types.binary n) e = (refl, refl)
+bytes_kind t e = absurd cc
+
+pub view_rows : (vs : List (List ℕ)) (valid : Validity) (t : PlainType) (d : Decoded) → WellFormed (var_bin_view vs valid t) → AreRows byte_rows (map bytes (zeroed_by [] valid vs)) valid d → IsDecoded (var_bin_view vs valid t) d
+view_rows vs valid t d w r =
+    let k = bytes_kind t w.0.byte_type in
+    (r.0 ∙ k.0, r.1 ∙ values-items bytes (λ b. refl) t [] k.1 vs valid (nullability_of t) w.0.validity, r.2 ∙ sym (validity-var_bin_view vs valid t w))
 
 -- ---- trees of integers
 
 -- integers, 0 beneath nulls, and their validity are a tree's rows
 pub record AreIntegers (t : Tree) (xs : Ints) (valid : Validity) : Type 0 where
-  pub integer : is_integer (tree_type t) ≡ true
   pub ptype : ptype_of xs ≡ integer_of (tree_type t)
   pub wholes : wholes_of xs ≡ map whole_or_zero (rows t)
   pub bits : valid ≡ validity (rows t)
 
-integer_kind : (t : PlainType) (p : PType) → ints p ≡ kind_of t → (is_integer t ≡ true) × (p ≡ integer_of t)
-integer_kind (types.primitive q n) p e = (refl, cc)
+integer_kind : (t : PlainType) (p : PType) → is_integer t ≡ true → ints p ≡ kind_of t → p ≡ integer_of t
+integer_kind (types.primitive q n) p i e = cc
+integer_kind t p i e = absurd cc
 
-pub integers_of : (t : Tree) (d : Decoded) (xs : Ints) (valid : Validity) → lists.Ints xs ≡ d.values → valid ≡ d.valid → IsDecoded t d → AreIntegers t xs valid
-integers_of t d xs valid e v h =
-    let kind = integer_kind (tree_type t) (ptype_of xs) (ap kind_in e ∙ h.0) in
-    record { integer = kind.0; ptype = kind.1; wholes = wholes-values (tree_type t) kind.0 (wholes_of xs) (rows t) (ap values_of e ∙ h.1); bits = v ∙ h.2 }
+-- a type of integers by its parts
+pub integer_is : (t : PlainType) → is_integer t ≡ true → t ≡ types.primitive (integer_of t) (nullability_of t)
+integer_is (types.primitive p n) e = refl
+integer_is t e = absurd cc
+
+integer_held : (t : PlainType) → is_integer t ≡ true → holds_integers (kind_of t) ≡ true
+integer_held (types.primitive p n) e = refl
+integer_held t e = absurd cc
+
+-- what a tree of integers is decoded to holds integers
+pub held_integers : (t : Tree) (d : Decoded) → is_integer (tree_type t) ≡ true → IsDecoded t d → IsTrue (holds_integers (kind_in d.values))
+held_integers t d i h = ap holds_integers h.0 ∙ integer_held (tree_type t) i
+
+pub integers_of : (t : Tree) (d : Decoded) (xs : Ints) (valid : Validity) → WellFormed t → is_integer (tree_type t) ≡ true → lists.Ints xs ≡ d.values → valid ≡ d.valid → IsDecoded t d → AreIntegers t xs valid
+integers_of t d xs valid w i e v h =
+    record {
+      ptype = integer_kind (tree_type t) (ptype_of xs) i (ap kind_in e ∙ h.0);
+      wholes = wholes-values (tree_type t) i (wholes_of xs) (rows t) (rows_fit t w) (ap values_of e ∙ h.1);
+      bits = v ∙ h.2;
+    }
 
 pub bits_of_integers : (t : Tree) (xs : Ints) (valid : Validity) → AreIntegers t xs valid → validity_length valid (length (wholes_of xs)) ≡ true
 bits_of_integers t xs valid h = (λ i. validity_length (h.bits i) (length (h.wholes i))) ∙ length-validity whole_or_zero (rows t)
 
 -- and such integers are what the tree is decoded to
-integer_rows : (t : Tree) (p : PType) (n : Nullability) (xs : List ℤ) (valid : Validity) (d : Decoded) → tree_type t ≡ types.primitive p n → xs ≡ map whole_or_zero (rows t) → valid ≡ validity (rows t) → AreRows (ints p) (map int xs) valid d → IsDecoded t d
-integer_rows t p n xs valid d typed wholes bits r =
-    (r.0 ∙ sym (ap kind_of typed), r.1 ∙ ap (map int) wholes ∙ values-wholes (tree_type t) (ap is_integer typed) (rows t), r.2 ∙ bits)
+integer_rows : (t : Tree) (p : PType) (n : Nullability) (xs : List ℤ) (valid : Validity) (d : Decoded) → WellFormed t → tree_type t ≡ types.primitive p n → xs ≡ map whole_or_zero (rows t) → valid ≡ validity (rows t) → AreRows (ints p) (map int xs) valid d → IsDecoded t d
+integer_rows t p n xs valid d w typed wholes bits r =
+    (r.0 ∙ sym (ap kind_of typed), r.1 ∙ ap (map int) wholes ∙ values-wholes (tree_type t) (ap is_integer typed) (rows t) (rows_fit t w), r.2 ∙ bits)
 
 pub primitive_rows : (p : PType) (xs : List ℤ) (valid : Validity) (n : Nullability) (d : Decoded) → WellFormed (primitive p xs valid n) → AreRows (ints p) (map int (zeroed_by (pos 0) valid xs)) valid d → IsDecoded (primitive p xs valid n) d
-primitive_rows p xs valid n d w = integer_rows (primitive p xs valid n) p n (zeroed_by (pos 0) valid xs) valid d refl (sym (wholes-valid_rows valid xs n w.0.validity)) (sym (validity-cells valid xs n w.0.validity))
+primitive_rows p xs valid n d w = integer_rows (primitive p xs valid n) p n (zeroed_by (pos 0) valid xs) valid d w refl (sym (wholes-valid_rows valid xs n w.0.validity)) (sym (validity-cells valid xs n w.0.validity))
 
 pub packed_rows : (k : PlainPacked) (o : Option PlainPatches) (d : Decoded) → WellFormed (packed_of k o) → AreRows (ints k.ptype) (map int (zeroed_by (pos 0) k.valid (below (λ i. whole_or_zero (packed_or_patch k o i)) k.len))) k.valid d → IsDecoded (packed_of k o) d
-packed_rows k o d w = integer_rows (packed_of k o) k.ptype k.nullability _ k.valid d (type-packed_of k o) (sym (map-packed_of whole_or_zero k o w)) (sym (validity-packed_of k o w))
+packed_rows k o d w = integer_rows (packed_of k o) k.ptype k.nullability _ k.valid d w (type-packed_of k o) (sym (map-packed_of whole_or_zero k o w)) (sym (validity-packed_of k o w))
 
-pub moved_rows : (encoded : Tree) (reference : PlainScalar) (xs : Ints) (valid : Validity) (d : Decoded) → AreIntegers encoded xs valid
+pub moved_rows : (encoded : Tree) (reference : PlainScalar) (xs : Ints) (valid : Validity) (d : Decoded) → WellFormed (frame_of_reference encoded reference) → AreIntegers encoded xs valid
     → AreRows (ints (integer_of reference.dtype)) (map int (zeroed_by (pos 0) valid (map (summed reference) (wholes_of xs)))) valid d → IsDecoded (frame_of_reference encoded reference) d
-moved_rows encoded reference xs valid d h =
-    integer_rows (frame_of_reference encoded reference) (integer_of reference.dtype) (nullability_of (tree_type encoded)) _ valid d refl
+moved_rows encoded reference xs valid d w h =
+    integer_rows (frame_of_reference encoded reference) (integer_of reference.dtype) (nullability_of (tree_type encoded)) _ valid d w refl
     ((λ i. zeroed_by (pos 0) (h.bits i) (map (summed reference) (h.wholes i))) ∙ sym (wholes-frame_of_reference encoded reference)) (h.bits ∙ sym (validity-frame_of_reference encoded reference))
 
-pub zig_zag_rows : (encoded : Tree) (xs : Ints) (valid : Validity) (d : Decoded) → AreIntegers encoded xs valid → AreRows (ints (signed_of (ptype_of xs))) (map int (map unzigzagged_whole (wholes_of xs))) valid d → IsDecoded (zig_zag encoded) d
-zig_zag_rows encoded xs valid d h =
-    integer_rows (zig_zag encoded) (signed_of (ptype_of xs)) (nullability_of (tree_type encoded)) _ valid d (ap (λ p. types.primitive (signed_of p) (nullability_of (tree_type encoded))) (sym h.ptype))
+pub zig_zag_rows : (encoded : Tree) (xs : Ints) (valid : Validity) (d : Decoded) → WellFormed (zig_zag encoded) → AreIntegers encoded xs valid → AreRows (ints (signed_of (ptype_of xs))) (map int (map unzigzagged_whole (wholes_of xs))) valid d → IsDecoded (zig_zag encoded) d
+zig_zag_rows encoded xs valid d w h =
+    integer_rows (zig_zag encoded) (signed_of (ptype_of xs)) (nullability_of (tree_type encoded)) _ valid d w (ap (λ p. types.primitive (signed_of p) (nullability_of (tree_type encoded))) (sym h.ptype))
     (ap (map unzigzagged_whole) h.wholes ∙ sym (wholes-zig_zag encoded)) (h.bits ∙ sym (validity-zig_zag encoded))
 
--- ---- trees of any leaf type
+-- ---- texts and binaries by their offsets
+
+no_nulls : (default : PlainValue) (vs : List PlainValue) → list_any is_null vs ≡ false → map (or_default default) vs ≡ vs
+no_nulls default [] e = refl
+no_nulls default (v ∷ vs) e = let s = or_parts (is_null v) (list_any is_null vs) e in λ i. cond (s.0 i) default v ∷ no_nulls default vs s.1 i
+
+-- integers of a type that isn't nullable are the rows themselves
+pub wholes-rows : (t : Tree) (xs : Ints) (valid : Validity) → WellFormed t → is_integer (tree_type t) ≡ true → is_nullable (tree_type t) ≡ false → AreIntegers t xs valid → map int (wholes_of xs) ≡ rows t
+wholes-rows t xs valid w i n h =
+    ap (map int) h.wholes ∙ values-wholes (tree_type t) i (rows t) (rows_fit t w)
+    ∙ no_nulls (default_of (tree_type t)) (rows t) (no_null (tree_type t) (rows t) (rows_fit t w) n)
+
+pub var_bin_rows : (offsets : Tree) (bs : List ℕ) (valid : Validity) (t : PlainType) (os : List PlainValue) (d : Decoded) → WellFormed (var_bin offsets bs valid t) → os ≡ rows offsets
+    → AreRows byte_rows (map bytes (zeroed_by [] valid (cut_at os bs))) valid d → IsDecoded (var_bin offsets bs valid t) d
+var_bin_rows offsets bs valid t os d w e r =
+    let k = bytes_kind t w.1.values.byte_type in (
+      r.0 ∙ k.0,
+      r.1 ∙ ap (λ os. map bytes (zeroed_by [] valid (cut_at os bs))) e
+          ∙ values-items bytes (λ b. refl) t [] k.1 (cut_at (rows offsets) bs) valid (nullability_of t) w.1.values.validity,
+      r.2 ∙ sym (validity-var_bin offsets bs valid t w),
+    )
+
+-- ---- timestamps
+
+pub timestamp_rows : (storage : Tree) (k : PlainTimestamp) (d : Decoded) → WellFormed (timestamp storage k) → IsDecoded storage d → IsDecoded (timestamp storage k) d
+timestamp_rows storage k d w h =
+    let typed = w.1.storage_type in
+    (h.0 ∙ ap kind_of typed, h.1 ∙ ap (λ t. map (or_default (default_of t)) (rows storage)) typed, h.2)
+
+-- ---- trees of any such type
 
 pub masked_rows_of : (child : Tree) (valid : List Bool) (c d : Decoded) → WellFormed (masked child valid) → IsDecoded child c
     → AreRows (kind_in c.values) (zeroed (default_in (kind_in c.values)) valid (values_of c.values)) (kept (Some valid)) d → IsDecoded (masked child valid) d

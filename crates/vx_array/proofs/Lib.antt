@@ -1,5 +1,10 @@
 pub mod AtNode
+pub mod Canonicals
 pub mod Decodings
+pub mod Falls
+pub mod Flat
 pub mod Looks
 pub mod Making
+pub mod Truths
 pub mod Unpacked
+pub mod Views

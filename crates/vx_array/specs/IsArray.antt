@@ -1,20 +1,21 @@
 -- What is true of each array: its tree is well formed, and the type and length that it keeps are the tree's.
-use Rattle.std.specs.Prelude.{◌≡◌, ℕ, length, Option, Some, None}
-use Rattle.vx_base.specs.declared.array_id.ArrayId.TheVariants as ids
+use Rattle.std.specs.Prelude.{◌≡◌, ℕ, Bool, true, false, IsTrue, length, Option, Some, None}
 use Rattle.vx_base.specs.PlainType.{PlainType}
-use Rattle.vx_model.specs.Nodes.{encoding}
-use Rattle.vx_model.specs.Tree.{Tree}
+use Rattle.vx_model.specs.Tree.{Tree, var_bin_view, var_bin, constant}
 use Rattle.vx_model.specs.Rows.{rows}
 use Rattle.vx_model.specs.TreeType.{tree_type}
 use Rattle.vx_model.specs.WellFormed.{WellFormed}
 
--- a constant has its scalar's type, and keeps none
-abbrev pub IsConstant : Tree → Type 0
-IsConstant tree = encoding tree ≡ ids.Constant
+-- the root has the tree's type: a constant's scalar does, and texts and binaries do
+abbrev pub has_type : Tree → Bool
+has_type (constant s len) = true
+has_type (var_bin_view vs valid t) = true
+has_type (var_bin offsets bytes valid t) = true
+has_type _ = false
 
--- the type that an array keeps is its tree's
+-- the type that an array keeps is its tree's; it keeps none where the root has it
 abbrev pub IsOwnType : Option PlainType → Tree → Type 0
-IsOwnType None tree = IsConstant tree
+IsOwnType None tree = IsTrue (has_type tree)
 IsOwnType (Some dtype) tree = dtype ≡ tree_type tree
 
 -- the tree is well formed, and the type and the length that the array keeps are the tree's

@@ -1,3 +1,4 @@
+pub mod AsType
 pub mod IsArray
 pub mod IsDecoded
 pub mod Look

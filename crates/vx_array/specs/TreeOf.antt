@@ -1,10 +1,11 @@
 -- The tree of a node.
 use Rattle.std.specs.Prelude.{Option, None, Some, Box}
 use Rattle.std.specs.declared.alloc.Global.{Global}
+use Rattle.vx_base.specs.TypeOf.{type_of}
 use Rattle.vx_values.specs.IntsOf.{ptype_of, wholes_of}
 use Rattle.vx_array.specs.declared.array.Node.{Node}
-use Rattle.vx_array.specs.declared.array.Node.TheVariants.{Primitive, Constant, Masked, BitPacked, FoR, ZigZag, Dict}
-use Rattle.vx_model.specs.Tree.{Tree, PlainPatches, primitive, constant, masked, plain_packed, packed_of, frame_of_reference, zig_zag, dict}
+use Rattle.vx_array.specs.declared.array.Node.TheVariants.{Bool, Primitive, VarBinView, VarBin, Timestamp, Constant, Masked, BitPacked, FoR, ZigZag, Dict}
+use Rattle.vx_model.specs.Tree.{Tree, PlainPatches, bool, primitive, var_bin_view, var_bin, timestamp, constant, masked, plain_packed, packed_of, frame_of_reference, zig_zag, dict}
 
 -- patches out of their box
 abbrev pub unboxed : Option (Box PlainPatches Global) → Option PlainPatches
@@ -13,7 +14,11 @@ unboxed (Some p) = Some p.value
 
 -- the tree whose root a node is; its children are seen as their trees already
 abbrev pub tree_of : Node → Tree
+tree_of (Bool bs valid n) = bool bs valid n
 tree_of (Primitive xs valid n) = primitive (ptype_of xs) (wholes_of xs) valid n
+tree_of (VarBinView vs valid t) = var_bin_view vs valid (type_of t)
+tree_of (VarBin offsets bytes valid t) = var_bin offsets.value bytes valid (type_of t)
+tree_of (Timestamp storage k) = timestamp storage.value k
 tree_of (Constant s len) = constant s len
 tree_of (Masked child valid) = masked child.value valid
 tree_of (BitPacked p width bytes len valid patches n) = packed_of (plain_packed p width bytes len valid n) (unboxed patches)

@@ -4,15 +4,23 @@ ghost use Rattle.std.specs.Prelude.{◌≡◌, length, slice_get, option_copied}
 ghost use Rattle.vx_model.specs.Rows.{rows};
 
 use std::marker::Model;
-use vx_base::{ArrayId, Bytes, DType, Mask, Nullability, PType, Scalar};
+use vx_base::{ArrayId, ByteRows, Bytes, DType, Mask, Nullability, PType, Scalar, TimestampType};
 use vx_values::Ints;
 
 /// The root of a tree with its own fields. Children stand in boxes.
 #[cycle(tree)]
 #[derive(Drop)]
 pub enum Node {
+    /// Truth values, their validity and nullability. No children.
+    Bool(Mask, Option<Mask>, Nullability),
     /// Integers, their validity and nullability. No children.
     Primitive(Ints, Option<Mask>, Nullability),
+    /// Texts or binaries, their validity and type. No children.
+    VarBinView(ByteRows, Option<Mask>, DType),
+    /// Texts or binaries, each the bytes from child 0's offset in its row to the next one; their validity and type.
+    VarBin(Box<ArrayRef>, Bytes, Option<Mask>, DType),
+    /// Timestamps of a kind, which child 0 has as whole numbers.
+    Timestamp(Box<ArrayRef>, TimestampType),
     /// One scalar in every row, and the number of rows. No children.
     Constant(Scalar, u64),
     /// Child 0's rows, null where the mask is false.
@@ -42,7 +50,7 @@ pub struct Patches {
 #[cycle(tree)]
 pub struct ArrayRef {
     pub(crate) node: Node,
-    // The type, but where the root is a Constant, whose scalar has it.
+    // The type, but where the root has it: a Constant's scalar, a VarBinView and a VarBin.
     pub(crate) own_type: Option<DType>,
     pub(crate) len: u64,
 }
@@ -167,6 +175,8 @@ impl ArrayRef {
             Some(dtype) => dtype,
             None => match &self.node {
                 Node::Constant(value, _) => value.dtype(),
+                Node::VarBinView(_, _, dtype) => dtype,
+                Node::VarBin(_, _, _, dtype) => dtype,
                 _ => unreachable!(),
             },
         }
@@ -177,7 +187,11 @@ impl ArrayRef {
         ensures { result ≡ encoding self.now }
     {
         match &self.node {
+            Node::Bool(_, _, _) => ArrayId::Bool,
             Node::Primitive(_, _, _) => ArrayId::Primitive,
+            Node::VarBinView(_, _, _) => ArrayId::VarBinView,
+            Node::VarBin(_, _, _, _) => ArrayId::VarBin,
+            Node::Timestamp(_, _) => ArrayId::Timestamp,
             Node::Constant(_, _) => ArrayId::Constant,
             Node::Masked(_, _) => ArrayId::Masked,
             Node::BitPacked(_, _, _, _, _, _, _) => ArrayId::BitPacked,
@@ -192,8 +206,10 @@ impl ArrayRef {
         ensures { result ≡ length (children self.now) }
     {
         match &self.node {
-            Node::Primitive(_, _, _) | Node::Constant(_, _) => 0,
-            Node::Masked(_, _) | Node::FoR(_, _) | Node::ZigZag(_) => 1,
+            Node::Bool(_, _, _) | Node::Primitive(_, _, _) | Node::VarBinView(_, _, _) => 0,
+            Node::Constant(_, _) => 0,
+            Node::VarBin(_, _, _, _) | Node::Timestamp(_, _) | Node::Masked(_, _) => 1,
+            Node::FoR(_, _) | Node::ZigZag(_) => 1,
             Node::BitPacked(_, _, _, _, _, Some(_), _) | Node::Dict(_, _) => 2,
             Node::BitPacked(_, _, _, _, _, None, _) => 0,
         }
@@ -204,6 +220,8 @@ impl ArrayRef {
         ensures { option_copied result ≡ slice_get (children self.now) place }
     {
         match &self.node {
+            Node::VarBin(offsets, _, _, _) if place == 0 => Some(offsets),
+            Node::Timestamp(storage, _) if place == 0 => Some(storage),
             Node::Masked(child, _) if place == 0 => Some(child),
             Node::FoR(encoded, _) if place == 0 => Some(encoded),
             Node::ZigZag(encoded) if place == 0 => Some(encoded),

@@ -7,12 +7,12 @@ ghost use Rattle.vx_array.specs.IsDecoded.{IsDecoded};
 
 use crate::array::{ArrayRef, Node};
 use crate::node::{
-    decoded_by_codes, decoded_constant, decoded_masked, decoded_moved, decoded_packed,
-    decoded_primitive, decoded_zig_zag,
+    as_type, decoded_bool, decoded_by_codes, decoded_constant, decoded_masked, decoded_moved,
+    decoded_packed, decoded_primitive, decoded_var_bin, decoded_view, decoded_zig_zag,
 };
 use std::alloc::Global;
 use vx_base::VortexResult;
-use vx_values::Decoded;
+use vx_values::{Decoded, Values};
 
 impl ArrayRef {
     /// The plain tree of the same type and rows.
@@ -20,10 +20,15 @@ impl ArrayRef {
         ensures { Answers result (plain (column_of self.now)) }
     {
         self.known();
-        let (values, valid) = self.decoded(alloc)?.into_integers();
-        match ArrayRef::primitive(values, valid, self.dtype().nullability()) {
-            Ok(plain) => Ok(plain),
-            Err(refused) => Err(refused.error),
+        let Decoded { values, valid } = self.decoded(alloc)?;
+        let dtype = self.dtype();
+        match values {
+            Values::Bits(bits) => Ok(ArrayRef::bool_of(bits, valid, dtype.nullability())),
+            Values::Ints(ints) => {
+                let integers = ArrayRef::primitive_of(ints, valid, dtype.nullability());
+                as_type(alloc, integers, dtype)
+            }
+            Values::Bytes(rows) => Ok(ArrayRef::view_of(rows, valid, dtype.copy(alloc)?)),
         }
     }
 
@@ -32,7 +37,14 @@ impl ArrayRef {
         ensures { OrMemory result (λ rows. IsDecoded self.now rows) }
     {
         match &self.node {
+            Node::Bool(values, valid, _) => decoded_bool(alloc, values, valid),
             Node::Primitive(values, valid, _) => decoded_primitive(alloc, values, valid),
+            Node::VarBinView(values, valid, _) => decoded_view(alloc, values, valid),
+            Node::VarBin(offsets, bytes, valid, _) => {
+                let (offsets, _) = offsets.decoded(alloc)?.into_integers();
+                decoded_var_bin(alloc, &offsets, bytes, valid)
+            }
+            Node::Timestamp(storage, _) => storage.decoded(alloc),
             Node::Constant(value, len) => decoded_constant(alloc, value, *len),
             Node::Masked(child, mask) => decoded_masked(alloc, child.decoded(alloc)?, mask),
             Node::BitPacked(ptype, width, packed, len, valid, patches, _) => {

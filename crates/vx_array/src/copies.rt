@@ -6,8 +6,8 @@ ghost use Rattle.vx_base.specs.TypeOf.{type_of};
 
 use crate::array::{ArrayRef, Node, Patches};
 use crate::node::{
-    copied_constant, copied_dict, copied_frame, copied_masked, copied_packed, copied_primitive,
-    copied_zig_zag,
+    copied_bool, copied_constant, copied_dict, copied_frame, copied_masked, copied_packed,
+    copied_primitive, copied_timestamp, copied_var_bin, copied_view, copied_zig_zag,
 };
 use std::alloc::Global;
 use vx_base::{DType, VortexResult};
@@ -36,9 +36,17 @@ impl Node {
         ensures { OrMemory result (λ copy. tree_of copy ≡ tree_of self.now) }
     {
         match self {
+            Node::Bool(values, valid, nullability) => {
+                copied_bool(alloc, values, valid, *nullability)
+            }
             Node::Primitive(values, valid, nullability) => {
                 copied_primitive(alloc, values, valid, *nullability)
             }
+            Node::VarBinView(values, valid, dtype) => copied_view(alloc, values, valid, dtype),
+            Node::VarBin(offsets, bytes, valid, dtype) => {
+                copied_var_bin(alloc, offsets.copy(alloc)?, bytes, valid, dtype)
+            }
+            Node::Timestamp(storage, kind) => copied_timestamp(alloc, storage.copy(alloc)?, kind),
             Node::Constant(value, len) => copied_constant(alloc, value, *len),
             Node::Masked(child, valid) => copied_masked(alloc, child.copy(alloc)?, valid),
             Node::BitPacked(ptype, width, packed, len, valid, patches, nullability) => {

@@ -1,27 +1,34 @@
 //! What stands in a row of a tree.
 
-ghost use Rattle.std.specs.Prelude.{◌≡◌, ◌<◌, length, IsTrue};
+ghost use Rattle.std.specs.Prelude.{◌≡◌, ◌<◌, length, IsTrue, option_map, unwrap_or};
 ghost use Rattle.vx_base.specs.CellValue.{cell_value};
-ghost use Rattle.vx_base.specs.PlainType.{is_integer, is_leaf};
-ghost use Rattle.vx_base.specs.PlainValue.{cell};
+ghost use Rattle.vx_base.specs.PlainType.{boolean, is_flat, is_integer, nullability_of};
+ghost use Rattle.vx_base.specs.PlainValue.{cell, truth, null};
 ghost use Rattle.vx_model.specs.Rows.{rows, row_at};
 ghost use Rattle.vx_model.specs.TreeType.{tree_type};
 
 use crate::array::{ArrayRef, Node};
-use crate::node::{masked_at, moved_at, picked_at, primitive_at, unpacked_at, unzigzagged_at};
+use crate::node::{
+    masked_at, moved_at, picked_at, piece_at, primitive_at, truth_at, unpacked_at, unzigzagged_at,
+    view_at,
+};
 use vx_base::Cell;
 
 impl ArrayRef {
-    /// What stands in a row of a leaf type.
+    /// What stands in a row of a leaf type or of timestamps.
     #[cycle(cell_at)]
-    #[tactic(auto, using(vx_model::proofs::RowLemmas::reads))]
-    pub fn cell_at(&self, row: u64) -> Cell
-        requires leaf { IsTrue (is_leaf (tree_type self.now)) }
+    #[tactic(auto, using(crate::proofs::Flat::flats))]
+    pub fn cell_at(&self, row: u64) -> Cell<'_>
+        requires flat { IsTrue (is_flat (tree_type self.now)) }
         requires in_range { row < length (rows self.now) }
         ensures { cell_value result ≡ row_at (rows self.now) row }
     {
         match &self.node {
+            Node::Bool(values, valid, _) => truth_at(values, valid, row),
             Node::Primitive(values, valid, _) => primitive_at(values, valid, row),
+            Node::VarBinView(values, valid, _) => view_at(values, valid, row),
+            Node::VarBin(offsets, bytes, valid, _) => piece_at(offsets, bytes, valid, row),
+            Node::Timestamp(storage, _) => storage.cell_at(row),
             Node::Constant(value, _) => value.cell(),
             Node::Masked(child, valid) => masked_at(child, valid, row),
             Node::BitPacked(_, width, packed, _, valid, patches, _) => {
@@ -34,7 +41,7 @@ impl ArrayRef {
     }
 
     /// The integer in a row, None at a null.
-    #[tactic(auto, using(vx_base::proofs::CellLemmas::integer_cells))]
+    #[tactic(auto, using(crate::proofs::Flat::flat_integers))]
     pub fn integer_at(&self, row: u64) -> Option<i128>
         requires integer { IsTrue (is_integer (tree_type self.now)) }
         requires in_range { row < length (rows self.now) }
@@ -42,5 +49,19 @@ impl ArrayRef {
     {
         self.known();
         self.cell_at(row).integer()
+    }
+
+    /// The truth value in a row, None at a null.
+    #[tactic(auto, using(crate::proofs::Truths::truths))]
+    pub fn bool_at(&self, row: u64) -> Option<bool>
+        requires bool { tree_type self.now ≡ boolean (nullability_of (tree_type self.now)) }
+        requires in_range { row < length (rows self.now) }
+        ensures { unwrap_or (option_map truth result) null ≡ row_at (rows self.now) row }
+    {
+        self.known();
+        match self.cell_at(row) {
+            Cell::Bool(bit) => Some(bit),
+            Cell::Null | Cell::Int(_) | Cell::Bytes(_) => None,
+        }
     }
 }

@@ -122,7 +122,7 @@ impl Patches {
 }
 
 // An integer as an index, where it is one.
-fn as_index(integer: Option<i128>) -> Option<u128>
+pub(crate) fn as_index(integer: Option<i128>) -> Option<u128>
     ensures { result ≡ index_of (cell integer) }
 {
     match integer {

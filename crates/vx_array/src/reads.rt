@@ -2,13 +2,13 @@
 
 ghost use Rattle.std.specs.Prelude.{◌≡◌, ◌↔◌, IsTrue};
 ghost use Rattle.std.specs.List.{list_any};
-ghost use Rattle.vx_base.specs.PlainType.{is_leaf};
+ghost use Rattle.vx_base.specs.PlainType.{is_flat};
 ghost use Rattle.vx_base.specs.PlainValue.{is_null};
 ghost use Rattle.vx_model.specs.Rows.{rows};
 ghost use Rattle.vx_model.specs.TreeType.{tree_type};
 
 use crate::array::{ArrayRef, Node};
-use crate::node::{constant_has_null, is_zero_beneath};
+use crate::node::{constant_has_null, is_empty_beneath, is_false_beneath, is_zero_beneath};
 
 impl ArrayRef {
     ghost use Rattle.vx_model.specs.Plain.{IsPlain};
@@ -19,7 +19,11 @@ impl ArrayRef {
         ensures { result ≡ list_any is_null (rows self.now) }
     {
         match &self.node {
+            Node::Bool(_, valid, _) => valid.is_some(),
             Node::Primitive(_, valid, _) => valid.is_some(),
+            Node::VarBinView(_, valid, _) => valid.is_some(),
+            Node::VarBin(_, _, valid, _) => valid.is_some(),
+            Node::Timestamp(storage, _) => storage.has_null(),
             Node::Constant(value, len) => constant_has_null(value, *len),
             Node::Masked(_, valid) => !valid.all_true(),
             Node::BitPacked(_, _, _, _, valid, _, _) => valid.is_some(),
@@ -33,7 +37,7 @@ impl ArrayRef {
 
     // The same, row by row.
     fn has_null_row(&self) -> bool
-        requires { IsTrue (is_leaf (tree_type self.now)) }
+        requires { IsTrue (is_flat (tree_type self.now)) }
         ensures { result ≡ list_any is_null (rows self.now) }
     {
         for row in 0..self.len() {
@@ -44,13 +48,16 @@ impl ArrayRef {
         false
     }
 
-    /// Whether the tree is the plain one of its column: a Primitive with 0 beneath nulls.
+    /// Whether the tree is the plain one of its column: no encoding, and the type's default beneath nulls.
     #[tactic(auto, using(vx_model::proofs::NullLemmas::plains))]
     pub fn is_plain(&self) -> bool
         ensures { IsTrue result ↔ IsPlain self.now }
     {
         match &self.node {
+            Node::Bool(values, valid, _) => is_false_beneath(values, valid),
             Node::Primitive(values, valid, _) => is_zero_beneath(values, valid),
+            Node::VarBinView(values, valid, _) => is_empty_beneath(values, valid),
+            Node::Timestamp(storage, _) => storage.is_plain(),
             _ => false,
         }
     }

@@ -6,7 +6,8 @@ ghost use Rattle.vx_model.specs.Size.{nbytes, size, bit_bytes, validity_size};
 
 use crate::array::{ArrayRef, Node, Patches};
 use crate::node::{
-    constant_bytes, constant_extents_fit, masked_bytes, packed_bytes, primitive_bytes,
+    bool_bytes, constant_bytes, constant_extents_fit, masked_bytes, packed_bytes, primitive_bytes,
+    var_bin_bytes, var_bin_extents_fit, view_bytes,
 };
 use vx_base::Mask;
 
@@ -20,7 +21,11 @@ impl ArrayRef {
         ensures { result ≡ nbytes self.now }
     {
         match &self.node {
+            Node::Bool(values, valid, _) => bool_bytes(values, valid),
             Node::Primitive(values, valid, _) => primitive_bytes(values, valid),
+            Node::VarBinView(values, valid, _) => view_bytes(values, valid),
+            Node::VarBin(offsets, bytes, valid, _) => var_bin_bytes(offsets.nbytes(), bytes, valid),
+            Node::Timestamp(storage, _) => storage.nbytes(),
             Node::Constant(value, _) => constant_bytes(value),
             Node::Masked(child, valid) => masked_bytes(child.nbytes(), valid),
             Node::BitPacked(_, width, _, len, valid, patches, _) => {
@@ -36,7 +41,11 @@ impl ArrayRef {
         ensures { result ≡ extents_fit self.now }
     {
         match &self.node {
+            Node::Bool(values, _, _) => is_few(values.len()),
             Node::Primitive(values, _, _) => is_few(values.len()),
+            Node::VarBinView(values, _, _) => is_few(values.len()),
+            Node::VarBin(offsets, _, _, _) => var_bin_extents_fit(offsets),
+            Node::Timestamp(storage, _) => storage.extents_fit(),
             Node::Constant(value, len) => constant_extents_fit(value, *len),
             Node::Masked(child, _) => child.extents_fit(),
             Node::BitPacked(_, _, _, len, _, _, _) => is_few(*len),

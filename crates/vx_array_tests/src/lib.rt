@@ -14,4 +14,10 @@ mod lists;
 #[cfg(test)]
 mod patches;
 #[cfg(test)]
+mod texts;
+#[cfg(test)]
+mod timestamps;
+#[cfg(test)]
+mod truths;
+#[cfg(test)]
 mod zig_zag;

@@ -9,22 +9,26 @@ use Rattle.vx_base.specs.declared.dtype.Nullability.{Nullability}
 use Rattle.vx_base.specs.Integers.{lies_in, is_signed}
 use Rattle.vx_base.specs.IntegersIn.{integer_in, integers_in}
 use Rattle.vx_base.specs.PlainScalar.{fits}
-use Rattle.vx_base.specs.PlainType.{PlainType, primitive, is_integer, is_leaf, is_unsigned, integer_of, nullability_of}
+use Rattle.vx_base.specs.PlainType.{PlainType, primitive, is_integer, is_leaf, is_timestamp, is_unsigned, integer_of, nullability_of}
 use Rattle.vx_base.specs.PlainValue.{PlainValue, null, int, cell, is_null, whole_or_zero}
 
 pub integer_type : (t : PlainType) → is_integer t ≡ true → t ≡ primitive (integer_of t) (nullability_of t)
 integer_type (primitive p n) h = refl
+integer_type t h = absurd cc
 
 -- what holds of every integer type holds of a type that is one
 pub by_integer : (P : PlainType → Type 0) → ((p : PType) (n : Nullability) → P (primitive p n)) → (t : PlainType) → is_integer t ≡ true → P t
 by_integer P each (primitive p n) h = each p n
+by_integer P each t h = absurd cc
 
 pub integer-is_leaf : (t : PlainType) → is_integer t ≡ true → is_leaf t ≡ true
 integer-is_leaf (primitive p n) h = refl
+integer-is_leaf t h = absurd cc
 
--- a type that an integer fits is an integer type
-pub integer-fitted : (t : PlainType) (z : ℤ) → fits t (int z) ≡ true → is_integer t ≡ true
-integer-fitted (primitive p n) z h = refl
+-- a type that a whole number fits is an integer type, or one of timestamps
+pub integer-fitted : (t : PlainType) (z : ℤ) → is_timestamp t ≡ false → fits t (int z) ≡ true → is_integer t ≡ true
+integer-fitted (primitive p n) z s h = refl
+integer-fitted t z s h = absurd cc
 
 -- an unsigned type is an integer type
 pub is_unsigned-is_integer : (t : PlainType) → is_unsigned t ≡ true → is_integer t ≡ true
@@ -50,8 +54,8 @@ row-integer_in p n (v ∷ vs) (suc i) h = row-integer_in p n vs i (and_parts (fi
 
 -- the whole number of a value is the integer that it is, and 0 where it is none
 pub whole-integer_in : (v : PlainValue) → whole_or_zero v ≡ unwrap_or (integer_in v) (pos 0)
-whole-integer_in null = refl
 whole-integer_in (int z) = refl
+whole-integer_in v = refl
 
 -- ---- the integers among values
 

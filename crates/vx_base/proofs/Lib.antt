@@ -1,11 +1,15 @@
 pub mod BytesLemmas
 pub mod CellLemmas
+pub mod FitLemmas
 pub mod GatherLemmas
 pub mod IdSetLemmas
 pub mod IntegerLemmas
 pub mod MakesLemmas
 pub mod NullLemmas
 pub mod PackedLemmas
+pub mod StandardFacts
+pub mod TypeLemmas
+pub mod Utf8Lemmas
 pub mod WrapLemmas
 pub mod WrapSumLemmas
 pub mod WrapBitsLemmas

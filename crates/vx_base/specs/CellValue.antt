@@ -1,9 +1,11 @@
 -- The plain data of a cell.
 use Rattle.vx_base.specs.declared.cell.Cell.{Cell}
-use Rattle.vx_base.specs.declared.cell.Cell.TheVariants.{Null, Int}
-use Rattle.vx_base.specs.PlainValue.{PlainValue, null, int}
+use Rattle.vx_base.specs.declared.cell.Cell.TheVariants.{Null, Bool, Int, Bytes}
+use Rattle.vx_base.specs.PlainValue.{PlainValue, null, truth, int, bytes}
 
 -- the value that a cell is
 abbrev pub cell_value : Cell → PlainValue
 cell_value Null = null
+cell_value (Bool b) = truth b
 cell_value (Int z) = int z
+cell_value (Bytes bs) = bytes bs.now

@@ -1,12 +1,12 @@
 -- The integers among values.
 use Rattle.std.specs.Prelude.{ℤ, List, Option, Some, None}
 use Rattle.std.specs.List.{filter_map}
-use Rattle.vx_base.specs.PlainValue.{PlainValue, null, int}
+use Rattle.vx_base.specs.PlainValue.{PlainValue, int}
 
 -- the integer that a value is, if it is one
 abbrev pub integer_in : PlainValue → Option ℤ
-integer_in null = None
 integer_in (int z) = Some z
+integer_in _ = None
 
 -- the integers, in the values' order
 abbrev pub integers_in : List PlainValue → List ℤ

@@ -20,6 +20,7 @@ pub mod PlainScalar
 pub mod PlainType
 pub mod PlainValue
 pub mod Storable
+pub mod Timestamps
 pub mod TypeOf
 pub mod TypeText
 pub mod Wrapping

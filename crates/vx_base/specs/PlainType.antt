@@ -1,16 +1,22 @@
 -- A type as plain data.
-use Rattle.std.specs.Prelude.{◌≡◌, ℕ, Bool, true, false, not, ◌&&◌, cond, ◌==◌, refl}
+use Rattle.std.specs.Prelude.{◌≡◌, ℕ, Bool, true, false, not, ◌&&◌, ◌||◌, cond, ◌==◌, refl}
+use Rattle.std.proofs.Common.{ap}
 use Rattle.vx_base.specs.declared.ptype.PType.{PType}
 use Rattle.vx_base.specs.declared.ptype.PType.TheVariants as kinds
 use Rattle.vx_base.specs.declared.dtype.Nullability.{Nullability}
 use Rattle.vx_base.specs.declared.dtype.Nullability.TheVariants.{NonNullable, Nullable}
 use Rattle.vx_base.specs.Integers.{is_signed}
-use Rattle.vx_base.specs.Storable.{Storable, rest, stored_by, stored×}
-use base.Stored.{Gv, gnum, gcons}
+use Rattle.vx_base.specs.Storable.{Storable, first, rest, stored_by, stored×, same}
+use Rattle.vx_base.specs.Timestamps.{PlainTimestamp, stored_kind}
+use base.Stored.{Gv, gnum, gcons, num}
 
 -- a type of columns: so far an integer type, with or without nulls
 pub data PlainType : Type 0 where
+  boolean : Nullability → PlainType
   primitive : PType → Nullability → PlainType
+  utf8 : Nullability → PlainType
+  binary : Nullability → PlainType
+  timestamp : PlainTimestamp → Nullability → PlainType
 
 -- nulls are allowed
 abbrev pub allows_null : Nullability → Bool
@@ -22,33 +28,65 @@ abbrev pub or_nullable : Nullability → Nullability → Nullability
 or_nullable NonNullable n = n
 or_nullable Nullable n = Nullable
 
+-- whether a type allows nulls, as the code has it
+abbrev pub nullability_of : PlainType → Nullability
+nullability_of (boolean n) = n
+nullability_of (primitive p n) = n
+nullability_of (utf8 n) = n
+nullability_of (binary n) = n
+nullability_of (timestamp k n) = n
+
 -- a column of the type may have nulls
 abbrev pub is_nullable : PlainType → Bool
-is_nullable (primitive p n) = allows_null n
+is_nullable t = allows_null (nullability_of t)
 
 -- the same type but for the outermost nullability
 abbrev pub with_nullability : PlainType → Nullability → PlainType
+with_nullability (boolean m) n = boolean n
 with_nullability (primitive p m) n = primitive p n
+with_nullability (utf8 m) n = utf8 n
+with_nullability (binary m) n = binary n
+with_nullability (timestamp k m) n = timestamp k n
+
+-- truth values, integers, texts and binaries
+abbrev pub is_leaf : PlainType → Bool
+is_leaf (boolean n) = true
+is_leaf (primitive p n) = true
+is_leaf (utf8 n) = true
+is_leaf (binary n) = true
+is_leaf (timestamp k n) = false
+
+abbrev pub is_timestamp : PlainType → Bool
+is_timestamp (timestamp k n) = true
+is_timestamp _ = false
 
 -- a type whose values hold no others
-abbrev pub is_leaf : PlainType → Bool
-is_leaf (primitive p n) = true
+abbrev pub is_flat : PlainType → Bool
+is_flat t = is_leaf t || is_timestamp t
 
 -- the values of the type are integers
 abbrev pub is_integer : PlainType → Bool
 is_integer (primitive p n) = true
+is_integer _ = false
+
+abbrev pub is_text : PlainType → Bool
+is_text (utf8 n) = true
+is_text _ = false
+
+-- types whose values are bytes: texts and binaries
+abbrev pub is_bytes : PlainType → Bool
+is_bytes (utf8 n) = true
+is_bytes (binary n) = true
+is_bytes _ = false
 
 -- the integer type of a column's values; of integer types alone, nothing asks it of others
 abbrev pub integer_of : PlainType → PType
 integer_of (primitive p n) = p
+integer_of _ = kinds.U8
 
 -- the values of the type are integers, and none is negative
 abbrev pub is_unsigned : PlainType → Bool
 is_unsigned t = is_integer t && not (is_signed (integer_of t))
-
--- whether a type allows nulls, as the code has it
-abbrev pub nullability_of : PlainType → Nullability
-nullability_of (primitive p n) = n
 
 -- ---- how the logic stores a type: a label, and what is inside
 abbrev pub ptype_number : PType → ℕ
@@ -99,15 +137,40 @@ stored_nullability = stored_by nullability_number nullability_at nullability_at-
 abbrev pub stored_primitive : Storable (PType × Nullability)
 stored_primitive = stored× stored_ptype stored_nullability
 
+abbrev pub stored_timestamp : Storable (PlainTimestamp × Nullability)
+stored_timestamp = stored× stored_kind stored_nullability
+
 abbrev pub to : PlainType → Gv
-to (primitive p n) = gcons (gnum 0) (stored_primitive.to (p, n))
+to (boolean n) = gcons (gnum 0) (stored_nullability.to n)
+to (primitive p n) = gcons (gnum 1) (stored_primitive.to (p, n))
+to (utf8 n) = gcons (gnum 2) (stored_nullability.to n)
+to (binary n) = gcons (gnum 3) (stored_nullability.to n)
+to (timestamp k n) = gcons (gnum 4) (stored_timestamp.to (k, n))
+
+abbrev pub type_at : ℕ → Gv → PlainType
+type_at tag inside =
+    cond (tag == 0) (boolean (stored_nullability.from inside)) (cond (tag == 1) (let p = stored_primitive.from inside in primitive p.0 p.1)
+    (cond (tag == 2) (utf8 (stored_nullability.from inside)) (cond (tag == 3) (binary (stored_nullability.from inside))
+    (let p = stored_timestamp.from inside in timestamp p.0 p.1))))
 
 abbrev pub from : Gv → PlainType
-from g = let p = stored_primitive.from (rest g) in primitive p.0 p.1
+from g = type_at (num (first g)) (rest g)
 
 pub from-to : (t : PlainType) → from (to t) ≡ t
+from-to (boolean n) = ap boolean (stored_nullability.back n)
 from-to (primitive p n) = λ i. let q = stored_primitive.back (p, n) i in primitive q.0 q.1
+from-to (utf8 n) = ap utf8 (stored_nullability.back n)
+from-to (binary n) = ap binary (stored_nullability.back n)
+from-to (timestamp k n) = λ i. let q = stored_timestamp.back (k, n) i in timestamp q.0 q.1
 
 -- a type is stored as a number for its kind, and its parts
 abbrev pub stored_type : Storable PlainType
 stored_type = record { to = to; from = from; back = from-to }
+
+-- whether two types are one
+abbrev pub same_type : PlainType → PlainType → Bool
+same_type = same stored_type
+
+-- whether two types differ at most in the outermost nullability
+abbrev pub same_base : PlainType → PlainType → Bool
+same_base s t = same_type (with_nullability s NonNullable) (with_nullability t NonNullable)

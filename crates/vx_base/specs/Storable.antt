@@ -102,6 +102,9 @@ module _ {A : Type 0} (a : Storable A) where
   abbrev pub stored_option : Storable (Option A)
   stored_option = record { to = option_to; from = option_from; back = option_back }
 
+abbrev pub stored_bytes : Storable (List ℕ)
+stored_bytes = stored_list stored_ℕ
+
 -- an enum with no fields, by its number
 abbrev pub stored_by : {A : Type 0} (number : A → ℕ) (back : ℕ → A) → ((x : A) → back (number x) ≡ x) → Storable A
 stored_by number back law = record { to = λ x. gnum (number x); from = λ g. back (num g); back = law }

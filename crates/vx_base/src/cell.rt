@@ -1,31 +1,65 @@
-//! One row of a column of a leaf type.
+//! One row of a column whose values hold no others.
 
 ghost use Rattle.std.specs.Prelude.{◌≡◌};
 ghost use Rattle.vx_base.specs.CellValue.{cell_value};
 ghost use Rattle.vx_base.specs.IntegersIn.{integer_in};
-ghost use Rattle.vx_base.specs.PlainValue.{is_null};
+ghost use Rattle.vx_base.specs.PlainValue.{is_null, truth_or_false, whole_or_zero, bytes_or_empty};
 
-/// What stands in a row of a leaf type: null, or a value. It owns nothing.
+/// What stands in a row of a leaf type or of timestamps: null, or a value. It owns nothing.
 #[derive(Clone, Copy, Debug)]
-pub enum Cell {
+pub enum Cell<'a> {
     Null,
+    Bool(bool),
+    /// Integers and timestamps.
     Int(i128),
+    /// Texts and binaries.
+    Bytes(&'a [u8]),
 }
 
-impl Cell {
+impl<'a> Cell<'a> {
     pub fn is_null(self) -> bool
-        ensures { result ≡ is_null (cell_value self) }
+        ensures { result ≡ is_null (cell_value self.entry) }
     {
         matches!(self, Cell::Null)
     }
 
+    /// The truth value, false where there is none.
+    pub fn truth(self) -> bool
+        ensures { result ≡ truth_or_false (cell_value self.entry) }
+    {
+        match self {
+            Cell::Bool(bit) => bit,
+            Cell::Null | Cell::Int(_) | Cell::Bytes(_) => false,
+        }
+    }
+
+    /// The whole number, 0 where there is none.
+    pub fn whole(self) -> i128
+        ensures { result ≡ whole_or_zero (cell_value self.entry) }
+    {
+        match self {
+            Cell::Int(whole) => whole,
+            Cell::Null | Cell::Bool(_) | Cell::Bytes(_) => 0,
+        }
+    }
+
+    /// The bytes, empty where there are none.
+    pub fn bytes(self) -> &'a [u8]
+        ensures { result.now ≡ bytes_or_empty (cell_value self.entry) }
+    {
+        match self {
+            Cell::Bytes(bytes) => bytes,
+            Cell::Null | Cell::Bool(_) | Cell::Int(_) => &[],
+        }
+    }
+
     /// The integer, or none where there is no integer.
     pub fn integer(self) -> Option<i128>
-        ensures { result ≡ integer_in (cell_value self) }
+        ensures { result ≡ integer_in (cell_value self.entry) }
     {
         match self {
             Cell::Int(whole) => Some(whole),
-            Cell::Null => None,
+            Cell::Null | Cell::Bool(_) | Cell::Bytes(_) => None,
         }
     }
 }

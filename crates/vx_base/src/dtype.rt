@@ -1,13 +1,15 @@
 //! The types of columns.
 
-ghost use Rattle.std.specs.Prelude.{◌≡◌, ◌↔◌, IsTrue};
-ghost use Rattle.vx_base.specs.Answers.{OrMemory};
+ghost use Rattle.std.specs.Prelude.{◌≡◌, ◌↔◌, IsTrue, fold};
 ghost use Rattle.vx_base.specs.PlainType.{ptype_number, nullability_number, allows_null, or_nullable};
 ghost use Rattle.vx_base.specs.TypeText.{nullable_mark};
+ghost use Rattle.vx_base.specs.Writes.{kind_writes};
 
-use crate::error::VortexResult;
+mod making;
+
 use crate::ptype::PType;
-use std::alloc::Global;
+use crate::timestamp::TimestampType;
+use crate::value::write_bytes;
 use std::fmt;
 use std::hash::{Hash, Hasher};
 
@@ -59,8 +61,16 @@ impl Nullability {
 /// The type of a column.
 #[derive(Debug, Drop)]
 pub enum DType {
+    /// Truth values.
+    Bool(Nullability),
     /// Integers.
     Primitive(PType, Nullability),
+    /// Texts.
+    Utf8(Nullability),
+    /// Lists of bytes.
+    Binary(Nullability),
+    /// Points in time, each a whole number of 64 signed bits.
+    Timestamp(TimestampType, Nullability),
 }
 
 // The number of an integer type, which a hash is fed.
@@ -82,22 +92,13 @@ fn ptype_number(ptype: PType) -> u8
 impl DType {
     ghost use Rattle.vx_base.specs.declared.dtype.Nullability.TheVariants.{NonNullable};
     ghost use Rattle.vx_base.specs.TypeOf.{type_of};
-    ghost use Rattle.vx_base.specs.PlainType.{primitive, is_nullable, is_leaf, is_integer, is_unsigned, integer_of, nullability_of, with_nullability};
-
-    /// Integers of a type. Contracts of other crates see it through this call.
-    pub fn primitive(ptype: PType, nullability: Nullability) -> DType
-        ensures { type_of result ≡ primitive ptype nullability }
-    {
-        DType::Primitive(ptype, nullability)
-    }
+    ghost use Rattle.vx_base.specs.PlainType.{is_nullable, is_leaf, is_timestamp, is_flat, is_integer, is_bytes, is_unsigned, integer_of, nullability_of, with_nullability};
 
     /// Whether null is one of its values.
     pub fn is_nullable(&self) -> bool
         ensures { result ≡ is_nullable (type_of self.now) }
     {
-        match self {
-            DType::Primitive(_, nullability) => nullability.allows_null(),
-        }
+        self.nullability().allows_null()
     }
 
     /// The type of its integers.
@@ -107,6 +108,9 @@ impl DType {
     {
         match self {
             DType::Primitive(ptype, _) => *ptype,
+            DType::Bool(_) | DType::Utf8(_) | DType::Binary(_) | DType::Timestamp(_, _) => {
+                unreachable!()
+            }
         }
     }
 
@@ -115,15 +119,32 @@ impl DType {
         ensures { result ≡ nullability_of (type_of self.now) }
     {
         match self {
+            DType::Bool(nullability) => *nullability,
             DType::Primitive(_, nullability) => *nullability,
+            DType::Utf8(nullability) => *nullability,
+            DType::Binary(nullability) => *nullability,
+            DType::Timestamp(_, nullability) => *nullability,
         }
     }
 
-    /// Whether its values hold no others: bool, integer, text and binary types.
+    /// Whether it is a bool, integer, text or binary type.
     pub fn is_leaf(&self) -> bool
         ensures { result ≡ is_leaf (type_of self.now) }
     {
-        matches!(self, DType::Primitive(_, _))
+        !self.is_timestamp()
+    }
+
+    pub fn is_timestamp(&self) -> bool
+        ensures { result ≡ is_timestamp (type_of self.now) }
+    {
+        matches!(self, DType::Timestamp(_, _))
+    }
+
+    /// Whether its values hold no others: leaf types and timestamps.
+    pub fn is_flat(&self) -> bool
+        ensures { result ≡ is_flat (type_of self.now) }
+    {
+        self.is_leaf() || self.is_timestamp()
     }
 
     pub fn is_integer(&self) -> bool
@@ -132,12 +153,20 @@ impl DType {
         matches!(self, DType::Primitive(_, _))
     }
 
+    /// Whether its values are bytes: texts and binaries.
+    pub fn is_bytes(&self) -> bool
+        ensures { result ≡ is_bytes (type_of self.now) }
+    {
+        matches!(self, DType::Utf8(_) | DType::Binary(_))
+    }
+
     /// Whether its values are integers of an unsigned type.
     pub fn is_unsigned(&self) -> bool
         ensures { result ≡ is_unsigned (type_of self.now) }
     {
         match self {
             DType::Primitive(ptype, _) => ptype.is_unsigned(),
+            DType::Bool(_) | DType::Utf8(_) | DType::Binary(_) | DType::Timestamp(_, _) => false,
         }
     }
 
@@ -146,25 +175,12 @@ impl DType {
         ensures { IsTrue result ↔ (with_nullability (type_of self.now) NonNullable ≡ with_nullability (type_of other.now) NonNullable) }
     {
         match (self, other) {
+            (DType::Bool(_), DType::Bool(_)) => true,
             (DType::Primitive(ptype, _), DType::Primitive(others, _)) => *ptype == *others,
-        }
-    }
-
-    /// The same type.
-    pub fn copy(&self, _alloc: Global) -> VortexResult<DType>
-        ensures { OrMemory result (λ copy. type_of copy ≡ type_of self.now) }
-    {
-        match self {
-            DType::Primitive(ptype, nullability) => Ok(DType::Primitive(*ptype, *nullability)),
-        }
-    }
-
-    /// The same base with this outermost nullability.
-    pub fn with_nullability(&self, _alloc: Global, nullability: Nullability) -> VortexResult<DType>
-        ensures { OrMemory result (λ made. type_of made ≡ with_nullability (type_of self.now) nullability) }
-    {
-        match self {
-            DType::Primitive(ptype, _) => Ok(DType::Primitive(*ptype, nullability)),
+            (DType::Utf8(_), DType::Utf8(_)) => true,
+            (DType::Binary(_), DType::Binary(_)) => true,
+            (DType::Timestamp(kind, _), DType::Timestamp(others, _)) => kind.same(others),
+            _ => false,
         }
     }
 
@@ -172,11 +188,7 @@ impl DType {
     fn same(&self, other: &DType) -> bool
         ensures { IsTrue result ↔ (type_of self.now ≡ type_of other.now) }
     {
-        match (self, other) {
-            (DType::Primitive(ptype, nullability), DType::Primitive(others, other)) => {
-                *ptype == *others && *nullability == *other
-            }
-        }
+        self.nullability() == other.nullability() && self.same_base(other)
     }
 }
 
@@ -213,10 +225,32 @@ impl Hash for DType {
 
     fn hash<H: Hasher>(&self, state: &mut H) {
         match self {
-            DType::Primitive(ptype, nullability) => {
+            DType::Bool(_) => state.write_u8(0),
+            DType::Primitive(ptype, _) => {
+                state.write_u8(1);
                 state.write_u8(ptype_number(*ptype));
-                state.write_u8(nullability.number());
             }
+            DType::Utf8(_) => state.write_u8(2),
+            DType::Binary(_) => state.write_u8(3),
+            DType::Timestamp(kind, _) => {
+                state.write_u8(4);
+                write_kind(kind, state);
+            }
+        }
+        state.write_u8(self.nullability().number());
+    }
+}
+
+// Feeds a hash the unit and the zone.
+fn write_kind<H: Hasher>(kind: &TimestampType, state: &mut H)
+    ensures { state.new ≡ fold H.write state.old (kind_writes kind.now) }
+{
+    state.write_u8(kind.unit().number());
+    match kind.zone() {
+        None => state.write_u8(0),
+        Some(zone) => {
+            state.write_u8(1);
+            write_bytes(zone.as_str().as_bytes(), state);
         }
     }
 }
@@ -230,10 +264,20 @@ impl fmt::Display for DType {
 
     fn fmt<W: fmt::Write>(&self, f: &mut fmt::Formatter<W>) -> fmt::Result {
         match self {
-            DType::Primitive(ptype, nullability) => {
-                f.write_str(ptype.name())?;
-                f.write_str(nullability.mark())
+            DType::Bool(_) => f.write_str("bool")?,
+            DType::Primitive(ptype, _) => f.write_str(ptype.name())?,
+            DType::Utf8(_) => f.write_str("text")?,
+            DType::Binary(_) => f.write_str("binary")?,
+            DType::Timestamp(kind, _) => {
+                f.write_str("timestamp ")?;
+                f.write_str(kind.unit().name())?;
+                if let Some(zone) = kind.zone() {
+                    f.write_str("<")?;
+                    f.write_str(zone.as_str())?;
+                    f.write_str(">")?;
+                }
             }
         }
+        f.write_str(self.nullability().mark())
     }
 }

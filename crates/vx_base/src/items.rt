@@ -62,6 +62,15 @@ impl<T> Items<T> {
         self.items
     }
 
+    /// Lets the items go.
+    pub fn clear(&mut self)
+    where
+        T: Drop,
+        ensures { self.new ≡ [] }
+    {
+        self.items.clear();
+    }
+
     pub fn push(&mut self, item: T) -> Result<(), T>
         ensures { MatchResult result (λ _. self.new ≡ self.old ++ item ∷ []) (λ back. (back ≡ item) × (self.new ≡ self.old)) }
     {

@@ -16,6 +16,7 @@ mod ptype;
 mod scalar;
 mod steps;
 mod text;
+mod timestamp;
 mod value;
 
 pub use array_id::ArrayId;
@@ -32,4 +33,5 @@ pub use ptype::PType;
 pub use scalar::Scalar;
 pub use steps::Steps;
 pub use text::Text;
+pub use timestamp::{TimeUnit, TimestampType};
 pub use value::Value;

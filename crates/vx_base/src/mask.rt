@@ -45,6 +45,13 @@ impl Mask {
         self.bits.as_slice()
     }
 
+    /// The truth values as a vector.
+    pub fn into_vec(self) -> Vec<bool>
+        ensures { result.items ≡ self }
+    {
+        self.bits
+    }
+
     /// A row's truth value, None where there is no such row.
     pub fn value(&self, row: u64) -> Option<bool>
         ensures { result ≡ slice_get self.now row }

@@ -1,19 +1,21 @@
 //! A value with its type.
 
-ghost use Rattle.std.specs.Prelude.{◌≡◌, ◌↔◌, IsTrue, None};
-ghost use Rattle.vx_base.specs.Answers.{Answers, SurelyDecided, MakesSurely, unless};
-ghost use Rattle.vx_base.specs.declared.error.VortexError.TheVariants.{MismatchedTypes, OutOfBounds};
+ghost use Rattle.std.specs.Prelude.{◌≡◌, IsTrue};
+ghost use Rattle.std.specs.Str.{is_utf8};
+ghost use Rattle.vx_base.specs.Answers.{Answers};
 ghost use Rattle.vx_base.specs.Integers.{lies_in};
 ghost use Rattle.vx_base.specs.PlainScalar.{fits};
+ghost use Rattle.vx_base.specs.PlainValue.{is_short, has_short};
 ghost use Rattle.vx_base.specs.TypeOf.{type_of, value_of};
 
 mod cast;
+mod making;
+mod value_text;
 
 use crate::cell::Cell;
-use crate::dtype::{DType, Nullability};
-use crate::error::{Refused, VortexError, VortexResult};
+use crate::dtype::DType;
+use crate::error::VortexResult;
 use crate::ptype::PType;
-use crate::text::Text;
 use crate::value::Value;
 use std::alloc::Global;
 use std::hash::{Hash, Hasher};
@@ -48,36 +50,52 @@ fn is_held(value: i128, ptype: PType) -> bool
     value >= ptype.least() && value <= ptype.greatest()
 }
 
+// Whether the bytes are fewer than 2^32.
+fn is_short(bytes: &[u8]) -> bool
+    ensures { result ≡ is_short bytes.now }
+{
+    bytes.len() < 1 << 32
+}
+
+// Whether the value isn't one of 2^32 bytes or more.
+fn has_short(value: &Value) -> bool
+    ensures { result ≡ has_short (value_of value.now) }
+{
+    match value {
+        Value::Bytes(bytes) => is_short(bytes.as_slice()),
+        Value::Null | Value::Bool(_) | Value::Int(_) => true,
+    }
+}
+
+// Whether the bytes are a text.
+fn is_text(bytes: &[u8]) -> bool
+    ensures { result ≡ is_utf8 bytes.now }
+{
+    std::str::from_utf8(bytes).is_ok()
+}
+
 // Whether the value is one of the type.
 fn fits(dtype: &DType, value: &Value) -> bool
     ensures { result ≡ fits (type_of dtype.now) (value_of value.now) }
 {
     match (dtype, value) {
-        (DType::Primitive(_, nullability), Value::Null) => nullability.allows_null(),
+        (_, Value::Null) => dtype.is_nullable(),
+        (DType::Bool(_), Value::Bool(_)) => true,
         (DType::Primitive(ptype, _), Value::Int(whole)) => is_held(*whole, *ptype),
+        (DType::Timestamp(_, _), Value::Int(whole)) => is_held(*whole, PType::I64),
+        (DType::Utf8(_), Value::Bytes(bytes)) => is_short(bytes.as_slice())
+            && is_text(bytes.as_slice()),
+        (DType::Binary(_), Value::Bytes(bytes)) => is_short(bytes.as_slice()),
+        _ => false,
     }
 }
 
 impl Scalar {
     ghost use Rattle.vx_base.specs.CellValue.{cell_value};
-    ghost use Rattle.vx_base.specs.PlainValue.{null, int, is_null, cell};
-    ghost use Rattle.vx_base.specs.PlainScalar.{fits, scalar};
-    ghost use Rattle.vx_base.specs.PlainType.{primitive, is_leaf, is_integer, is_nullable};
+    ghost use Rattle.vx_base.specs.PlainValue.{is_null, cell};
+    ghost use Rattle.vx_base.specs.PlainScalar.{fits};
+    ghost use Rattle.vx_base.specs.PlainType.{is_flat, is_integer};
     ghost use Rattle.vx_base.specs.TypeOf.{type_of, value_of};
-    ghost use Rattle.vx_base.specs.TypeText.{value_text};
-
-    /// A type and a value of it. Refuses MismatchedTypes where the value isn't one of the type.
-    pub fn new(dtype: DType, value: Value) -> Result<Scalar, Refused<(DType, Value)>>
-        ensures { MakesSurely (unless (fits (type_of dtype) (value_of value)) MismatchedTypes None) (scalar (type_of dtype) (value_of value)) (dtype, value) result }
-    {
-        if !fits(&dtype, &value) {
-            return Err(Refused {
-                error: VortexError::MismatchedTypes,
-                inputs: (dtype, value),
-            });
-        }
-        Ok(Scalar { dtype, value })
-    }
 
     pub fn dtype(&self) -> &DType
         ensures { type_of result.now ≡ self.now.dtype }
@@ -104,43 +122,16 @@ impl Scalar {
         matches!(self.value, Value::Null)
     }
 
-    /// The null of a nullable type.
-    pub fn null(dtype: DType) -> Result<Scalar, Refused<DType>>
-        ensures { MakesSurely (unless (is_nullable (type_of dtype)) MismatchedTypes None) (scalar (type_of dtype) null) dtype result }
-    {
-        if !dtype.is_nullable() {
-            return Err(Refused {
-                error: VortexError::MismatchedTypes,
-                inputs: dtype,
-            });
-        }
-        Ok(Scalar {
-            dtype,
-            value: Value::Null,
-        })
-    }
-
-    /// An integer, where its type holds it.
-    pub fn primitive(value: i128, ptype: PType, nullability: Nullability) -> VortexResult<Scalar>
-        ensures { SurelyDecided (unless (lies_in ptype value) OutOfBounds None) (λ s. s ≡ scalar (primitive ptype nullability) (int value)) result }
-    {
-        if !is_held(value, ptype) {
-            return Err(VortexError::OutOfBounds);
-        }
-        Ok(Scalar {
-            dtype: DType::Primitive(ptype, nullability),
-            value: Value::Int(value),
-        })
-    }
-
-    /// The value of a leaf type.
-    pub fn cell(&self) -> Cell
-        requires { IsTrue (is_leaf self.now.dtype) }
+    /// The value, which holds no others.
+    pub fn cell(&self) -> Cell<'_>
+        requires { IsTrue (is_flat self.now.dtype) }
         ensures { cell_value result ≡ self.now.value }
     {
         match &self.value {
-            Value::Int(whole) => Cell::Int(*whole),
             Value::Null => Cell::Null,
+            Value::Bool(bit) => Cell::Bool(*bit),
+            Value::Int(whole) => Cell::Int(*whole),
+            Value::Bytes(bytes) => Cell::Bytes(bytes.as_slice()),
         }
     }
 
@@ -151,17 +142,7 @@ impl Scalar {
     {
         match &self.value {
             Value::Int(whole) => Some(*whole),
-            Value::Null => None,
-        }
-    }
-
-    /// The value's text: compact JSON.
-    pub fn json(&self, alloc: Global) -> VortexResult<Text>
-        ensures { Answers result (value_text self.now.value) }
-    {
-        match &self.value {
-            Value::Null => Ok(Text::from_string(String::from_str(alloc, "null")?)),
-            Value::Int(whole) => Ok(Text::from_string(format!(in alloc; "{whole}")?)),
+            Value::Null | Value::Bool(_) | Value::Bytes(_) => None,
         }
     }
 

@@ -1,9 +1,10 @@
 //! A text, seen as its bytes.
 
-ghost use Rattle.std.specs.Prelude.{◌≡◌, [], ◌++◌, length, MatchResult, string_bytes, encode_utf8, IsTrue, ◌↔◌};
+ghost use Rattle.std.specs.Prelude.{◌≡◌, [], ◌++◌, length, MatchResult, string_bytes, encode_utf8, IsUtf8, IsTrue, ◌↔◌};
 ghost use Rattle.vx_base.specs.Answers.{Answers};
 
 use crate::error::VortexResult;
+use crate::items::Bytes;
 use std::alloc::Global;
 use std::marker::Model;
 
@@ -54,6 +55,14 @@ impl Text {
         ensures { result.now ≡ self.now }
     {
         self.text.as_str()
+    }
+
+    /// The text's bytes, which are UTF-8.
+    pub fn into_bytes(self) -> Bytes
+        ensures bytes { result ≡ self }
+        ensures utf8 { IsUtf8 result }
+    {
+        Bytes::from_vec(self.text.into_bytes())
     }
 
     pub fn copy(&self, alloc: Global) -> VortexResult<Text>

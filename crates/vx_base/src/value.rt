@@ -1,29 +1,37 @@
 //! The values of columns.
 
-ghost use Rattle.std.specs.Prelude.{◌≡◌, ◌↔◌, IsTrue};
+ghost use Rattle.std.specs.Prelude.{◌≡◌, ◌↔◌, IsTrue, fold};
 ghost use Rattle.vx_base.specs.Answers.{OrMemory};
+ghost use Rattle.vx_base.specs.Writes.{bytes_writes};
 
 use crate::error::VortexResult;
+use crate::items::Bytes;
 use std::alloc::Global;
 use std::hash::{Hash, Hasher};
 
-/// One value of a column. Integers and timestamps are whole numbers.
+/// One value of a column.
 #[derive(Debug, Drop)]
 pub enum Value {
     Null,
+    Bool(bool),
+    /// Integers and timestamps.
     Int(i128),
+    /// Texts and binaries.
+    Bytes(Bytes),
 }
 
 impl Value {
     ghost use Rattle.vx_base.specs.TypeOf.{value_of};
 
     /// The same value.
-    pub fn copy(&self, _alloc: Global) -> VortexResult<Value>
+    pub fn copy(&self, alloc: Global) -> VortexResult<Value>
         ensures { OrMemory result (λ copy. value_of copy ≡ value_of self.now) }
     {
         match self {
             Value::Null => Ok(Value::Null),
+            Value::Bool(bit) => Ok(Value::Bool(*bit)),
             Value::Int(whole) => Ok(Value::Int(*whole)),
+            Value::Bytes(bytes) => Ok(Value::Bytes(bytes.copy(alloc)?)),
         }
     }
 
@@ -33,10 +41,20 @@ impl Value {
     {
         match (self, other) {
             (Value::Null, Value::Null) => true,
+            (Value::Bool(bit), Value::Bool(other)) => *bit == *other,
             (Value::Int(whole), Value::Int(other)) => *whole == *other,
+            (Value::Bytes(bytes), Value::Bytes(other)) => bytes.as_slice() == other.as_slice(),
             _ => false,
         }
     }
+}
+
+/// Feeds a hash the length and the bytes.
+pub(crate) fn write_bytes<H: Hasher>(bytes: &[u8], state: &mut H)
+    ensures { state.new ≡ fold H.write state.old (bytes_writes bytes.now) }
+{
+    state.write_u64(bytes.len() as u64);
+    state.write(bytes);
 }
 
 impl PartialEq for Value {
@@ -73,9 +91,17 @@ impl Hash for Value {
     fn hash<H: Hasher>(&self, state: &mut H) {
         match self {
             Value::Null => state.write_u8(0),
-            Value::Int(whole) => {
+            Value::Bool(bit) => {
                 state.write_u8(1);
+                bit.hash(state);
+            }
+            Value::Int(whole) => {
+                state.write_u8(2);
                 state.write_i128(*whole);
+            }
+            Value::Bytes(bytes) => {
+                state.write_u8(3);
+                write_bytes(bytes.as_slice(), state);
             }
         }
     }

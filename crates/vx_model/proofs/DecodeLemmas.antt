@@ -1,26 +1,27 @@
 -- What a node's decoding has to show: values with a default beneath nulls, and validity.
 use Rattle.std.proofs.Common.{◌≡◌, ℕ, zero, suc, ℤ, pos, List, [], ◌∷◌, length, map, refl, sym, ap, ◌∙◌, arith, Bool, true, false, cond, Some, None}
-use Rattle.std.specs.Prelude.{◌||◌, ◌&&◌, ◌==◌, not, is_some, replicate}
+use Rattle.std.specs.Prelude.{◌||◌, ◌&&◌, not, is_some, replicate}
 use Rattle.std.specs.List.{list_all, list_any}
-use Rattle.std.proofs.lemmas.Bool.{cond_both, eq-eqb}
+use Rattle.std.proofs.lemmas.Bool.{cond_both, eq-eqb, and_parts}
 use Rattle.std.proofs.lemmas.List.{length-map}
-use Rattle.std.proofs.lemmas.Bool.Decides.{nat_tests}
 use Rattle.vx_base.specs.declared.ptype.PType.{PType}
 use Rattle.vx_base.specs.declared.dtype.Nullability.{Nullability}
 use Rattle.vx_base.specs.declared.dtype.Nullability.TheVariants.{Nullable, NonNullable}
 use Rattle.vx_base.specs.Defaults.{default_of, or_default}
+use Rattle.vx_base.specs.Integers.{lies_in}
 use Rattle.vx_base.specs.PlainScalar.{fits}
-use Rattle.vx_base.specs.PlainType.{PlainType, is_integer}
+use Rattle.vx_base.specs.PlainType.{PlainType, is_integer, is_nullable}
 use Rattle.vx_base.specs.PlainType as types
 use Rattle.vx_base.specs.PlainValue.{PlainValue, null, int, is_null, whole_or_zero}
 use Rattle.vx_model.specs.Tree.{Tree, Validity, primitive}
 use Rattle.vx_model.specs.Decoded.{zeroed, zeroed_by}
 use Rattle.vx_model.specs.Column.{column_of}
-use Rattle.vx_model.specs.Plain.{plain, validity, valid_bits}
+use Rattle.vx_model.specs.Plain.{plain, plain_of, validity, valid_bits}
 use Rattle.vx_model.specs.Refusals.{kept, validity_length, primitive_refusal}
 use Rattle.vx_model.specs.Rows.{rows, masked_rows, valid_rows}
 use Rattle.vx_model.specs.TreeType.{tree_type}
 use Rattle.vx_model.specs.WellFormed.{WellFormed, IsValidityOf}
+use Rattle.vx_base.proofs.NullLemmas.{null-fitted}
 use Rattle.vx_model.proofs.MadeLemmas.{rows_fit}
 
 -- ---- rows by any function, which null's item stands for: the whole number or 0, the value or its default
@@ -49,18 +50,17 @@ wholes-map-int (x ∷ xs) = ap (λ ys. x ∷ ys) (wholes-map-int xs)
 pub wholes-valid_rows : (valid : Validity) (xs : List ℤ) (n : Nullability) → IsValidityOf valid (length xs) n → map whole_or_zero (valid_rows valid (map int xs)) ≡ zeroed_by (pos 0) valid xs
 wholes-valid_rows valid xs n h = map-valid_rows whole_or_zero valid (map int xs) n (rw length-map h) ∙ ap (zeroed_by (pos 0) valid) (wholes-map-int xs)
 
-int_or_default : (v : PlainValue) → int (whole_or_zero v) ≡ or_default (int (pos 0)) v
-int_or_default null = refl
-int_or_default (int z) = refl
-
 -- whole numbers with 0 beneath nulls are the values of an integer type with its default
-pub values-wholes : (t : PlainType) → is_integer t ≡ true → (rs : List PlainValue) → map int (map whole_or_zero rs) ≡ map (or_default (default_of t)) rs
-values-wholes (types.primitive p n) e [] = refl
-values-wholes (types.primitive p n) e (r ∷ rs) = λ i. int_or_default r i ∷ values-wholes (types.primitive p n) e rs i
+pub values-wholes : (t : PlainType) → is_integer t ≡ true → (rs : List PlainValue) → list_all (fits t) rs ≡ true → map int (map whole_or_zero rs) ≡ map (or_default (default_of t)) rs
+values-wholes (types.primitive p n) e [] h = refl
+values-wholes (types.primitive p n) e (null ∷ rs) h = let b = and_parts (types.allows_null n) (list_all (fits (types.primitive p n)) rs) h in ap (λ vs. int (pos 0) ∷ vs) (values-wholes (types.primitive p n) e rs b.1)
+values-wholes (types.primitive p n) e (int z ∷ rs) h = let b = and_parts (lies_in p z) (list_all (fits (types.primitive p n)) rs) h in ap (λ vs. int z ∷ vs) (values-wholes (types.primitive p n) e rs b.1)
+values-wholes (types.primitive p n) e (v ∷ rs) h = absurd cc
+values-wholes t e rs h = absurd cc
 
 -- and the other way
-pub wholes-values : (t : PlainType) → is_integer t ≡ true → (xs : List ℤ) (rs : List PlainValue) → map int xs ≡ map (or_default (default_of t)) rs → xs ≡ map whole_or_zero rs
-wholes-values t e xs rs h = sym (wholes-map-int xs) ∙ ap (map whole_or_zero) (h ∙ sym (values-wholes t e rs)) ∙ wholes-map-int (map whole_or_zero rs)
+pub wholes-values : (t : PlainType) → is_integer t ≡ true → (xs : List ℤ) (rs : List PlainValue) → list_all (fits t) rs ≡ true → map int xs ≡ map (or_default (default_of t)) rs → xs ≡ map whole_or_zero rs
+wholes-values t e xs rs f h = sym (wholes-map-int xs) ∙ ap (map whole_or_zero) (h ∙ sym (values-wholes t e rs f)) ∙ wholes-map-int (map whole_or_zero rs)
 
 -- ---- validity
 
@@ -146,29 +146,30 @@ kept-validity vs = by_any (list_any is_null vs) refl
     by_any false e = refl
 
 -- a type that isn't nullable has no null
+pub no_null : (t : PlainType) (vs : List PlainValue) → list_all (fits t) vs ≡ true → is_nullable t ≡ false → list_any is_null vs ≡ false
+no_null t vs h e = by_any (list_any is_null vs) refl
+  where
+    by_any : (b : Bool) → list_any is_null vs ≡ b → b ≡ false
+    by_any true f = let some : is_nullable t ≡ true = null-fitted t vs h f in absurd cc
+    by_any false f = refl
+
 pub null_allowed : (p : PType) (vs : List PlainValue) → list_all (fits (types.primitive p NonNullable)) vs ≡ true → list_any is_null vs ≡ false
-null_allowed p [] h = refl
-null_allowed p (null ∷ vs) h = absurd cc
-null_allowed p (int z ∷ vs) h = null_allowed p vs (second (fits (types.primitive p NonNullable) (int z)) h)
-  where
-    second : (b : Bool) → (b && list_all (fits (types.primitive p NonNullable)) vs) ≡ true → list_all (fits (types.primitive p NonNullable)) vs ≡ true
-    second true e = e
-    second false e = absurd cc
+null_allowed p vs h = no_null (types.primitive p NonNullable) vs h refl
 
--- the validity of rows that fit is admitted
-pub plain_admitted : (p : PType) (n : Nullability) (vs : List PlainValue) → list_all (fits (types.primitive p n)) vs ≡ true → primitive_refusal (length (map whole_or_zero vs)) (validity vs) n ≡ None
-plain_admitted p NonNullable vs h = rw (null_allowed p vs h) refl
-plain_admitted p Nullable vs h = by_any (list_any is_null vs)
+-- the validity of rows that fit is admitted, for items of any kind
+pub items_admitted : {A : Type 0} (f : PlainValue → A) (t : PlainType) (vs : List PlainValue) → list_all (fits t) vs ≡ true → primitive_refusal (length (map f vs)) (validity vs) (types.nullability_of t) ≡ None
+items_admitted f t vs h = by_nullability (types.nullability_of t) (no_null t vs h)
   where
-    same_length : (length (valid_bits vs) == length (map whole_or_zero vs)) ≡ true
-    same_length = let a = length-valid_bits vs in let b = length-map vs whole_or_zero in grind (arith, nat_tests)
-
-    by_any : (b : Bool) → primitive_refusal (length (map whole_or_zero vs)) (cond b (Some (valid_bits vs)) None) Nullable ≡ None
-    by_any true = rw same_length refl
+    by_any : (b : Bool) → primitive_refusal (length (map f vs)) (cond b (Some (valid_bits vs)) None) Nullable ≡ None
+    by_any true = rw (eq-eqb _ _ (length-map vs (λ v. not (is_null v)) ∙ sym (length-map vs f))) refl
     by_any false = refl
 
-pub tree_admitted : (t : Tree) (p : PType) (n : Nullability) → WellFormed t → tree_type t ≡ types.primitive p n → primitive_refusal (length (map whole_or_zero (rows t))) (validity (rows t)) n ≡ None
-tree_admitted t p n h e = plain_admitted p n (rows t) (let f = rows_fit t h in rw e at f)
+    by_nullability : (n : Nullability) → (types.allows_null n ≡ false → list_any is_null vs ≡ false) → primitive_refusal (length (map f vs)) (validity vs) n ≡ None
+    by_nullability NonNullable none = rw (none refl) refl
+    by_nullability Nullable none = by_any (list_any is_null vs)
+
+pub plain_admitted : (p : PType) (n : Nullability) (vs : List PlainValue) → list_all (fits (types.primitive p n)) vs ≡ true → primitive_refusal (length (map whole_or_zero vs)) (validity vs) n ≡ None
+plain_admitted p n vs h = items_admitted whole_or_zero (types.primitive p n) vs h
 
 -- the plain tree of a tree of integers
 pub plain-integers : (t : Tree) (p : PType) (n : Nullability) → tree_type t ≡ types.primitive p n → plain (column_of t) ≡ primitive p (map whole_or_zero (rows t)) (validity (rows t)) n
@@ -207,17 +208,15 @@ validity-nulls (suc len) v h e = rw (e, bits-nulls len v e) refl
 
 pub ruleset decodes = (copies-null, copies-int, validity-value, validity-none, validity-nulls)
 
--- ---- the plain tree of any tree
+-- ---- the plain tree of a tree of integers
 
 module _ (t : Tree) (n : Nullability) (xs : List ℤ) (valid : Validity) (wholes : xs ≡ map whole_or_zero (rows t)) (bits : valid ≡ validity (rows t)) (nullability : n ≡ types.nullability_of (tree_type t)) where
   pub canonical_refusal : WellFormed t → primitive_refusal (length xs) valid n ≡ None
-  canonical_refusal h = rw (wholes, bits, nullability) (by_type (tree_type t) refl)
-    where
-      by_type : (s : PlainType) → tree_type t ≡ s → primitive_refusal (length (map whole_or_zero (rows t))) (validity (rows t)) (types.nullability_of s) ≡ None
-      by_type (types.primitive q m) e = tree_admitted t q m h e
+  canonical_refusal h = rw (wholes, bits, nullability) (items_admitted whole_or_zero (tree_type t) (rows t) (rows_fit t h))
 
-  pub canonical_tree : (p : PType) → p ≡ types.integer_of (tree_type t) → primitive p xs (kept valid) n ≡ plain (column_of t)
-  canonical_tree p kind = rw (kind, wholes, bits, nullability) (by_type (tree_type t) refl)
+  pub canonical_tree : (p : PType) → is_integer (tree_type t) ≡ true → p ≡ types.integer_of (tree_type t) → primitive p xs (kept valid) n ≡ plain (column_of t)
+  canonical_tree p integer kind = rw (kind, wholes, bits, nullability, kept-validity (rows t)) (by_type (tree_type t) integer)
     where
-      by_type : (s : PlainType) → tree_type t ≡ s → primitive (types.integer_of s) (map whole_or_zero (rows t)) (kept (validity (rows t))) (types.nullability_of s) ≡ plain (column_of t)
-      by_type (types.primitive q m) e = rw (kept-validity (rows t)) (sym (plain-integers t q m e))
+      by_type : (s : PlainType) → is_integer s ≡ true → primitive (types.integer_of s) (map whole_or_zero (rows t)) (validity (rows t)) (types.nullability_of s) ≡ plain_of s (rows t)
+      by_type (types.primitive q m) e = refl
+      by_type s e = absurd cc

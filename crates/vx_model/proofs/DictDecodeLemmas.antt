@@ -1,5 +1,5 @@
 -- What the decoding of a dict node has to show: values with a default beneath nulls, and validity; and where a row is null.
-use Rattle.std.proofs.Common.{◌≡◌, ◌<◌, ◌∙◌, ℕ, zero, suc, ℤ, pos, negsuc, List, [], ◌∷◌, length, map, refl, ap, sym, arith, Bool, true, false, cond, Some, None}
+use Rattle.std.proofs.Common.{◌≡◌, ◌<◌, ◌∙◌, ℕ, zero, suc, ℤ, pos, List, [], ◌∷◌, length, map, refl, ap, sym, arith, Bool, true, false, cond, Some, None}
 use Rattle.std.specs.Prelude.{◌&&◌, ◌||◌, not, slice_index_or}
 use Rattle.std.specs.List.{list_all, list_any, range_with_len}
 use Rattle.std.proofs.lemmas.Bool.{and_parts, cond_both, or_parts, ltb-true}
@@ -7,9 +7,9 @@ use Rattle.std.proofs.lemmas.List.{length-map, get_or-map}
 use Rattle.std.proofs.lemmas.List.FromFn.{fill_by_all}
 use Rattle.vx_base.specs.declared.ptype.PType.{PType}
 use Rattle.vx_base.specs.Defaults.{default_of}
-use Rattle.vx_base.specs.PlainType.{PlainType}
-use Rattle.vx_base.specs.PlainType as types
+use Rattle.vx_base.specs.PlainType.{PlainType, nullability_of, or_nullable}
 use Rattle.vx_base.specs.PlainValue.{PlainValue, null, int, is_null, whole_or_zero}
+use Rattle.vx_base.proofs.TypeLemmas.{default_of-with}
 use Rattle.vx_model.specs.Tree.{Tree, dict}
 use Rattle.vx_model.specs.Decoded.{zeroed, zeroed_by, picked, picks_valid}
 use Rattle.vx_model.specs.Plain.{validity, valid_bits}
@@ -36,13 +36,12 @@ module _ {A : Type 0} (f : PlainValue → A) where
     items_bits [] h = refl
     items_bits (null ∷ rs) h = ap (λ xs. f null ∷ xs) (items_bits rs h)
     items_bits (int (pos k) ∷ rs) h = λ i. item_at vs k i ∷ items_bits rs (and_parts _ _ h).1 i
-    items_bits (int (negsuc k) ∷ rs) h = absurd cc
+    items_bits (v ∷ rs) h = absurd cc
 
     items_all : (rs : List PlainValue) → list_all (is_place (length vs)) rs ≡ true → list_any is_null rs ≡ false → map f (map (looked_up vs) rs) ≡ map picked_item (map whole_or_zero rs)
     items_all [] h e = refl
-    items_all (null ∷ rs) h e = absurd cc
     items_all (int (pos k) ∷ rs) h e = λ i. item_at vs k i ∷ items_all rs (and_parts _ _ h).1 e i
-    items_all (int (negsuc k) ∷ rs) h e = absurd cc
+    items_all (v ∷ rs) h e = absurd cc
 
   pub map-dict : (codes values : Tree) (p : PType) → WellFormed (dict codes values)
       → map f (rows (dict codes values)) ≡ zeroed_by (f null) (validity (rows codes)) (map (picked p (map f (rows values)) (f null)) (map whole_or_zero (rows codes)))
@@ -62,7 +61,7 @@ module _ (vs : List PlainValue) (none : list_any is_null vs ≡ false) where
   is_null-looked_up : (r : PlainValue) → is_place (length vs) r ≡ true → is_null (looked_up vs r) ≡ is_null r
   is_null-looked_up null h = refl
   is_null-looked_up (int (pos k)) h = valid_value vs k (ltb-true _ _ h) none
-  is_null-looked_up (int (negsuc k)) h = absurd cc
+  is_null-looked_up v h = absurd cc
 
   any_null-looked_up : (rs : List PlainValue) → list_all (is_place (length vs)) rs ≡ true → list_any is_null (map (looked_up vs) rs) ≡ list_any is_null rs
   any_null-looked_up [] h = refl
@@ -76,7 +75,7 @@ module _ (vs : List PlainValue) (none : list_any is_null vs ≡ false) where
 any_null-code : (vs rs : List PlainValue) → list_any is_null rs ≡ true → list_any is_null (map (looked_up vs) rs) ≡ true
 any_null-code vs [] e = absurd cc
 any_null-code vs (null ∷ rs) e = refl
-any_null-code vs (int z ∷ rs) e = right (is_null (looked_up vs (int z))) (any_null-code vs rs e)
+any_null-code vs (r ∷ rs) e = right (is_null (looked_up vs r)) (any_null-code vs rs e)
   where
     right : (b : Bool) → list_any is_null (map (looked_up vs) rs) ≡ true → (b || list_any is_null (map (looked_up vs) rs)) ≡ true
     right true h = refl
@@ -111,7 +110,7 @@ module _ (p : PType) (vs : List PlainValue) where
   picks : (r : PlainValue) → is_place (length vs) r ≡ true → not (is_null (looked_up vs r)) ≡ (not (is_null r) && picked p (valid_bits vs) false (whole_or_zero r))
   picks null h = refl
   picks (int (pos k)) h = bit_at vs k
-  picks (int (negsuc k)) h = absurd cc
+  picks v h = absurd cc
 
   bit_of_row : (rs : List PlainValue) (k : ℕ) → list_all (is_place (length vs)) rs ≡ true → k < length rs
       → slice_index_or (valid_bits (map (looked_up vs) rs)) k false ≡ picks_valid p (valid_bits vs) (validity rs) (map whole_or_zero rs) k
@@ -141,4 +140,4 @@ validity-dict codes values p h =
     ap (λ b. kept (Some b)) (sym bits) ∙ kept-valid_bits rs
 
 pub default_of-dict : (codes values : PlainType) → default_of (dict_type codes values) ≡ default_of values
-default_of-dict codes (types.primitive p n) = refl
+default_of-dict codes values = default_of-with values (or_nullable (nullability_of values) (nullability_of codes))

@@ -4,12 +4,16 @@ use Rattle.std.specs.Prelude.{◌&&◌, ◌||◌, not, nat_lt}
 use Rattle.std.specs.List.{list_all, list_any}
 use Rattle.std.proofs.lemmas.Bool.{and_parts, and_from, lt-ltb, ltb-true}
 use Rattle.std.proofs.lemmas.List.{length-map, get_or-map}
+use Rattle.vx_base.specs.declared.ptype.PType.{PType}
 use Rattle.vx_base.specs.declared.dtype.Nullability.{Nullability}
 use Rattle.vx_base.specs.declared.dtype.Nullability.TheVariants.{NonNullable, Nullable}
+use Rattle.vx_base.specs.Integers.{lies_in}
 use Rattle.vx_base.specs.PlainScalar.{fits}
-use Rattle.vx_base.specs.PlainType.{PlainType, allows_null, or_nullable}
+use Rattle.vx_base.specs.PlainType.{PlainType, allows_null, nullability_of, or_nullable}
 use Rattle.vx_base.specs.PlainType as types
 use Rattle.vx_base.specs.PlainValue.{PlainValue, null, int, whole_or_zero}
+use Rattle.vx_base.proofs.NullLemmas.{by_null}
+use Rattle.vx_base.proofs.TypeLemmas.{nullability_of-with, fits-with}
 use Rattle.vx_model.specs.Tree.{Tree, dict}
 use Rattle.vx_model.specs.Refusals.{dict_refusal}
 use Rattle.vx_model.specs.Rows.{rows, row_at, looked_up}
@@ -55,17 +59,18 @@ wider_right Nullable m h = refl
 
 -- a null code
 null_code_fits : (t u : PlainType) → fits t null ≡ true → fits (dict_type t u) null ≡ true
-null_code_fits (types.primitive q m) (types.primitive p n) h = wider_right n m h
+null_code_fits t u h = ap allows_null (nullability_of-with u _) ∙ wider_right (nullability_of u) (nullability_of t) h
 
 -- a value
 value_fits : (t u : PlainType) (v : PlainValue) → fits u v ≡ true → fits (dict_type t u) v ≡ true
-value_fits (types.primitive q m) (types.primitive p n) null h = wider_left n m h
-value_fits (types.primitive q m) (types.primitive p n) (int z) h = h
+value_fits t u =
+    by_null (λ v. fits u v ≡ true → fits (dict_type t u) v ≡ true) (λ h. ap allows_null (nullability_of-with u _) ∙ wider_left (nullability_of u) (nullability_of t) h)
+    (λ v e h. fits-with u _ v e ∙ h)
 
 looked_up_fits : (t u : PlainType) (vs : List PlainValue) (r : PlainValue) → list_all (fits u) vs ≡ true → is_place (length vs) r ≡ true → fits t r ≡ true → fits (dict_type t u) (looked_up vs r) ≡ true
 looked_up_fits t u vs null held place h = null_code_fits t u h
 looked_up_fits t u vs (int (pos k)) held place h = value_fits t u (row_at vs k) (row_passes (fits u) vs k (ltb-true _ _ place) held)
-looked_up_fits t u vs (int (negsuc k)) held place h = absurd cc
+looked_up_fits t u vs v held place h = absurd cc
 
 all_looked_up_fit : (t u : PlainType) (vs rs : List PlainValue) → list_all (fits u) vs ≡ true → list_all (is_place (length vs)) rs ≡ true → list_all (fits t) rs ≡ true → list_all (fits (dict_type t u)) (map (looked_up vs) rs) ≡ true
 all_looked_up_fit t u vs [] held places h = refl
@@ -89,15 +94,16 @@ dict_accepted codes values h c v =
 
 -- ---- codes are places where their whole numbers are, 0 beneath nulls, once there is a value
 
-pub places-wholes : (len : ℕ) (rs : List PlainValue) → (len ≡ 0 → ⊥) → list_all (is_place len) rs ≡ not (list_any (λ z. not (is_place len (int z))) (map whole_or_zero rs))
-places-wholes len [] some = refl
-places-wholes len (null ∷ rs) some = let first : nat_lt 0 len ≡ true = lt-ltb _ _ (omega (arith, positive len some)) in rw (first, places-wholes len rs some) refl
+pub places-wholes : (p : PType) (n : Nullability) (len : ℕ) (rs : List PlainValue) → (len ≡ 0 → ⊥) → list_all (fits (types.primitive p n)) rs ≡ true → list_all (is_place len) rs ≡ not (list_any (λ z. not (is_place len (int z))) (map whole_or_zero rs))
+places-wholes p n len [] some h = refl
+places-wholes p n len (null ∷ rs) some h = let first : nat_lt 0 len ≡ true = lt-ltb _ _ (omega (arith, positive len some)) in rw (first, places-wholes p n len rs some (and_parts (fits (types.primitive p n) null) (list_all (fits (types.primitive p n)) rs) h).1) refl
   where
     positive : (n : ℕ) → (n ≡ 0 → ⊥) → 0 < n
     positive zero h = absurd (h refl)
     positive (suc n) h = omega arith
-places-wholes len (int z ∷ rs) some = rw (places-wholes len rs some) (joined (is_place len (int z)) (list_any (λ z. not (is_place len (int z))) (map whole_or_zero rs)))
+places-wholes p n len (int z ∷ rs) some h = rw (places-wholes p n len rs some (and_parts (lies_in p z) (list_all (fits (types.primitive p n)) rs) h).1) (joined (is_place len (int z)) (list_any (λ z. not (is_place len (int z))) (map whole_or_zero rs)))
   where
     joined : (b c : Bool) → (b && not c) ≡ not (not b || c)
     joined true c = refl
     joined false c = refl
+places-wholes p n len (v ∷ rs) some h = absurd cc

@@ -25,7 +25,7 @@ module _ (f : ℤ → ℤ) where
 
   pub is_null-each_int : (v : PlainValue) → is_null (each_int f v) ≡ is_null v
   is_null-each_int null = refl
-  is_null-each_int (int z) = refl
+  is_null-each_int v = refl
 
   pub any_null-each_int : (rs : List PlainValue) → list_any is_null (map (each_int f) rs) ≡ list_any is_null rs
   any_null-each_int [] = refl
@@ -43,12 +43,12 @@ module _ (f : ℤ → ℤ) where
   wholes_bits : (rs : List PlainValue) → map whole_or_zero (map (each_int f) rs) ≡ zeroed (pos 0) (valid_bits rs) (map f (map whole_or_zero rs))
   wholes_bits [] = refl
   wholes_bits (null ∷ rs) = ap (λ xs. pos 0 ∷ xs) (wholes_bits rs)
-  wholes_bits (int z ∷ rs) = ap (λ xs. f z ∷ xs) (wholes_bits rs)
+  wholes_bits (v ∷ rs) = ap (λ xs. f (whole_or_zero v) ∷ xs) (wholes_bits rs)
 
   wholes_all : (rs : List PlainValue) → list_any is_null rs ≡ false → map whole_or_zero (map (each_int f) rs) ≡ map f (map whole_or_zero rs)
   wholes_all [] e = refl
   wholes_all (null ∷ rs) e = absurd cc
-  wholes_all (int z ∷ rs) e = ap (λ xs. f z ∷ xs) (wholes_all rs e)
+  wholes_all (v ∷ rs) e = ap (λ xs. f (whole_or_zero v) ∷ xs) (wholes_all rs e)
 
   pub wholes-each_int : (rs : List PlainValue) → map whole_or_zero (map (each_int f) rs) ≡ zeroed_by (pos 0) (validity rs) (map f (map whole_or_zero rs))
   wholes-each_int rs =
@@ -59,7 +59,7 @@ module _ (f : ℤ → ℤ) where
   pub wholes-each_int-zero : f (pos 0) ≡ pos 0 → (rs : List PlainValue) → map whole_or_zero (map (each_int f) rs) ≡ map f (map whole_or_zero rs)
   wholes-each_int-zero keeps [] = refl
   wholes-each_int-zero keeps (null ∷ rs) = let start = sym keeps in λ i. start i ∷ wholes-each_int-zero keeps rs i
-  wholes-each_int-zero keeps (int z ∷ rs) = ap (λ xs. f z ∷ xs) (wholes-each_int-zero keeps rs)
+  wholes-each_int-zero keeps (v ∷ rs) = ap (λ xs. f (whole_or_zero v) ∷ xs) (wholes-each_int-zero keeps rs)
 
   -- ---- types
 
@@ -68,6 +68,7 @@ module _ (f : ℤ → ℤ) where
   all_fit-each_int p q n keeps [] h = refl
   all_fit-each_int p q n keeps (null ∷ rs) h = let b = and_parts (types.allows_null n) (list_all (fits (types.primitive p n)) rs) h in and_from _ _ b.0 (all_fit-each_int p q n keeps rs b.1)
   all_fit-each_int p q n keeps (int z ∷ rs) h = let b = and_parts (lies_in p z) (list_all (fits (types.primitive p n)) rs) h in and_from _ _ (keeps z b.0) (all_fit-each_int p q n keeps rs b.1)
+  all_fit-each_int p q n keeps (v ∷ rs) h = absurd cc
 
   -- what another function turns back comes back
   pub each_int-back : (g : ℤ → ℤ) (p : PType) (n : Nullability) → ((z : ℤ) → lies_in p z ≡ true → g (f z) ≡ z) → (rs : List PlainValue) → list_all (fits (types.primitive p n)) rs ≡ true
@@ -79,3 +80,4 @@ module _ (f : ℤ → ℤ) where
       let here = back z b.0 in
       let rest = each_int-back g p n back rs b.1 in
       λ i. int (here i) ∷ rest i
+  each_int-back g p n back (v ∷ rs) h = absurd cc

@@ -8,10 +8,10 @@ use Rattle.vx_base.specs.declared.dtype.Nullability.{Nullability}
 use Rattle.vx_base.specs.declared.dtype.Nullability.TheVariants.{Nullable, NonNullable}
 use Rattle.vx_base.specs.Integers.{lies_in}
 use Rattle.vx_base.specs.PlainScalar.{PlainScalar, fits}
-use Rattle.vx_base.specs.PlainType.{PlainType, is_leaf, is_nullable}
+use Rattle.vx_base.specs.PlainType.{PlainType, is_flat, is_nullable}
 use Rattle.vx_base.specs.PlainType as types
 use Rattle.vx_base.specs.PlainValue.{PlainValue, null, int, is_null}
-use Rattle.vx_model.specs.Tree.{Tree, Validity, primitive, constant, masked, bit_packed, bit_packed_with, frame_of_reference, zig_zag, dict}
+use Rattle.vx_model.specs.Tree.{Tree, Validity, bool, primitive, var_bin_view, var_bin, timestamp, constant, masked, bit_packed, bit_packed_with, frame_of_reference, zig_zag, dict}
 use Rattle.vx_model.specs.Refusals.{validity_length, validity_allowed, kept}
 use Rattle.vx_model.specs.Rows.{rows, masked_rows, valid_rows}
 use Rattle.vx_model.specs.TreeType.{tree_type}
@@ -45,14 +45,14 @@ masked_fit t (b ∷ bits) (r ∷ rs) n h = both b (fits t r) refl h (masked_fit 
     both false true e h rest = rw n (rest h)
     both b false e h rest = absurd cc
 
-pub valid_fit : (valid : Validity) (p : PType) (n : Nullability) (len : ℕ) (rs : List PlainValue) → IsValidityOf valid len n → list_all (fits (types.primitive p n)) rs ≡ true → list_all (fits (types.primitive p n)) (valid_rows valid rs) ≡ true
-valid_fit None p n len rs v h = h
-valid_fit (Some bits) p n len rs v h = masked_fit (types.primitive p n) bits rs (ap types.allows_null v.1) h
+pub valid_fit : (valid : Validity) (t : PlainType) (len : ℕ) (rs : List PlainValue) → IsValidityOf valid len (types.nullability_of t) → list_all (fits t) rs ≡ true → list_all (fits t) (valid_rows valid rs) ≡ true
+valid_fit None t len rs v h = h
+valid_fit (Some bits) t len rs v h = masked_fit t bits rs (ap types.allows_null v.1) h
 
 pub primitive_made : (p : PType) (xs : List ℤ) (valid : Validity) (n : Nullability) → validity_length valid (length xs) ≡ true → validity_allowed valid n ≡ true → list_all (lies_in p) xs ≡ true → WellFormed (primitive p xs (kept valid) n)
 primitive_made p xs valid n l a h =
     let v : IsValidityOf (kept valid) (length xs) n = kept_validity valid (length xs) n l a in
-    (record { held = h; validity = v }, valid_fit (kept valid) p n (length xs) (map int xs) v (ints_fit p n xs h))
+    (record { held = h; validity = v }, valid_fit (kept valid) (types.primitive p n) (length xs) (map int xs) v (ints_fit p n xs h))
 
 copies_fit : (t : PlainType) (v : PlainValue) (len : ℕ) → fits t v ≡ true → list_all (fits t) (replicate len v) ≡ true
 copies_fit t v zero h = refl
@@ -63,6 +63,10 @@ constant_made s len h = (h, copies_fit s.dtype s.value len h)
 
 pub rows_fit : (t : Tree) → WellFormed t → RowsFit t
 rows_fit (primitive p xs valid n) h = h.1
+rows_fit (bool bs valid n) h = h.1
+rows_fit (var_bin_view vs valid t) h = h.1
+rows_fit (var_bin offsets bs valid t) h = h.2
+rows_fit (timestamp storage k) h = h.2
 rows_fit (constant s len) h = h.1
 rows_fit (masked child valid) h = h.2
 rows_fit (bit_packed k) h = h.1
@@ -71,9 +75,9 @@ rows_fit (frame_of_reference encoded reference) h = h.2
 rows_fit (zig_zag encoded) h = h.2
 rows_fit (dict codes values) h = h.3
 
-pub masked_made : (child : Tree) (valid : List Bool) → is_leaf (tree_type child) ≡ true → is_nullable (tree_type child) ≡ true → length valid ≡ length (rows child) → list_any is_null (rows child) ≡ false → WellFormed child → WellFormed (masked child valid)
-masked_made child valid leaf nullable lengths no_null h =
-    (h, record { leaf = leaf; nullable = nullable; lengths = lengths; no_null = no_null }, masked_fit (tree_type child) valid (rows child) nullable (rows_fit child h))
+pub masked_made : (child : Tree) (valid : List Bool) → is_flat (tree_type child) ≡ true → is_nullable (tree_type child) ≡ true → length valid ≡ length (rows child) → list_any is_null (rows child) ≡ false → WellFormed child → WellFormed (masked child valid)
+masked_made child valid flat nullable lengths no_null h =
+    (h, record { flat = flat; nullable = nullable; lengths = lengths; no_null = no_null }, masked_fit (tree_type child) valid (rows child) nullable (rows_fit child h))
 
 pub has_length : (valid : Validity) (len : ℕ) (n : Nullability) → IsValidityOf valid len n → validity_length valid len ≡ true
 has_length None len n h = refl

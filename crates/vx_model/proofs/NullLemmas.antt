@@ -1,8 +1,7 @@
 -- Which rows are null, node by node, and when a tree is plain.
-use Rattle.std.proofs.Common.{◌≡◌, ◌↔◌, ◌<◌, ℕ, zero, suc, ℤ, pos, List, [], ◌∷◌, map, refl, sym, ap, ◌∙◌, arith, Bool, true, false, cond, Some, None}
-use Rattle.std.specs.Prelude.{◌||◌, not, is_some, replicate}
+use Rattle.std.proofs.Common.{◌≡◌, ◌↔◌, ◌<◌, ℕ, zero, suc, ℤ, pos, List, map, refl, sym, ap, ◌∙◌, arith, Bool, true, false}
+use Rattle.std.specs.Prelude.{not, is_some, replicate}
 use Rattle.std.specs.List.{list_all, list_any}
-use Rattle.std.proofs.lemmas.Bool.{and_parts}
 use Rattle.std.proofs.lemmas.List.{length-map}
 use Rattle.std.proofs.lemmas.Int.{ints}
 use Rattle.vx_base.specs.declared.ptype.PType.{PType}
@@ -11,12 +10,13 @@ use Rattle.vx_base.specs.PlainScalar.{PlainScalar}
 use Rattle.vx_base.specs.PlainType.{PlainType}
 use Rattle.vx_base.specs.PlainType as types
 use Rattle.vx_base.specs.PlainValue.{PlainValue, int, is_null}
-use Rattle.vx_model.specs.Tree.{Tree, Validity, PlainPacked, primitive, constant, masked, bit_packed, bit_packed_with, frame_of_reference, zig_zag, dict}
-use Rattle.vx_model.specs.Decoded.{zeroed, zeroed_by, zero_beneath, zero_beneath_by, is_zero}
+use Rattle.vx_model.specs.Tree.{Tree, Validity, PlainPacked, bool, primitive, var_bin_view, var_bin, timestamp, constant, masked, bit_packed, bit_packed_with, frame_of_reference, zig_zag, dict}
+use Rattle.vx_model.specs.Decoded.{zeroed_by, zero_beneath_by, is_zero}
 use Rattle.vx_model.specs.Plain.{IsPlain, plain_of}
 use Rattle.vx_model.specs.Rows.{rows}
 use Rattle.vx_model.specs.TreeType.{tree_type}
 use Rattle.vx_model.specs.WellFormed.{WellFormed}
+use Rattle.vx_model.proofs.FlatLemmas.{same_beneath}
 use Rattle.vx_model.proofs.DecodeLemmas.{any_masked, any_null-valid_rows, no_null-map-int, wholes-valid_rows, validity-cells}
 
 pub any_null-primitive : (p : PType) (xs : List ℤ) (valid : Validity) (n : Nullability) → WellFormed (primitive p xs valid n) → list_any is_null (rows (primitive p xs valid n)) ≡ is_some valid
@@ -37,86 +37,61 @@ pub ruleset nulls = (any_null-replicate, any_null-nulls, any_null-masked)
 
 -- ---- plain trees
 
-zero_if : (b : Bool) (x : ℤ) → (b || is_zero x) ≡ true → cond b x (pos 0) ≡ x
-zero_if true x e = refl
-zero_if false x e = let s : x ≡ pos 0 = grind (arith, ints) in sym s
-
-if_zero : (b : Bool) (x : ℤ) → cond b x (pos 0) ≡ x → (b || is_zero x) ≡ true
-if_zero true x e = refl
-if_zero false x e = rw (← e) refl
-
-zeroed_same : (bits : List Bool) (xs : List ℤ) → zero_beneath is_zero bits xs ≡ true → zeroed (pos 0) bits xs ≡ xs
-zeroed_same [] xs e = refl
-zeroed_same (b ∷ bits) [] e = refl
-zeroed_same (b ∷ bits) (x ∷ xs) e = let s = and_parts (b || is_zero x) (zero_beneath is_zero bits xs) e in λ i. zero_if b x s.0 i ∷ zeroed_same bits xs s.1 i
-
-same_zeroed : (bits : List Bool) (xs : List ℤ) → zeroed (pos 0) bits xs ≡ xs → zero_beneath is_zero bits xs ≡ true
-same_zeroed [] xs e = refl
-same_zeroed (b ∷ bits) [] e = refl
-same_zeroed (b ∷ bits) (x ∷ xs) e =
-    let h : cond b x (pos 0) ≡ x = cc in
-    let t : zeroed (pos 0) bits xs ≡ xs = cc in
-    rw (if_zero b x h, same_zeroed bits xs t) refl
+is_zero-found : (x : ℤ) → is_zero x ≡ true → x ≡ pos 0
+is_zero-found x e = grind (arith, ints)
 
 plain_by : (p : PType) (xs : List ℤ) (valid : Validity) (n : Nullability) → WellFormed (primitive p xs valid n) → plain_of (types.primitive p n) (rows (primitive p xs valid n)) ≡ primitive p (zeroed_by (pos 0) valid xs) valid n
 plain_by p xs valid n h = λ i. primitive p (wholes-valid_rows valid xs n h.0.validity i) (validity-cells valid xs n h.0.validity i) n
 
-plain-none : (p : PType) (xs : List ℤ) (n : Nullability) → WellFormed (primitive p xs None n) → IsPlain (primitive p xs None n)
-plain-none p xs n h = sym (plain_by p xs None n h)
-
-plain-bits : (p : PType) (xs : List ℤ) (bits : List Bool) (n : Nullability) → WellFormed (primitive p xs (Some bits) n) → (zero_beneath is_zero bits xs ≡ true) ↔ IsPlain (primitive p xs (Some bits) n)
-plain-bits p xs bits n h =
-    let e = plain_by p xs (Some bits) n h in (
-      λ z. ap (λ ys. primitive p ys (Some bits) n) (sym (zeroed_same bits xs z)) ∙ sym e,
-      λ q. same_zeroed bits xs (let s : primitive p (zeroed (pos 0) bits xs) (Some bits) n ≡ primitive p xs (Some bits) n = sym (q ∙ e) in cc),
+pub plain-primitive : (p : PType) (xs : List ℤ) (valid : Validity) (n : Nullability) → WellFormed (primitive p xs valid n) → (zero_beneath_by is_zero valid xs ≡ true) ↔ IsPlain (primitive p xs valid n)
+plain-primitive p xs valid n h =
+    let e = plain_by p xs valid n h in
+    let same = same_beneath (pos 0) is_zero is_zero-found refl valid xs in (
+      λ z. ap (λ ys. primitive p ys valid n) (sym (same.0 z)) ∙ sym e,
+      λ q. same.1 (let s : primitive p (zeroed_by (pos 0) valid xs) valid n ≡ primitive p xs valid n = sym (q ∙ e) in cc),
     )
 
-pub plain-primitive : (p : PType) (xs : List ℤ) (valid : Validity) (n : Nullability) → WellFormed (primitive p xs valid n) → (zero_beneath_by is_zero valid xs ≡ true) ↔ IsPlain (primitive p xs valid n)
-plain-primitive p xs None n h = (λ e. plain-none p xs n h, λ e. refl)
-plain-primitive p xs (Some bits) n h = plain-bits p xs bits n h
+-- ---- no plain tree has another root
 
-not_constant : (s : PlainScalar) (len : ℕ) (t : PlainType) (vs : List PlainValue) → constant s len ≡ plain_of t vs → ⊥
-not_constant s len (types.primitive p n) vs e = cc
+abbrev is_plain_root : Tree → Bool
+is_plain_root (bool bs valid n) = true
+is_plain_root (primitive p xs valid n) = true
+is_plain_root (var_bin_view vs valid t) = true
+is_plain_root (timestamp storage k) = true
+is_plain_root _ = false
 
-not_masked : (child : Tree) (valid : List Bool) (t : PlainType) (vs : List PlainValue) → masked child valid ≡ plain_of t vs → ⊥
-not_masked child valid (types.primitive p n) vs e = cc
+plain-root : (t : PlainType) (vs : List PlainValue) → is_plain_root (plain_of t vs) ≡ true
+plain-root (types.boolean n) vs = refl
+plain-root (types.primitive p n) vs = refl
+plain-root (types.utf8 n) vs = refl
+plain-root (types.binary n) vs = refl
+plain-root (types.timestamp k n) vs = refl
 
-not_bit_packed : (k : PlainPacked) (t : PlainType) (vs : List PlainValue) → bit_packed k ≡ plain_of t vs → ⊥
-not_bit_packed k (types.primitive p n) vs e = cc
-
-not_bit_packed_with : (k : PlainPacked) (len offset : ℕ) (indices values : Tree) (t : PlainType) (vs : List PlainValue) → bit_packed_with k len offset indices values ≡ plain_of t vs → ⊥
-not_bit_packed_with k len offset indices values (types.primitive p n) vs e = cc
-
-not_frame_of_reference : (encoded : Tree) (reference : PlainScalar) (t : PlainType) (vs : List PlainValue) → frame_of_reference encoded reference ≡ plain_of t vs → ⊥
-not_frame_of_reference encoded reference (types.primitive p n) vs e = cc
-
-not_zig_zag : (encoded : Tree) (t : PlainType) (vs : List PlainValue) → zig_zag encoded ≡ plain_of t vs → ⊥
-not_zig_zag encoded (types.primitive p n) vs e = cc
-
-not_dict : (codes values : Tree) (t : PlainType) (vs : List PlainValue) → dict codes values ≡ plain_of t vs → ⊥
-not_dict codes values (types.primitive p n) vs e = cc
+root_of : (t : Tree) → IsPlain t → is_plain_root t ≡ true
+root_of t h = ap is_plain_root h ∙ plain-root (tree_type t) (rows t)
 
 pub plain-constant : (s : PlainScalar) (len : ℕ) → IsPlain (constant s len) → ⊥
-plain-constant s len = not_constant s len s.dtype (replicate len s.value)
+plain-constant s len h = let e = root_of (constant s len) h in cc
 
 pub plain-masked : (child : Tree) (valid : List Bool) → IsPlain (masked child valid) → ⊥
-plain-masked child valid = not_masked child valid _ _
+plain-masked child valid h = let e = root_of (masked child valid) h in cc
 
 pub plain-bit_packed : (k : PlainPacked) → IsPlain (bit_packed k) → ⊥
-plain-bit_packed k = not_bit_packed k (tree_type (bit_packed k)) (rows (bit_packed k))
+plain-bit_packed k h = let e = root_of (bit_packed k) h in cc
 
 pub plain-bit_packed_with : (k : PlainPacked) (len offset : ℕ) (indices values : Tree) → IsPlain (bit_packed_with k len offset indices values) → ⊥
-plain-bit_packed_with k len offset indices values =
-    let t = bit_packed_with k len offset indices values in not_bit_packed_with k len offset indices values (tree_type t) (rows t)
+plain-bit_packed_with k len offset indices values h = let e = root_of (bit_packed_with k len offset indices values) h in cc
 
 pub plain-frame_of_reference : (encoded : Tree) (reference : PlainScalar) → IsPlain (frame_of_reference encoded reference) → ⊥
-plain-frame_of_reference encoded reference =
-    let t = frame_of_reference encoded reference in not_frame_of_reference encoded reference (tree_type t) (rows t)
+plain-frame_of_reference encoded reference h = let e = root_of (frame_of_reference encoded reference) h in cc
 
 pub plain-zig_zag : (encoded : Tree) → IsPlain (zig_zag encoded) → ⊥
-plain-zig_zag encoded = let t = zig_zag encoded in not_zig_zag encoded (tree_type t) (rows t)
+plain-zig_zag encoded h = let e = root_of (zig_zag encoded) h in cc
 
 pub plain-dict : (codes values : Tree) → IsPlain (dict codes values) → ⊥
-plain-dict codes values = let t = dict codes values in not_dict codes values (tree_type t) (rows t)
+plain-dict codes values h = let e = root_of (dict codes values) h in cc
 
-pub ruleset plains = (plain-constant, plain-masked, plain-bit_packed, plain-bit_packed_with, plain-frame_of_reference, plain-zig_zag, plain-dict)
+pub plain-var_bin : (offsets : Tree) (bs : List ℕ) (valid : Validity) (t : PlainType) → IsPlain (var_bin offsets bs valid t) → ⊥
+plain-var_bin offsets bs valid t h = let e = root_of (var_bin offsets bs valid t) h in cc
+
+pub ruleset plains = (plain-constant, plain-masked, plain-bit_packed, plain-bit_packed_with, plain-frame_of_reference, plain-zig_zag, plain-dict, plain-var_bin)

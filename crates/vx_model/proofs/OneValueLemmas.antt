@@ -5,7 +5,7 @@ use Rattle.std.specs.List.{list_all, list_any}
 use Rattle.std.proofs.lemmas.Bool.{cond_both, and_parts}
 use Rattle.std.proofs.lemmas.List.{take_all}
 use Rattle.vx_base.specs.Storable.{same_path}
-use Rattle.vx_base.specs.PlainValue.{PlainValue, null, int, is_null, stored_value}
+use Rattle.vx_base.specs.PlainValue.{PlainValue, null, int, is_null, same_value, stored_value}
 use Rattle.vx_model.specs.Rows.{rows, masked_rows, row_at}
 use Rattle.vx_model.specs.TreeType.{tree_type}
 use Rattle.vx_model.specs.Column.{Column}
@@ -15,40 +15,40 @@ use Rattle.vx_model.specs.Leaf.{first_valid, each_null_or, one_value, one_value_
 pub first_valid-none : (vs : List PlainValue) → first_valid vs ≡ None → list_all is_null vs ≡ true
 first_valid-none [] e = refl
 first_valid-none (null ∷ vs) e = first_valid-none vs e
-first_valid-none (int z ∷ vs) e = absurd cc
+first_valid-none (v ∷ vs) e = absurd cc
 
 pub first_valid-some : (vs : List PlainValue) (v : PlainValue) → first_valid vs ≡ Some v → list_all is_null vs ≡ false
 first_valid-some [] v e = absurd cc
 first_valid-some (null ∷ vs) v e = first_valid-some vs v e
-first_valid-some (int z ∷ vs) v e = refl
+first_valid-some (w ∷ vs) v e = refl
 
 pub first_valid-valid : (vs : List PlainValue) (v : PlainValue) → first_valid vs ≡ Some v → is_null v ≡ false
 first_valid-valid [] v e = absurd cc
 first_valid-valid (null ∷ vs) v e = first_valid-valid vs v e
-first_valid-valid (int z ∷ vs) v e = let same : int z ≡ v = cc in ap is_null (sym same)
+first_valid-valid (w ∷ vs) v e = let same : w ≡ v = cc in ap is_null (sym same)
 
 -- nulls alone are one null, again and again
 pub replicate-nulls : (vs : List PlainValue) → list_all is_null vs ≡ true → replicate (length vs) null ≡ vs
 replicate-nulls [] e = refl
 replicate-nulls (null ∷ vs) e = ap (λ r. null ∷ r) (replicate-nulls vs e)
-replicate-nulls (int z ∷ vs) e = absurd cc
+replicate-nulls (v ∷ vs) e = absurd cc
 
 -- so is a value that each row has
 pub replicate-one : (vs : List PlainValue) (v : PlainValue) → each_null_or v vs ≡ true → list_any is_null vs ≡ false → replicate (length vs) v ≡ vs
 replicate-one [] v e none = refl
 replicate-one (null ∷ vs) v e none = absurd cc
-replicate-one (int z ∷ vs) v e none =
-    let both = and_parts _ _ e in
-    let same : int z ≡ v = same_path stored_value (int z) v both.0 in
+replicate-one (w ∷ vs) v e none =
+    let both = and_parts (same_value w v) (each_null_or v vs) e in
+    let same : w ≡ v = same_path stored_value w v both.0 in
     λ i. sym same i ∷ replicate-one vs v both.1 none i
 
 -- where rows are null, the validity bits mask it
 pub masked_rows-one : (vs : List PlainValue) (v : PlainValue) → each_null_or v vs ≡ true → masked_rows (valid_bits vs) (replicate (length vs) v) ≡ vs
 masked_rows-one [] v e = refl
 masked_rows-one (null ∷ vs) v e = ap (λ r. null ∷ r) (masked_rows-one vs v e)
-masked_rows-one (int z ∷ vs) v e =
-    let both = and_parts _ _ e in
-    let same : int z ≡ v = same_path stored_value (int z) v both.0 in
+masked_rows-one (w ∷ vs) v e =
+    let both = and_parts (same_value w v) (each_null_or v vs) e in
+    let same : w ≡ v = same_path stored_value w v both.0 in
     λ i. sym same i ∷ masked_rows-one vs v both.1 i
 
 pub one_value-some : (vs : List PlainValue) (v : PlainValue) → one_value vs ≡ Some v → each_null_or v vs ≡ true
@@ -74,8 +74,8 @@ first_valid-at : (vs : List PlainValue) (i : ℕ) → i < length vs → list_all
 first_valid-at [] i h e f = absurd (omega arith)
 first_valid-at (null ∷ vs) zero h e f = absurd cc
 first_valid-at (null ∷ vs) (suc i) h e f = first_valid-at vs i (omega arith) e f
-first_valid-at (int z ∷ vs) zero h e f = refl
-first_valid-at (int z ∷ vs) (suc i) h e f = absurd cc
+first_valid-at (v ∷ vs) zero h e f = refl
+first_valid-at (v ∷ vs) (suc i) h e f = absurd cc
 
 pub first_valid-found : (vs : List PlainValue) (i : ℕ) (z : ℤ) → i < length vs → list_all is_null (take i vs) ≡ true → int z ≡ row_at vs i → Some (int z) ≡ first_valid vs
 first_valid-found vs i z h e f = rw f (sym (first_valid-at vs i h e (ap is_null (sym f))))
@@ -86,7 +86,7 @@ first_valid-nulls vs i h e = all vs (rw (take_all i vs h) at e)
     all : (vs : List PlainValue) → list_all is_null vs ≡ true → None ≡ first_valid vs
     all [] e = refl
     all (null ∷ vs) e = all vs e
-    all (int z ∷ vs) e = absurd cc
+    all (v ∷ vs) e = absurd cc
 
 module _ (p : PlainValue → Bool) where
   list_all-next-suc : (vs : List PlainValue) (i : ℕ) → i < length vs → list_all p (take i vs) ≡ true → p (row_at vs i) ≡ true → list_all p (take (suc i) vs) ≡ true

@@ -100,11 +100,12 @@ module _ (p : PlainValue → Bool) where
 -- values without nulls fit the nullable type too
 wider_fits : (p : PType) (n : Nullability) (rs : List PlainValue) → list_all (fits (types.primitive p NonNullable)) rs ≡ true → list_all (fits (types.primitive p n)) rs ≡ true
 wider_fits p n [] h = refl
-wider_fits p n (null ∷ rs) h = absurd cc
 wider_fits p n (int z ∷ rs) h = let b = and_parts _ _ h in and_from _ _ b.0 (wider_fits p n rs b.1)
+wider_fits p n (v ∷ rs) h = absurd cc
 
-all_moved_fit : (t : PlainType) (reference : PlainScalar) (rs : List PlainValue) → list_all (fits t) rs ≡ true → list_all (fits (types.primitive (integer_of reference.dtype) (nullability_of t))) (map (moved reference) rs) ≡ true
-all_moved_fit (types.primitive p n) reference rs h = all_fit-each_int (summed reference) p (integer_of reference.dtype) n (λ z l. wrap-held (integer_of reference.dtype) _) rs h
+all_moved_fit : (t : PlainType) (reference : PlainScalar) (rs : List PlainValue) → is_integer t ≡ true → list_all (fits t) rs ≡ true → list_all (fits (types.primitive (integer_of reference.dtype) (nullability_of t))) (map (moved reference) rs) ≡ true
+all_moved_fit (types.primitive p n) reference rs e h = all_fit-each_int (summed reference) p (integer_of reference.dtype) n (λ z l. wrap-held (integer_of reference.dtype) _) rs h
+all_moved_fit t reference rs e h = absurd cc
 
 -- ---- a constructor's tree is well formed, from its tests
 
@@ -119,7 +120,7 @@ module _ (k : PlainPacked) (held : list_all (λ byte. nat_lt byte 256) k.bytes �
 
   pub packed_made : WellFormed (bit_packed (kept_packed k))
   packed_made =
-      (is_packed, valid_fit (kept k.valid) k.ptype k.nullability k.len (below (packed_at k) k.len) is_packed.validity (each_below (fits (types.primitive k.ptype k.nullability)) (packed_at k) 0 k.len (λ i. packed_fits k k.nullability i narrow)))
+      (is_packed, valid_fit (kept k.valid) (types.primitive k.ptype k.nullability) k.len (below (packed_at k) k.len) is_packed.validity (each_below (fits (types.primitive k.ptype k.nullability)) (packed_at k) 0 k.len (λ i. packed_fits k k.nullability i narrow)))
 
   pub packed_with_made : (p : PlainPatches) → p.array_len ≡ k.len → tree_type p.values ≡ types.primitive k.ptype NonNullable → WellFormedPatches p → WellFormed (packed_of (kept_packed k) (Some p))
   packed_with_made p lengths values_type w =
@@ -132,13 +133,13 @@ module _ (k : PlainPacked) (held : list_all (λ byte. nat_lt byte 256) k.bytes �
         w.2,
         is_packed,
         record { lengths = lengths; values_type = values_type },
-        valid_fit (kept k.valid) k.ptype k.nullability k.len (below (row_of k p.array_len p.offset p.indices p.values) k.len) is_packed.validity each,
+        valid_fit (kept k.valid) (types.primitive k.ptype k.nullability) k.len (below (row_of k p.array_len p.offset p.indices p.values) k.len) is_packed.validity each,
       )
 
 pub for_made : (encoded : Tree) (reference : PlainScalar) → is_integer reference.dtype ≡ true → is_null reference.value ≡ false → fits reference.dtype reference.value ≡ true
     → tree_type encoded ≡ differences_type reference.dtype (tree_type encoded) → WellFormed encoded → WellFormed (frame_of_reference encoded reference)
 for_made encoded reference integer not_null fitting encoded_type w =
-    (w, record { reference_type = integer; not_null = not_null; fitting = fitting; encoded_type = encoded_type }, all_moved_fit (tree_type encoded) reference (rows encoded) (rows_fit encoded w))
+    (w, record { reference_type = integer; not_null = not_null; fitting = fitting; encoded_type = encoded_type }, all_moved_fit (tree_type encoded) reference (rows encoded) (ap is_integer encoded_type) (rows_fit encoded w))
 
 -- ---- the same, where nothing is refused
 

@@ -1,5 +1,5 @@
 -- Patches: the test that their indices ascend, and the search for the patch of a row.
-use Rattle.std.proofs.Common.{◌≡◌, ◌<◌, ◌≤◌, ◌+◌, ◌&&◌, ℕ, zero, suc, pos, negsuc, List, [], ◌∷◌, length, drop, drop-cons, refl, arith, add-one, below_more, ⊎_elim, Bool, inl, inr, sym, ◌∙◌, true, false, Some, None}
+use Rattle.std.proofs.Common.{◌≡◌, ◌<◌, ◌≤◌, ◌+◌, ◌&&◌, ℕ, zero, suc, pos, List, [], ◌∷◌, length, drop, drop-cons, refl, arith, add-one, below_more, ⊎_elim, Bool, inl, inr, sym, ◌∙◌, true, false, Some, None}
 use Rattle.std.specs.Prelude.{nat_lt, nat_le}
 use Rattle.std.specs.List.{list_all, position_or_len}
 use Rattle.std.proofs.lemmas.Bool.{cond-true, cond-false, ltb-true, lt-ltb, le-ltb, le-leb, leb-true, and_from, eq-eqb, ne_eqb, cases_lt}
@@ -22,8 +22,6 @@ never false = refl
 -- what rises behind a number lies above it, wherever else it lies
 above : (low n high : ℕ) (is : List PlainValue) → low ≤ n → (list_all (lies_between low high) is && rises (int (pos n) ∷ is)) ≡ (list_all (lies_between (n + 1) high) is && rises is)
 above low n high [] h = refl
-above low n high (null ∷ is) h = refl
-above low n high (int (negsuc m) ∷ is) h = refl
 above low n high (int (pos m) ∷ is) h =
     elim (cases_lt n m) [
       | inl less ↦
@@ -33,6 +31,7 @@ above low n high (int (pos m) ∷ is) h =
           let not_above : nat_le (n + 1) m ≡ false = grind (arith, nat_tests) in
           rw (le-ltb n m more, not_above) (never (nat_le low m && nat_lt m high && list_all (lies_between low high) is))
     ]
+above low n high (v ∷ is) h = refl
 
 by_test : (a l x r y : Bool) → (a ≡ true → (x && r) ≡ y) → (a && l && x && r) ≡ (a && l && y)
 by_test true true x r y e = e refl
@@ -45,13 +44,11 @@ ascend-cons low high n is = by_test (nat_le low n) (nat_lt n high) _ _ _ (λ t. 
 
 ascend_head : (low high : ℕ) (v : PlainValue) (vs : List PlainValue) (n : ℕ) → index_of v ≡ Some n → ascend low high (v ∷ vs) ≡ (nat_le low n && nat_lt n high && ascend (n + 1) high vs)
 ascend_head low high (int (pos m)) vs n e = let same : m ≡ n = cc in ascend-cons low high m vs ∙ (λ i. nat_le low (same i) && nat_lt (same i) high && ascend (same i + 1) high vs)
-ascend_head low high (int (negsuc m)) vs n e = absurd cc
-ascend_head low high null vs n e = absurd cc
+ascend_head low high v vs n e = absurd cc
 
 ascend_none : (low high : ℕ) (v : PlainValue) (vs : List PlainValue) → index_of v ≡ None → ascend low high (v ∷ vs) ≡ false
 ascend_none low high (int (pos m)) vs e = absurd cc
-ascend_none low high (int (negsuc m)) vs e = refl
-ascend_none low high null vs e = refl
+ascend_none low high v vs e = refl
 
 pub ascend-next : (low high : ℕ) (is : List PlainValue) (i n : ℕ) → i < length is → index_of (row_at is i) ≡ Some n → ascend low high (drop i is) ≡ (nat_le low n && nat_lt n high && ascend (n + 1) high (drop (i + 1) is))
 ascend-next low high is i n h e = rw (drop-cons is i null h) (rw (add-one i) (ascend_head low high (row_at is i) (drop (suc i) is) n e))
@@ -84,20 +81,18 @@ ascend_from low high n is a b c = ascend-cons low high n is ∙ and_from _ _ (an
 -- each is a whole number from low on, below high
 pub ascend-within : (low high : ℕ) (is : List PlainValue) (i n : ℕ) → ascend low high is ≡ true → i < length is → index_of (row_at is i) ≡ Some n → (low ≤ n) × (n < high)
 ascend-within low high [] i n e h f = absurd (omega arith)
-ascend-within low high (null ∷ is) i n e h f = absurd cc
-ascend-within low high (int (negsuc m) ∷ is) i n e h f = absurd cc
 ascend-within low high (int (pos m) ∷ is) zero n e h f = let p = ascend_parts low high m is e in let same : m ≡ n = cc in (omega arith, omega arith)
 ascend-within low high (int (pos m) ∷ is) (suc i) n e h f =
     let p = ascend_parts low high m is e in
     let q = ascend-within (m + 1) high is i n p.2 (omega arith) f in
     (omega arith, q.1)
+ascend-within low high (v ∷ is) i n e h f = absurd cc
 
 pub ascend-index : (low high : ℕ) (is : List PlainValue) (i : ℕ) → ascend low high is ≡ true → i < length is → index_of (row_at is i) ≡ None → ⊥
 ascend-index low high [] i e h f = absurd (omega arith)
-ascend-index low high (null ∷ is) i e h f = cc
-ascend-index low high (int (negsuc m) ∷ is) i e h f = cc
 ascend-index low high (int (pos m) ∷ is) zero e h f = cc
 ascend-index low high (int (pos m) ∷ is) (suc i) e h f = ascend-index (m + 1) high is i (ascend_parts low high m is e).2 (omega arith) f
+ascend-index low high (v ∷ is) i e h f = cc
 
 -- no place below i has the index n
 abbrev pub NoneBelow : List PlainValue → ℕ → ℕ → Type 0
@@ -118,18 +113,16 @@ none_from-end (v ∷ is) n zero h (suc j) l = absurd (omega arith)
 none_from-end (v ∷ is) n (suc i) h (suc j) l = none_from-end is n i (omega arith) j (omega arith)
 
 pub not_index-of : (v : PlainValue) (n k : ℕ) → index_of v ≡ Some k → (k ≡ n → ⊥) → is_index v n ≡ false
-not_index-of null n k e h = refl
-not_index-of (int (negsuc m)) n k e h = refl
 not_index-of (int (pos m)) n k e h = let same : m ≡ k = cc in ne_eqb m n (λ r. h (omega arith))
+not_index-of v n k e h = refl
 
 pub earlier : (low high : ℕ) (is : List PlainValue) (n i k : ℕ) → ascend low high is ≡ true → i < length is → index_of (row_at is i) ≡ Some k → k ≤ n → NoneBelow is n i
 earlier low high [] n i k e h f l j m = absurd (omega arith)
-earlier low high (null ∷ is) n i k e h f l j m = absurd cc
-earlier low high (int (negsuc x) ∷ is) n i k e h f l j m = absurd cc
 earlier low high (int (pos x) ∷ is) n zero k e h f l j m = absurd (omega arith)
 earlier low high (int (pos x) ∷ is) n (suc i) k e h f l zero m =
     let q = ascend-within (x + 1) high is i k (ascend_parts low high x is e).2 (omega arith) f in ne_eqb x n (λ r. omega arith)
 earlier low high (int (pos x) ∷ is) n (suc i) k e h f l (suc j) m = earlier (x + 1) high is n i k (ascend_parts low high x is e).2 (omega arith) f l j (omega arith)
+earlier low high (v ∷ is) n i k e h f l j m = absurd cc
 
 -- where the index at i is below n
 pub none_below-next : (low high : ℕ) (is : List PlainValue) (n i k : ℕ) → ascend low high is ≡ true → i < length is → index_of (row_at is i) ≡ Some k → k < n → NoneBelow is n (i + 1)
@@ -139,27 +132,24 @@ none_below-next low high is n i k e h f l =
 above_all : (low high : ℕ) (is : List PlainValue) (n : ℕ) → ascend low high is ≡ true → n < low → NoneFrom is n 0
 above_all low high [] n e l zero m = refl
 above_all low high [] n e l (suc j) m = refl
-above_all low high (null ∷ is) n e l j m = absurd cc
-above_all low high (int (negsuc x) ∷ is) n e l j m = absurd cc
 above_all low high (int (pos x) ∷ is) n e l zero m = let p = ascend_parts low high x is e in ne_eqb x n (λ r. omega arith)
 above_all low high (int (pos x) ∷ is) n e l (suc j) m = let p = ascend_parts low high x is e in above_all (x + 1) high is n p.2 (omega arith) j (omega arith)
+above_all low high (v ∷ is) n e l j m = absurd cc
 
 -- where it is above n
 pub none_from-next : (low high : ℕ) (is : List PlainValue) (n i k : ℕ) → ascend low high is ≡ true → i < length is → index_of (row_at is i) ≡ Some k → n < k → NoneFrom is n i
 none_from-next low high [] n i k e h f l j m = absurd (omega arith)
-none_from-next low high (null ∷ is) n i k e h f l j m = absurd cc
-none_from-next low high (int (negsuc x) ∷ is) n i k e h f l j m = absurd cc
 none_from-next low high (int (pos x) ∷ is) n zero k e h f l zero m = let same : x ≡ k = cc in ne_eqb x n (λ r. omega arith)
 none_from-next low high (int (pos x) ∷ is) n zero k e h f l (suc j) m = let same : x ≡ k = cc in above_all (x + 1) high is n (ascend_parts low high x is e).2 (omega arith) j (omega arith)
 none_from-next low high (int (pos x) ∷ is) n (suc i) k e h f l zero m = absurd (omega arith)
 none_from-next low high (int (pos x) ∷ is) n (suc i) k e h f l (suc j) m = none_from-next (x + 1) high is n i k (ascend_parts low high x is e).2 (omega arith) f l j (omega arith)
+none_from-next low high (v ∷ is) n i k e h f l j m = absurd cc
 
 -- ---- the place of a patch
 
 pub is_index-of : (v : PlainValue) (n : ℕ) → index_of v ≡ Some n → is_index v n ≡ true
-is_index-of null n e = absurd cc
-is_index-of (int (negsuc m)) n e = absurd cc
 is_index-of (int (pos m)) n e = eq-eqb m n cc
+is_index-of v n e = absurd cc
 
 pub place-first : (is : List PlainValue) (n i : ℕ) → NoneBelow is n i → i < length is → is_index (row_at is i) n ≡ true → place_of is n ≡ Some i
 place-first is n i b h e =

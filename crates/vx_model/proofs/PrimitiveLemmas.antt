@@ -20,6 +20,7 @@ use Rattle.vx_model.proofs.RowLemmas.{length-primitive}
 
 encoding-plain_of : (t : PlainType) (vs : List PlainValue) → IsTrue (is_integer t) → encoding (plain_of t vs) ≡ ids.Primitive
 encoding-plain_of (types.primitive p n) vs h = refl
+encoding-plain_of t vs h = absurd cc
 
 -- a plain tree of integers
 pub encoding-plain : (t : Tree) → IsTrue (is_integer (tree_type t)) → IsPlain t → encoding t ≡ ids.Primitive

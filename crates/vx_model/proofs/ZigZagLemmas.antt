@@ -38,6 +38,7 @@ unzigzagged-held p n z e h = unzigzag-held p (unsigned_abs z) (word_bits p z e h
 
 all_unzigzagged_fit : (t : PlainType) (rs : List PlainValue) → is_unsigned t ≡ true → list_all (fits t) rs ≡ true → list_all (fits (zig_zag_type t)) (map unzigzagged rs) ≡ true
 all_unzigzagged_fit (types.primitive p n) rs e h = all_fit-each_int unzigzagged_whole p (signed_of p) n (λ z l. unzigzagged-held p n z e l) rs h
+all_unzigzagged_fit t rs e h = absurd cc
 
 -- ---- a constructor's tree is well formed, where nothing is refused
 
@@ -63,6 +64,7 @@ lies_in_word I64 z e h = absurd cc
 
 int_word : (t : PlainType) (z : ℤ) → is_unsigned t ≡ true → fits t (int z) ≡ true → lies_in U64 z ≡ true
 int_word (types.primitive p n) z e h = lies_in_word p z e h
+int_word t z e h = absurd cc
 
 pub encoded-word : (encoded : Tree) (i : ℕ) (z : ℤ) → WellFormed (zig_zag encoded) → i < length (rows encoded) → row_at (rows encoded) i ≡ int z → lies_in U64 z ≡ true
 encoded-word encoded i z h l e = int_word (tree_type encoded) z h.1.unsigned (ap (fits (tree_type encoded)) (sym e) ∙ row_fits encoded i h.0 l)

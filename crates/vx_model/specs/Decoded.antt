@@ -1,5 +1,5 @@
 -- Items with a default where a row isn't valid, as a plain tree holds them, and what codes pick.
-use Rattle.std.specs.Prelude.{ℕ, ℤ, pos, Bool, true, false, slice_index_or, ◌&&◌, ◌||◌, List, [], ◌∷◌, None, Some, cond}
+use Rattle.std.specs.Prelude.{ℕ, ℤ, pos, Bool, true, false, slice_index_or, length, ◌&&◌, ◌||◌, ◌==◌, List, [], ◌∷◌, None, Some, cond}
 use Rattle.std.specs.Ordering.{int_eq}
 use Rattle.vx_base.specs.declared.ptype.PType.{PType}
 use Rattle.vx_base.specs.Integers.{bits_in}
@@ -31,6 +31,10 @@ zero_beneath_by is_default (Some bits) xs = zero_beneath is_default bits xs
 -- the test for the default of whole numbers
 abbrev pub is_zero : ℤ → Bool
 is_zero z = int_eq z (pos 0)
+
+-- the test for the default of bytes
+abbrev pub is_empty : List ℕ → Bool
+is_empty bs = length bs == 0
 
 -- the item whose place a code's bits are, in the codes' type; another where there is none
 abbrev pub picked : {A : Type 0} → PType → List A → A → ℤ → A

@@ -2,11 +2,15 @@
 use Rattle.std.specs.Prelude.{List, [], ◌∷◌}
 use Rattle.vx_base.specs.declared.array_id.ArrayId.{ArrayId}
 use Rattle.vx_base.specs.declared.array_id.ArrayId.TheVariants as ids
-use Rattle.vx_model.specs.Tree.{Tree, primitive, constant, masked, bit_packed, bit_packed_with, frame_of_reference, zig_zag, dict}
+use Rattle.vx_model.specs.Tree.{Tree, bool, primitive, var_bin_view, var_bin, timestamp, constant, masked, bit_packed, bit_packed_with, frame_of_reference, zig_zag, dict}
 
 -- the encoding of a tree's root
 abbrev pub encoding : Tree → ArrayId
+encoding (bool bs valid n) = ids.Bool
 encoding (primitive p xs valid n) = ids.Primitive
+encoding (var_bin_view vs valid t) = ids.VarBinView
+encoding (var_bin offsets bytes valid t) = ids.VarBin
+encoding (timestamp storage k) = ids.Timestamp
 encoding (constant s len) = ids.Constant
 encoding (masked child valid) = ids.Masked
 encoding (bit_packed k) = ids.BitPacked
@@ -17,7 +21,11 @@ encoding (dict codes values) = ids.Dict
 
 -- the trees inside, in their order
 abbrev pub children : Tree → List Tree
+children (bool bs valid n) = []
 children (primitive p xs valid n) = []
+children (var_bin_view vs valid t) = []
+children (var_bin offsets bytes valid t) = offsets ∷ []
+children (timestamp storage k) = storage ∷ []
 children (constant s len) = []
 children (masked child valid) = child ∷ []
 children (bit_packed k) = []

@@ -1,24 +1,24 @@
 -- When the constructors refuse, in the order of their checks, and what they keep.
-use Rattle.std.specs.Prelude.{ℕ, ◌+◌, Bool, true, not, ◌&&◌, ◌||◌, ◌==◌, nat_le, if◌then◌else◌, List, length, Option, Some, None}
+use Rattle.std.specs.Prelude.{ℕ, ◌+◌, Bool, true, not, ◌&&◌, ◌||◌, ◌==◌, nat_le, if◌then◌else◌, List, length, map, ◌-◌, Option, Some, None}
 use Rattle.std.specs.List.{list_all, list_any}
 use Rattle.vx_base.specs.declared.error.VortexError.{VortexError}
-use Rattle.vx_base.specs.declared.error.VortexError.TheVariants.{MismatchedTypes, LengthMismatch, OutOfBounds, IndicesNotAscending, TooManyRows}
+use Rattle.vx_base.specs.declared.error.VortexError.TheVariants.{MismatchedTypes, LengthMismatch, OutOfBounds, IndicesNotAscending, TooManyRows, ValueTooLong}
 use Rattle.vx_base.specs.declared.ptype.PType.{PType}
+use Rattle.vx_base.specs.declared.ptype.PType.TheVariants.{I64}
 use Rattle.vx_base.specs.declared.dtype.Nullability.{Nullability}
 use Rattle.vx_base.specs.declared.dtype.Nullability.TheVariants.{NonNullable}
 use Rattle.vx_base.specs.Answers.{unless}
 use Rattle.vx_base.specs.Integers.{natural_bits}
 use Rattle.vx_base.specs.Packed.{packed_size}
-use Rattle.vx_base.specs.PlainScalar.{PlainScalar}
-use Rattle.vx_base.specs.PlainType.{PlainType, is_nullable, is_leaf, is_integer, is_unsigned, allows_null, stored_type}
+use Rattle.vx_base.specs.PlainScalar.{PlainScalar, fits}
+use Rattle.vx_base.specs.PlainType.{PlainType, is_nullable, is_flat, is_integer, is_bytes, is_unsigned, allows_null, nullability_of, same_type}
 use Rattle.vx_base.specs.PlainType as types
-use Rattle.vx_base.specs.PlainValue.{is_null}
-use Rattle.vx_base.specs.Storable.{same}
+use Rattle.vx_base.specs.PlainValue.{is_null, bytes, is_short}
 use Rattle.vx_model.specs.Tree.{Tree, Validity, PlainPacked, PlainPatches}
-use Rattle.vx_model.specs.Rows.{rows}
+use Rattle.vx_model.specs.Rows.{rows, valid_rows, cut_at}
 use Rattle.vx_model.specs.TreeType.{tree_type}
 use Rattle.vx_model.specs.Extents.{extents_fit}
-use Rattle.vx_model.specs.WellFormed.{ascend, differences_type, is_place}
+use Rattle.vx_model.specs.WellFormed.{ascend, are_offsets, differences_type, is_place}
 
 -- validity has a bit a row
 abbrev pub validity_length : Validity → ℕ → Bool
@@ -35,14 +35,34 @@ abbrev pub kept : Validity → Validity
 kept None = None
 kept (Some bits) = if list_all (λ bit. bit) bits then None else Some bits
 
--- why integers and validity are no primitive node
+-- of a flat list of so many items
 abbrev pub primitive_refusal : ℕ → Validity → Nullability → Option VortexError
 primitive_refusal len valid n = unless (validity_length valid len) LengthMismatch (unless (validity_allowed valid n) MismatchedTypes None)
+
+-- values of a type with their validity, in the order of the checks: a row that is valid has to fit
+abbrev pub texts_refusal : PlainType → List (List ℕ) → Validity → Option VortexError
+texts_refusal t vs valid =
+    unless (list_all is_short vs) ValueTooLong
+    (unless (validity_allowed valid (nullability_of t) && list_all (fits t) (valid_rows (kept valid) (map bytes vs))) MismatchedTypes None)
+
+abbrev pub var_bin_view_refusal : List (List ℕ) → Validity → PlainType → Option VortexError
+var_bin_view_refusal vs valid t =
+    unless (is_bytes t) MismatchedTypes (unless (validity_length valid (length vs)) LengthMismatch (texts_refusal t vs valid))
+
+abbrev pub var_bin_refusal : Tree → List ℕ → Validity → PlainType → Option VortexError
+var_bin_refusal offsets bs valid t =
+    unless (is_integer (tree_type offsets) && not (is_nullable (tree_type offsets)) && is_bytes t) MismatchedTypes
+    (unless (nat_le 1 (length (rows offsets)) && validity_length valid (length (rows offsets) - 1)) LengthMismatch
+    (unless (are_offsets (length bs) (rows offsets)) OutOfBounds
+    (texts_refusal t (cut_at (rows offsets) bs) valid)))
+
+abbrev pub timestamp_refusal : Tree → Option VortexError
+timestamp_refusal storage = unless (same_type (tree_type storage) (types.primitive I64 (nullability_of (tree_type storage)))) MismatchedTypes None
 
 -- why a tree and a mask are no masked node
 abbrev pub masked_refusal : Tree → List Bool → Option VortexError
 masked_refusal child valid =
-    unless (is_leaf (tree_type child) && is_nullable (tree_type child)) MismatchedTypes
+    unless (is_flat (tree_type child) && is_nullable (tree_type child)) MismatchedTypes
     (unless (length valid == length (rows child)) LengthMismatch
     (unless (not (list_any is_null (rows child))) MismatchedTypes None))
 
@@ -52,10 +72,6 @@ patches_refusal p =
     unless (is_integer (tree_type p.indices) && not (is_nullable (tree_type p.indices))) MismatchedTypes
     (unless (length (rows p.indices) == length (rows p.values)) LengthMismatch
     (unless (ascend p.offset (p.offset + p.array_len) (rows p.indices)) IndicesNotAscending None))
-
--- two types are one
-abbrev pub same_type : PlainType → PlainType → Bool
-same_type = same stored_type
 
 -- the patches that there are have values of the type
 abbrev pub patches_of_type : PType → Option PlainPatches → Bool
@@ -91,7 +107,7 @@ zig_zag_refusal encoded = unless (is_unsigned (tree_type encoded)) MismatchedTyp
 -- why codes and values are no dictionary
 abbrev pub dict_refusal : Tree → Tree → Option VortexError
 dict_refusal codes values =
-    unless (is_integer (tree_type codes) && is_leaf (tree_type values)) MismatchedTypes
+    unless (is_integer (tree_type codes) && is_flat (tree_type values)) MismatchedTypes
     (unless (list_all (is_place (length (rows values))) (rows codes)) OutOfBounds None)
 
 -- compression refuses a tree with an extent above the limit

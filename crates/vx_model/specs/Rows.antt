@@ -1,13 +1,14 @@
 -- The rows of a tree, the values that it stands for; the children are decoded first.
-use Rattle.std.specs.Prelude.{ℕ, ◌+◌, ℤ, pos, negsuc, unsigned_abs, ◌+ℤ◌, Bool, true, false, ◌==◌, List, [], ◌∷◌, map, Option, None, Some, position, replicate, slice_index_or, cond}
+use Rattle.std.specs.Prelude.{ℕ, ◌+◌, ℤ, pos, unsigned_abs, ◌+ℤ◌, ◌-◌, Bool, true, false, ◌==◌, List, [], ◌∷◌, map, Option, None, Some, position, replicate, slice_index_or, unwrap_or, length, cond}
 use Rattle.std.specs.List.{range_with_len}
+use Rattle.vx_base.specs.Masks.{rows_between}
 use Rattle.vx_base.specs.Packed.{packed_row}
 use Rattle.vx_base.specs.PlainScalar.{PlainScalar}
 use Rattle.vx_base.specs.PlainType.{integer_of}
-use Rattle.vx_base.specs.PlainValue.{PlainValue, null, int, whole_or_zero}
+use Rattle.vx_base.specs.PlainValue.{PlainValue, null, truth, int, bytes, whole_or_zero}
 use Rattle.vx_base.specs.Wrapping.{wrap}
 use Rattle.vx_base.specs.ZigZag.{unzigzag}
-use Rattle.vx_model.specs.Tree.{Tree, Validity, PlainPacked, PlainPatches, primitive, constant, masked, bit_packed, bit_packed_with, frame_of_reference, zig_zag, dict}
+use Rattle.vx_model.specs.Tree.{Tree, Validity, PlainPacked, PlainPatches, bool, primitive, var_bin_view, var_bin, timestamp, constant, masked, bit_packed, bit_packed_with, frame_of_reference, zig_zag, dict}
 
 -- null where the mask is false
 abbrev pub masked_rows : List Bool → List PlainValue → List PlainValue
@@ -36,14 +37,12 @@ below f n = map f (range_with_len 0 n)
 -- the natural number that a row is
 abbrev pub index_of : PlainValue → Option ℕ
 index_of (int (pos k)) = Some k
-index_of (int (negsuc k)) = None
-index_of null = None
+index_of _ = None
 
 -- whether a row is this number
 abbrev pub is_index : PlainValue → ℕ → Bool
 is_index (int (pos k)) n = k == n
-is_index (int (negsuc k)) n = false
-is_index null n = false
+is_index _ n = false
 
 -- the place of the patch whose index is n
 abbrev pub place_of : List PlainValue → ℕ → Option ℕ
@@ -59,10 +58,10 @@ patched (i ∷ is) (row ∷ rows) fill n = cond (is_index i n) row (patched is r
 abbrev pub packed_at : PlainPacked → ℕ → PlainValue
 packed_at k i = int (pos (packed_row k.bytes k.width i))
 
--- the function of an integer; null stays null
+-- the function of a value's whole number; null stays null
 abbrev pub each_int : (ℤ → ℤ) → PlainValue → PlainValue
 each_int f null = null
-each_int f (int z) = int (f z)
+each_int f v = int (f (whole_or_zero v))
 
 -- a whole number and the reference, summed in the reference's type
 abbrev pub summed : PlainScalar → ℤ → ℤ
@@ -82,13 +81,24 @@ unzigzagged = each_int unzigzagged_whole
 
 -- the value whose place a code is; null of a null code
 abbrev pub looked_up : List PlainValue → PlainValue → PlainValue
-looked_up values null = null
 looked_up values (int (pos k)) = row_at values k
-looked_up values (int (negsuc k)) = null
+looked_up values _ = null
+
+-- the offset at a place
+abbrev pub offset_at : List PlainValue → ℕ → ℕ
+offset_at offsets i = unwrap_or (index_of (row_at offsets i)) 0
+
+-- the items from each offset to the next
+abbrev pub cut_at : {A : Type 0} → List PlainValue → List A → List (List A)
+cut_at offsets items = below (λ i. rows_between items (offset_at offsets i) (offset_at offsets (i + 1))) (length offsets - 1)
 
 -- the values that a tree stands for, row by row
 abbrev pub rows : Tree → List PlainValue
+rows (bool bs valid n) = valid_rows valid (map truth bs)
 rows (primitive p xs valid n) = valid_rows valid (map int xs)
+rows (var_bin_view vs valid t) = valid_rows valid (map bytes vs)
+rows (var_bin offsets bs valid t) = valid_rows valid (map bytes (cut_at (rows offsets) bs))
+rows (timestamp storage k) = rows storage
 rows (constant s len) = replicate len s.value
 rows (masked child valid) = masked_rows valid (rows child)
 rows (bit_packed k) = valid_rows k.valid (below (packed_at k) k.len)

@@ -1,10 +1,10 @@
 -- The bytes of a tree.
-use Rattle.std.specs.Prelude.{ℕ, min, ◌-◌, ◌^◌, ◌+◌, ◌*◌, ◌/◌, length, Option, Some, None}
+use Rattle.std.specs.Prelude.{ℕ, min, ◌-◌, ◌^◌, ◌+◌, ◌*◌, ◌/◌, nat_le, List, length, sum_by, if◌then◌else◌, Option, Some, None}
 use Rattle.vx_base.specs.Integers.{bytes_of}
 use Rattle.vx_base.specs.Packed.{packed_size}
-use Rattle.vx_base.specs.PlainType.{PlainType, primitive}
-use Rattle.vx_base.specs.PlainValue.{PlainValue, null, int}
-use Rattle.vx_model.specs.Tree.{Tree, Validity, PlainPatches, constant, masked, bit_packed, bit_packed_with, frame_of_reference, zig_zag, dict}
+use Rattle.vx_base.specs.PlainType.{PlainType, is_integer, integer_of}
+use Rattle.vx_base.specs.PlainValue.{PlainValue, null, truth, int, bytes}
+use Rattle.vx_model.specs.Tree.{Tree, Validity, PlainPatches, bool, var_bin_view, var_bin, timestamp, constant, masked, bit_packed, bit_packed_with, frame_of_reference, zig_zag, dict}
 use Rattle.vx_model.specs.Tree as trees
 
 -- whole bytes that hold this many bits
@@ -19,10 +19,20 @@ validity_size (Some bits) = bit_bytes (length bits)
 -- the bytes of a value of a type; none of null
 abbrev pub payload : PlainType → PlainValue → ℕ
 payload t null = 0
-payload (primitive p n) (int z) = bytes_of p
+payload t (truth b) = 1
+payload t (int z) = if is_integer t then bytes_of (integer_of t) else 8
+payload t (bytes bs) = length bs
+
+-- what stands beside the 16 bytes of a value: its bytes, where they are more than 12
+abbrev pub long_bytes : List ℕ → ℕ
+long_bytes bs = if nat_le (length bs) 12 then 0 else length bs
 
 -- the bytes of a tree
 abbrev pub size : Tree → ℕ
+size (bool bs valid n) = bit_bytes (length bs) + validity_size valid
+size (var_bin_view vs valid t) = 16 * length vs + sum_by long_bytes vs + validity_size valid
+size (var_bin offsets bs valid t) = size offsets + length bs + validity_size valid
+size (timestamp storage k) = size storage
 size (trees.primitive p xs valid n) = length xs * bytes_of p + validity_size valid
 size (constant s len) = 1 + payload s.dtype s.value
 size (masked child valid) = size child + bit_bytes (length valid)

@@ -3,6 +3,8 @@ use Rattle.std.specs.Prelude.{ℕ, suc, ◌+◌, ℤ, Bool, List, Option, None, 
 use Rattle.vx_base.specs.declared.ptype.PType.{PType}
 use Rattle.vx_base.specs.declared.dtype.Nullability.{Nullability}
 use Rattle.vx_base.specs.PlainScalar.{PlainScalar}
+use Rattle.vx_base.specs.PlainType.{PlainType}
+use Rattle.vx_base.specs.Timestamps.{PlainTimestamp}
 
 -- one truth value a row, true where the row is valid; none where every row is
 abbrev pub Validity : Type 0
@@ -23,8 +25,16 @@ plain_packed p width bytes len valid n = record { ptype = p; width = width; byte
 
 -- a tree of encodings, one constructor for each node
 pub data Tree : Type 0 where
+  -- truth values, their validity and nullability
+  bool : List Bool → Validity → Nullability → Tree
   -- integers of one type, their validity and nullability
   primitive : PType → List ℤ → Validity → Nullability → Tree
+  -- texts or binaries, their validity and type
+  var_bin_view : List (List ℕ) → Validity → PlainType → Tree
+  -- the same, each from one offset into the bytes to the next
+  var_bin : Tree → List ℕ → Validity → PlainType → Tree
+  -- timestamps of a kind, over integers of 64 signed bits
+  timestamp : Tree → PlainTimestamp → Tree
   -- one scalar in every row
   constant : PlainScalar → ℕ → Tree
   -- the child's rows, null where the mask is false
@@ -42,7 +52,11 @@ pub data Tree : Type 0 where
 
 -- how many nodes it has, and one for a node's patches
 abbrev pub node_count : Tree → ℕ
+node_count (bool bs valid n) = 1
 node_count (primitive p xs valid n) = 1
+node_count (var_bin_view vs valid t) = 1
+node_count (var_bin offsets bytes valid t) = suc (node_count offsets)
+node_count (timestamp storage k) = suc (node_count storage)
 node_count (constant s len) = 1
 node_count (masked child valid) = suc (node_count child)
 node_count (bit_packed k) = 1

@@ -3,10 +3,11 @@ use Rattle.std.specs.Prelude.{◌≡◌, ℕ, ℤ, Bool, List, [], ◌∷◌, co
 use Rattle.std.specs.Coded.{Coded}
 use Rattle.vx_base.specs.declared.ptype.PType.{PType}
 use Rattle.vx_base.specs.declared.dtype.Nullability.{Nullability}
-use Rattle.vx_base.specs.PlainType.{stored_ptype, stored_nullability}
+use Rattle.vx_base.specs.PlainType.{PlainType, stored_ptype, stored_nullability, stored_type}
+use Rattle.vx_base.specs.Timestamps.{stored_kind}
 use Rattle.vx_base.specs.PlainScalar.{PlainScalar, stored_scalar}
-use Rattle.vx_base.specs.Storable.{Storable, code_of, first, rest, stored_ℕ, stored_ℤ, stored_bool, stored_list, stored_option, stored×}
-use Rattle.vx_model.specs.Tree.{Tree, Validity, PlainPacked, PlainPatches, patches, primitive, constant, masked, bit_packed, bit_packed_with, frame_of_reference, zig_zag, dict}
+use Rattle.vx_base.specs.Storable.{Storable, code_of, first, rest, stored_ℕ, stored_ℤ, stored_bool, stored_bytes, stored_list, stored_option, stored×}
+use Rattle.vx_model.specs.Tree.{Tree, Validity, PlainPacked, PlainPatches, patches, bool, primitive, var_bin_view, var_bin, timestamp, constant, masked, bit_packed, bit_packed_with, frame_of_reference, zig_zag, dict}
 use base.Stored.{Gv, gnil, gnum, gcons, num}
 
 -- truth values are stored as a list
@@ -19,6 +20,15 @@ stored_validity = stored_option stored_bits
 
 abbrev pub stored_primitive : Storable (PType × (List ℤ × (Validity × Nullability)))
 stored_primitive = stored× stored_ptype (stored× (stored_list stored_ℤ) (stored× stored_validity stored_nullability))
+
+abbrev pub stored_truths : Storable (List Bool × (Validity × Nullability))
+stored_truths = stored× stored_bits (stored× stored_validity stored_nullability)
+
+abbrev pub stored_view : Storable (List (List ℕ) × (Validity × PlainType))
+stored_view = stored× (stored_list stored_bytes) (stored× stored_validity stored_type)
+
+abbrev pub stored_var_bin : Storable (List ℕ × (Validity × PlainType))
+stored_var_bin = stored× stored_bytes (stored× stored_validity stored_type)
 
 abbrev pub stored_constant : Storable (PlainScalar × ℕ)
 stored_constant = stored× stored_scalar stored_ℕ
@@ -67,6 +77,10 @@ to (bit_packed_with k len offset indices values) = node 4 (stored_packed_with.to
 to (frame_of_reference encoded reference) = node 5 (stored_scalar.to reference) (one (to encoded))
 to (zig_zag encoded) = node 6 gnil (one (to encoded))
 to (dict codes values) = node 7 gnil (two (to codes) (to values))
+to (bool bs valid n) = node 8 (stored_truths.to (bs, (valid, n))) gnil
+to (var_bin_view vs valid t) = node 9 (stored_view.to (vs, (valid, t))) gnil
+to (var_bin offsets bytes valid t) = node 10 (stored_var_bin.to (bytes, (valid, t))) (one (to offsets))
+to (timestamp storage k) = node 11 (stored_kind.to k) (one (to storage))
 
 -- any tree, where there is none to read
 abbrev pub some_tree : Tree
@@ -89,6 +103,15 @@ constant_by l = constant l.0 l.1
 abbrev pub packed_with_by : PlainPacked × (ℕ × ℕ) → Tree → Tree → Tree
 packed_with_by l indices values = bit_packed_with l.0 l.1.0 l.1.1 indices values
 
+abbrev pub bool_by : List Bool × (Validity × Nullability) → Tree
+bool_by l = bool l.0 l.1.0 l.1.1
+
+abbrev pub view_by : List (List ℕ) × (Validity × PlainType) → Tree
+view_by l = var_bin_view l.0 l.1.0 l.1.1
+
+abbrev pub var_bin_by : List ℕ × (Validity × PlainType) → Tree → Tree
+var_bin_by l offsets = var_bin offsets l.0 l.1.0 l.1.1
+
 abbrev pub tree_at : ℕ → Gv → List Tree → Tree
 tree_at number label inside =
     cond (number == 0) (primitive_by (stored_primitive.from label))
@@ -98,7 +121,11 @@ tree_at number label inside =
     (cond (number == 4) (packed_with_by (stored_packed_with.from label) (tree_1 inside) (tree_2 inside))
     (cond (number == 5) (frame_of_reference (tree_1 inside) (stored_scalar.from label))
     (cond (number == 6) (zig_zag (tree_1 inside))
-    (dict (tree_1 inside) (tree_2 inside))))))))
+    (cond (number == 7) (dict (tree_1 inside) (tree_2 inside))
+    (cond (number == 8) (bool_by (stored_truths.from label))
+    (cond (number == 9) (view_by (stored_view.from label))
+    (cond (number == 10) (var_bin_by (stored_var_bin.from label) (tree_1 inside))
+    (timestamp (tree_1 inside) (stored_kind.from label))))))))))))
 
 -- what is read as a tree, and as a list of trees
 abbrev pub read : Gv → Tree × List Tree
@@ -118,6 +145,10 @@ from-to (bit_packed_with k len offset indices values) = λ i. packed_with_by (st
 from-to (frame_of_reference encoded reference) = λ i. frame_of_reference (from-to encoded i) (stored_scalar.back reference i)
 from-to (zig_zag encoded) = λ i. zig_zag (from-to encoded i)
 from-to (dict codes values) = λ i. dict (from-to codes i) (from-to values i)
+from-to (bool bs valid n) = λ i. bool_by (stored_truths.back (bs, (valid, n)) i)
+from-to (var_bin_view vs valid t) = λ i. view_by (stored_view.back (vs, (valid, t)) i)
+from-to (var_bin offsets bytes valid t) = λ i. var_bin_by (stored_var_bin.back (bytes, (valid, t)) i) (from-to offsets i)
+from-to (timestamp storage k) = λ i. timestamp (from-to storage i) (stored_kind.back k i)
 
 -- a tree is stored as the number of its root, the root's own data, and the trees inside
 abbrev pub stored_tree : Storable Tree

@@ -2,7 +2,7 @@
 use Rattle.vx_base.specs.Integers.{signed_of}
 use Rattle.vx_base.specs.PlainType.{PlainType, integer_of, nullability_of, or_nullable, with_nullability}
 use Rattle.vx_base.specs.PlainType as types
-use Rattle.vx_model.specs.Tree.{Tree, primitive, constant, masked, bit_packed, bit_packed_with, frame_of_reference, zig_zag, dict}
+use Rattle.vx_model.specs.Tree.{Tree, bool, primitive, var_bin_view, var_bin, timestamp, constant, masked, bit_packed, bit_packed_with, frame_of_reference, zig_zag, dict}
 
 -- the signed type of an integer type's width, as nullable as it
 abbrev pub zig_zag_type : PlainType → PlainType
@@ -14,7 +14,11 @@ dict_type codes values = with_nullability values (or_nullable (nullability_of va
 
 -- the type of a tree
 abbrev pub tree_type : Tree → PlainType
+tree_type (bool bs valid n) = types.boolean n
 tree_type (primitive p xs valid n) = types.primitive p n
+tree_type (var_bin_view vs valid t) = t
+tree_type (var_bin offsets bytes valid t) = t
+tree_type (timestamp storage k) = types.timestamp k (nullability_of (tree_type storage))
 tree_type (constant s len) = s.dtype
 tree_type (masked child valid) = tree_type child
 tree_type (bit_packed k) = types.primitive k.ptype k.nullability

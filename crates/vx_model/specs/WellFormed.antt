@@ -1,17 +1,18 @@
 -- When a tree is well formed: each node's own conditions hold, and every row fits the type.
-use Rattle.std.specs.Prelude.{◌≡◌, ℕ, ◌+◌, ℤ, pos, negsuc, Bool, true, false, ◌&&◌, nat_lt, nat_le, int_lt, IsTrue, List, [], ◌∷◌, length, Some, None}
+use Rattle.std.specs.Prelude.{◌≡◌, ℕ, ◌+◌, ℤ, pos, ◌-◌, Bool, true, false, ◌&&◌, ◌==◌, nat_lt, nat_le, int_le, int_lt, IsTrue, List, [], ◌∷◌, length, Some, None}
 use Rattle.std.specs.List.{list_all, list_any}
 use Rattle.vx_base.specs.declared.ptype.PType.{PType}
+use Rattle.vx_base.specs.declared.ptype.PType.TheVariants.{I64}
 use Rattle.vx_base.specs.declared.dtype.Nullability.{Nullability}
 use Rattle.vx_base.specs.declared.dtype.Nullability.TheVariants.{NonNullable, Nullable}
 use Rattle.vx_base.specs.Integers.{lies_in, natural_bits, unsigned_of}
 use Rattle.vx_base.specs.Packed.{packed_size}
-use Rattle.vx_base.specs.PlainType.{PlainType, is_nullable, is_leaf, is_integer, is_unsigned, integer_of, nullability_of}
+use Rattle.vx_base.specs.PlainType.{PlainType, is_nullable, is_flat, is_integer, is_bytes, is_unsigned, integer_of, nullability_of}
 use Rattle.vx_base.specs.PlainType as types
 use Rattle.vx_base.specs.PlainScalar.{PlainScalar, fits}
-use Rattle.vx_base.specs.PlainValue.{PlainValue, null, int, is_null, whole_or_zero}
-use Rattle.vx_model.specs.Tree.{Tree, Validity, PlainPacked, PlainPatches, primitive, constant, masked, bit_packed, bit_packed_with, frame_of_reference, zig_zag, dict}
-use Rattle.vx_model.specs.Rows.{rows}
+use Rattle.vx_base.specs.PlainValue.{PlainValue, null, int, is_null, is_short, whole_or_zero}
+use Rattle.vx_model.specs.Tree.{Tree, Validity, PlainPacked, PlainPatches, bool, primitive, var_bin_view, var_bin, timestamp, constant, masked, bit_packed, bit_packed_with, frame_of_reference, zig_zag, dict}
+use Rattle.vx_model.specs.Rows.{rows, offset_at, cut_at}
 use Rattle.vx_model.specs.TreeType.{tree_type}
 
 -- bits stand exactly where some row isn't valid: a bit a row, one of them false, in a nullable node alone
@@ -24,18 +25,44 @@ pub record IsPrimitive (p : PType) (xs : List ℤ) (valid : Validity) (n : Nulla
   pub held : IsTrue (list_all (lies_in p) xs)
   pub validity : IsValidityOf valid (length xs) n
 
--- the child is of a nullable leaf type and has no null, and the mask has a bit a row
-pub record IsMasked (child : Tree) (valid : List Bool) : Type 0 where
-  pub leaf : IsTrue (is_leaf (tree_type child))
-  pub nullable : IsTrue (is_nullable (tree_type child))
-  pub lengths : length valid ≡ length (rows child)
-  pub no_null : list_any is_null (rows child) ≡ false
+-- of a type of texts or binaries: each shorter than 2^32 bytes, also where the row isn't valid
+pub record IsView (vs : List (List ℕ)) (valid : Validity) (t : PlainType) : Type 0 where
+  pub byte_type : IsTrue (is_bytes t)
+  pub short : IsTrue (list_all is_short vs)
+  pub validity : IsValidityOf valid (length vs) (nullability_of t)
 
 -- a whole number from low on, below high
 abbrev pub lies_between : ℕ → ℕ → PlainValue → Bool
 lies_between low high (int (pos n)) = nat_le low n && nat_lt n high
-lies_between low high (int (negsuc n)) = false
-lies_between low high null = false
+lies_between low high _ = false
+
+-- no number is above its neighbour behind
+abbrev pub never_falls : List PlainValue → Bool
+never_falls [] = true
+never_falls (v ∷ []) = true
+never_falls (v ∷ w ∷ vs) = int_le (whole_or_zero v) (whole_or_zero w) && never_falls (w ∷ vs)
+
+-- offsets into so many items: none outside, the first 0, the last their end, none above its neighbour behind
+abbrev pub are_offsets : ℕ → List PlainValue → Bool
+are_offsets len offsets =
+    list_all (lies_between 0 (len + 1)) offsets && (offset_at offsets 0 == 0) && (offset_at offsets (length offsets - 1) == len) && never_falls offsets
+
+pub record IsVarBin (offsets : Tree) (bs : List ℕ) (valid : Validity) (t : PlainType) : Type 0 where
+  pub offsets_type : IsTrue (is_integer (tree_type offsets))
+  pub not_null : is_nullable (tree_type offsets) ≡ false
+  pub some : IsTrue (nat_le 1 (length (rows offsets)))
+  pub ends : IsTrue (are_offsets (length bs) (rows offsets))
+  pub values : IsView (cut_at (rows offsets) bs) valid t
+
+pub record IsTimestamp (storage : Tree) : Type 0 where
+  pub storage_type : tree_type storage ≡ types.primitive I64 (nullability_of (tree_type storage))
+
+-- the child is of a nullable leaf type and has no null, and the mask has a bit a row
+pub record IsMasked (child : Tree) (valid : List Bool) : Type 0 where
+  pub flat : IsTrue (is_flat (tree_type child))
+  pub nullable : IsTrue (is_nullable (tree_type child))
+  pub lengths : length valid ≡ length (rows child)
+  pub no_null : list_any is_null (rows child) ≡ false
 
 -- each number is less than its neighbour behind
 abbrev pub rises : List PlainValue → Bool
@@ -85,12 +112,12 @@ pub record IsZigZag (encoded : Tree) : Type 0 where
 abbrev pub is_place : ℕ → PlainValue → Bool
 is_place len null = true
 is_place len (int (pos k)) = nat_lt k len
-is_place len (int (negsuc k)) = false
+is_place len _ = false
 
 -- the codes are integers, the values of a leaf type, and each code that isn't null is a place of a value
 pub record IsDict (codes values : Tree) : Type 0 where
   pub codes_type : IsTrue (is_integer (tree_type codes))
-  pub values_type : IsTrue (is_leaf (tree_type values))
+  pub values_type : IsTrue (is_flat (tree_type values))
   pub places : IsTrue (list_all (is_place (length (rows values))) (rows codes))
 
 -- every row fits the tree's type
@@ -100,6 +127,10 @@ RowsFit t = IsTrue (list_all (fits (tree_type t)) (rows t))
 -- each node's own conditions hold, and every row fits the type
 abbrev pub WellFormed : Tree → Type 0
 WellFormed (primitive p xs valid n) = IsPrimitive p xs valid n × RowsFit (primitive p xs valid n)
+WellFormed (bool bs valid n) = IsValidityOf valid (length bs) n × RowsFit (bool bs valid n)
+WellFormed (var_bin_view vs valid t) = IsView vs valid t × RowsFit (var_bin_view vs valid t)
+WellFormed (var_bin offsets bs valid t) = WellFormed offsets × IsVarBin offsets bs valid t × RowsFit (var_bin offsets bs valid t)
+WellFormed (timestamp storage k) = WellFormed storage × IsTimestamp storage × RowsFit (timestamp storage k)
 WellFormed (constant s len) = IsTrue (fits s.dtype s.value) × RowsFit (constant s len)
 WellFormed (masked child valid) = WellFormed child × IsMasked child valid × RowsFit (masked child valid)
 WellFormed (bit_packed k) = IsWellPacked k × RowsFit (bit_packed k)

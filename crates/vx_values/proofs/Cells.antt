@@ -2,7 +2,7 @@
 use Rattle.std.proofs.Common.{◌≡◌, ◌<◌, ◌∙◌, ℕ, zero, suc, ℤ, pos, List, [], ◌∷◌, ◌++◌, map, length, Bool, true, false, ap, sym, refl, arith}
 use Rattle.std.proofs.lemmas.List.{get_or-map, length-map, map-append}
 use Rattle.std.proofs.lemmas.List.Folds.{list_any-append}
-use Rattle.std.specs.Prelude.{slice_index_or, ◌||◌}
+use Rattle.std.specs.Prelude.{slice_get, None, slice_index_or, ◌||◌}
 use Rattle.std.specs.List.{list_all, list_any}
 use Rattle.std.proofs.lemmas.Bool.{and_parts}
 use Rattle.vx_base.specs.PlainValue.{int, null}
@@ -29,6 +29,12 @@ module _ {T : Type 0} (whole : T → ℤ) (items : List T) (valid : Validity) (f
 
   pub row_of-null : (i : ℕ) → i < length items → is_valid_at valid i ≡ false → null ≡ row_at (valid_rows valid (map int (map whole items))) i
   row_of-null i h v = rw (row_at-cells valid (map whole items) i fit_wholes (within i h), v) refl
+
+-- where no item is there, it is another
+pub index_or-none : {A : Type 0} (xs : List A) (i : ℕ) (other : A) → slice_get xs i ≡ None → slice_index_or xs i other ≡ other
+index_or-none [] i other h = refl
+index_or-none (x ∷ xs) zero other h = absurd cc
+index_or-none (x ∷ xs) (suc i) other h = index_or-none xs i other h
 
 -- ---- tests of the whole numbers, by the item at a place
 

@@ -1,3 +1,5 @@
 pub mod Bytes
 pub mod Cells
+pub mod Kept
+pub mod Offsets
 pub mod Unpacked

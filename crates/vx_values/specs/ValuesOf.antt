@@ -1,34 +1,52 @@
--- A flat list of values of one leaf type: the kind that it holds, and its values as plain data.
-use Rattle.std.specs.Prelude.{◌≡◌, pos, List, map}
+-- A flat list of values of one kind: the kind that it holds, and its values as plain data.
+use Rattle.std.specs.Prelude.{◌≡◌, pos, Bool, true, false, List, [], map}
 use Rattle.vx_base.specs.declared.ptype.PType.{PType}
-use Rattle.vx_base.specs.PlainType.{PlainType, primitive}
-use Rattle.vx_base.specs.PlainValue.{PlainValue, int}
+use Rattle.vx_base.specs.declared.ptype.PType.TheVariants as ptypes
+use Rattle.vx_base.specs.PlainType.{PlainType, boolean, primitive, utf8, binary, timestamp}
+use Rattle.vx_base.specs.PlainValue.{PlainValue, truth, int, bytes}
 use Rattle.vx_model.specs.Tree.{Validity}
 use Rattle.vx_values.specs.declared.decoded.Decoded.{Decoded}
 use Rattle.vx_values.specs.declared.values.Values.{Values}
-use Rattle.vx_values.specs.declared.values.Values.TheVariants.{Ints}
+use Rattle.vx_values.specs.declared.values.Values.TheVariants.{Bits, Ints, Bytes}
 use Rattle.vx_values.specs.IntsOf.{ptype_of, wholes_of}
 
 -- what a flat list holds
 pub data ValueKind : Type 0 where
+  truths : ValueKind
   -- integers of a type
   ints : PType → ValueKind
+  -- texts or binaries
+  byte_rows : ValueKind
 
--- the kind of values that a leaf type has
+-- the kind of values that a type has: a timestamp's are whole numbers of 64 signed bits
 abbrev pub kind_of : PlainType → ValueKind
+kind_of (boolean n) = truths
 kind_of (primitive p n) = ints p
+kind_of (utf8 n) = byte_rows
+kind_of (binary n) = byte_rows
+kind_of (timestamp k n) = ints ptypes.I64
 
 -- the kind that a list holds
 abbrev pub kind_in : Values → ValueKind
+kind_in (Bits bs) = truths
 kind_in (Ints xs) = ints (ptype_of xs)
+kind_in (Bytes rows) = byte_rows
+
+abbrev pub holds_integers : ValueKind → Bool
+holds_integers (ints p) = true
+holds_integers _ = false
 
 -- the values of a flat list, as plain data
 abbrev pub values_of : Values → List PlainValue
+values_of (Bits bs) = map truth bs
 values_of (Ints xs) = map int (wholes_of xs)
+values_of (Bytes rows) = map bytes rows
 
--- the default of a kind: 0 of integers
+-- the default of a kind: false, 0 or no byte
 abbrev pub default_in : ValueKind → PlainValue
+default_in truths = truth false
 default_in (ints p) = int (pos 0)
+default_in byte_rows = bytes []
 
 -- a decoding has these values of a kind, and this validity
 abbrev pub AreRows : ValueKind → List PlainValue → Validity → Decoded → Type 0

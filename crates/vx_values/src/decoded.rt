@@ -1,11 +1,11 @@
 //! What the rows of a tree are decoded to.
 
-ghost use Rattle.std.specs.Prelude.{◌≡◌, length, map, pos, true};
+ghost use Rattle.std.specs.Prelude.{◌≡◌, length, map, pos, true, IsTrue};
 ghost use Rattle.vx_base.specs.PlainValue.{int};
 ghost use Rattle.vx_model.specs.Decoded.{zeroed_by};
 ghost use Rattle.vx_model.specs.Refusals.{validity_length};
 ghost use Rattle.vx_values.specs.IntsOf.{ptype_of, wholes_of};
-ghost use Rattle.vx_values.specs.ValuesOf.{ints, AreRows};
+ghost use Rattle.vx_values.specs.ValuesOf.{ints, kind_in, holds_integers, AreRows};
 
 use crate::ints::Ints;
 use crate::values::Values;
@@ -19,13 +19,16 @@ pub struct Decoded {
 }
 
 impl Decoded {
-    /// The integers and their validity.
+    /// The integers and their validity, of a column of integers or timestamps.
     pub fn into_integers(self) -> (Ints, Option<Mask>)
+        requires { IsTrue (holds_integers (kind_in self.values)) }
         ensures values { Values.Ints result.0 ≡ self.values }
         ensures valid { result.1 ≡ self.valid }
     {
         let Decoded { values, valid } = self;
-        let Values::Ints(ints) = values;
+        let Values::Ints(ints) = values else {
+            unreachable!();
+        };
         (ints, valid)
     }
 }

@@ -53,6 +53,8 @@ macro_rules! map_ints {
     };
 }
 
+pub(crate) use with_ints;
+
 mod bit_packing;
 mod converting;
 mod dictionary;

@@ -1,6 +1,8 @@
-//! Flat columns of one leaf type and their kernels: integers of each type, with validity.
+//! Flat columns of one kind of values and their kernels: truth values, integers of each type, texts and binaries, with validity.
 #![tactic(auto)]
 
+pub mod bits;
+pub mod byte_rows;
 mod decoded;
 mod ints;
 mod validity;

@@ -2,12 +2,16 @@ use Rattle.std.proofs.Common.{◌≡◌, ◌<◌, ◌≤◌, ◌∙◌, ◌+◌,
 use Rattle.vx_base.proofs.PackedLemmas.{packed_size_le}
 use Rattle.vx_model.specs.Rows.{rows, row_at, place_of}
 use Rattle.vx_model.specs.Tree.{plain_packed}
+use Rattle.vx_model.proofs.BoolLemmas.{length-bool, row_at-bool}
 use Rattle.vx_model.proofs.CellLemmas.{IsWord, word-difference, word-encoded}
+use Rattle.vx_model.proofs.OffsetLemmas.{offset_step}
 use Rattle.vx_model.proofs.PackedLemmas.{length-frame_of_reference}
 use Rattle.vx_model.proofs.PackedOfLemmas.{length-packed_of, row_at-packed_of, packed-packed_of}
 use Rattle.vx_model.proofs.PatchLemmas.{place-none}
 use Rattle.vx_model.proofs.PatchedLemmas.{patched-place, patched-fill}
 use Rattle.vx_model.proofs.RowLemmas.{length-primitive, row_at-primitive}
+use Rattle.vx_model.proofs.VarBinLemmas.{length-var_bin, row_at-var_bin}
+use Rattle.vx_model.proofs.ViewLemmas.{length-var_bin_view, row_at-var_bin_view}
 use Rattle.vx_model.proofs.ZigZagLemmas.{length-zig_zag}
 use Rattle.vx_array.specs.TreeOf.{unboxed}
 use Rattle.vx_array.proofs.AtNode.{at_node}
@@ -16,6 +20,38 @@ use Rattle.vx_array.proofs.Unpacked.{width-le}
 use Rattle.vx_array.proofs.+cell_at.Goals as goal
 
 -- ---- the row of a tree, node by node
+
+pub array::ArrayRef::cell_at-returns-in-Bool : goal.array::ArrayRef::cell_at-returns-in-Bool
+array::ArrayRef::cell_at-returns-in-Bool t c =
+    let a = at_node c.self.view_is c.self.invariant c.in-Bool.is in
+    let l = length-bool _ _ _ a.well_formed in
+    rw a.is (c.truth_at.ensures ∙ sym (row_at-bool _ _ _ a.well_formed c.args.row (omega (arith, l, rw a.is at c.requires.in_range))))
+
+pub array::ArrayRef::cell_at-view_at-requires : goal.array::ArrayRef::cell_at-view_at-requires
+array::ArrayRef::cell_at-view_at-requires t c =
+    let a = at_node c.self.view_is c.self.invariant c.in-VarBinView.is in
+    let l = length-var_bin_view _ _ _ a.well_formed in
+    omega (arith, l, rw a.is at c.requires.in_range)
+
+pub array::ArrayRef::cell_at-returns-in-VarBinView : goal.array::ArrayRef::cell_at-returns-in-VarBinView
+array::ArrayRef::cell_at-returns-in-VarBinView t c =
+    let a = at_node c.self.view_is c.self.invariant c.in-VarBinView.is in
+    let l = length-var_bin_view _ _ _ a.well_formed in
+    rw a.is (c.view_at.ensures ∙ sym (row_at-var_bin_view _ _ _ a.well_formed c.args.row (omega (arith, l, rw a.is at c.requires.in_range))))
+
+pub array::ArrayRef::cell_at-piece_at-requires : goal.array::ArrayRef::cell_at-piece_at-requires
+array::ArrayRef::cell_at-piece_at-requires t c =
+    let a = at_node c.self.view_is c.self.invariant c.in-VarBin.is in
+    let l = length-var_bin _ _ _ _ a.well_formed in
+    let within : c.args.row + 1 < length (rows c.in-VarBin.offsets.value) = omega (arith, l, rw a.is at c.requires.in_range) in
+    (search rules, rw c.deref.ensures (a.well_formed.1.offsets_type, (within, a.well_formed.1.ends)))
+
+pub array::ArrayRef::cell_at-returns-in-VarBin : goal.array::ArrayRef::cell_at-returns-in-VarBin
+array::ArrayRef::cell_at-returns-in-VarBin t c =
+    let a = at_node c.self.view_is c.self.invariant c.in-VarBin.is in
+    let l = length-var_bin _ _ _ _ a.well_formed in
+    let within : c.args.row < length (rows c.in-VarBin.offsets.value) - 1 = omega (arith, l, rw a.is at c.requires.in_range) in
+    rw a.is (rw c.deref.ensures at c.piece_at.ensures ∙ sym (row_at-var_bin _ _ _ _ a.well_formed c.args.row within))
 
 pub array::ArrayRef::cell_at-primitive_at-requires : goal.array::ArrayRef::cell_at-primitive_at-requires
 array::ArrayRef::cell_at-primitive_at-requires t c =
@@ -51,7 +87,7 @@ array::ArrayRef::cell_at-moved_at-requires-clause-held t c =
     let encoded = c.in-FoR.encoded.value in
     let a = at_node c.self.view_is c.self.invariant c.in-FoR.is in
     let within : c.args.row < length (rows encoded) = omega (arith, length-frame_of_reference encoded c.in-FoR.reference, rw a.is at c.requires.in_range) in
-    let read = c.cell_at.ensures ∙ ap (λ t. row_at (rows t) c.args.row) c.deref-in-FoR.ensures in
+    let read = c.cell_at-in-FoR.ensures ∙ ap (λ t. row_at (rows t) c.args.row) c.deref-in-FoR.ensures in
     subst IsWord (sym read) (word-difference encoded c.in-FoR.reference c.args.row a.well_formed within)
 
 pub array::ArrayRef::cell_at-unzigzagged_at-requires : goal.array::ArrayRef::cell_at-unzigzagged_at-requires
@@ -61,6 +97,13 @@ array::ArrayRef::cell_at-unzigzagged_at-requires t c =
     let within : c.args.row < length (rows encoded) = omega (arith, length-zig_zag encoded, rw a.is at c.requires.in_range) in
     let read = c.cell_at-in-ZigZag.ensures ∙ ap (λ t. row_at (rows t) c.args.row) c.deref-in-ZigZag.ensures in
     subst IsWord (sym read) (word-encoded encoded c.args.row a.well_formed within)
+
+-- ---- the bytes of a row
+
+pub node::var_bin::piece-part-requires : goal.node::var_bin::piece-part-requires
+node::var_bin::piece-part-requires t c =
+    let s = offset_step (length c.args.bytes.now) (rows c.args.offsets.now) c.args.row c.requires.ends c.requires.in_range in
+    record { rising = omega (arith, s.rising, c.offset_at-start.ensures, c.offset_at-end.ensures); within = omega (arith, s.within, c.offset_at-end.ensures, ap length c.as_slice.ensures) }
 
 -- ---- the patch of a row
 

@@ -146,7 +146,7 @@ fn known_patches(patches: &Option<Patches>)
 
 // The patch of a row, where there is one.
 #[cycle(cell_at)]
-fn patch_at(patches: &Option<Box<Patches>>, row: u64) -> Option<Cell>
+fn patch_at(patches: &Option<Box<Patches>>, row: u64) -> Option<Cell<'_>>
     ensures { (k : PlainPacked) → unwrap_or (option_map cell_value result) (packed_at k row) ≡ packed_or_patch k (unboxed patches.now) row }
 {
     match patches {
@@ -157,13 +157,13 @@ fn patch_at(patches: &Option<Box<Patches>>, row: u64) -> Option<Cell>
 
 // A row: null where it isn't valid, else its patch, or its bits where it has none.
 #[cycle(cell_at)]
-pub(crate) fn unpacked_at(
+pub(crate) fn unpacked_at<'a>(
     width: u32,
     packed: &Bytes,
     valid: &Option<Mask>,
-    patches: &Option<Box<Patches>>,
+    patches: &'a Option<Box<Patches>>,
     row: u64,
-) -> Cell
+) -> Cell<'a>
     requires narrow { width ≤ 64 }
     requires block { packed_size width (row + 1) ≤ length packed.now }
     ensures { (k : PlainPacked) → k.width ≡ width → k.bytes ≡ packed.now → cell_value result ≡ (if is_valid_at valid.now row then packed_or_patch k (unboxed patches.now) row else null) }

@@ -1,11 +1,14 @@
 //! One scalar in every row.
 
 ghost use Rattle.std.specs.List.{list_any};
-ghost use Rattle.std.specs.Prelude.{◌≡◌, replicate, ◌<◌, ◌+◌, ◌^◌};
+ghost use Rattle.std.specs.Prelude.{◌≡◌, replicate, ◌<◌, ◌≤◌, ◌+◌, ◌^◌, IsTrue, if◌then◌else◌};
 ghost use Rattle.vx_array.specs.IsDecoded.{IsDecoded};
 ghost use Rattle.vx_array.specs.TreeOf.{tree_of};
 ghost use Rattle.vx_base.specs.Answers.{Answers, OrMemory};
+ghost use Rattle.vx_base.specs.Integers.{bytes_of};
+ghost use Rattle.vx_base.specs.PlainType.{is_flat, is_integer, integer_of};
 ghost use Rattle.vx_base.specs.PlainValue.{is_null};
+ghost use Rattle.vx_base.specs.TypeOf.{type_of};
 ghost use Rattle.vx_model.specs.Extents.{extents_fit};
 ghost use Rattle.vx_model.specs.Plain.{validity};
 ghost use Rattle.vx_model.specs.Size.{payload};
@@ -14,7 +17,7 @@ ghost use Rattle.vx_model.specs.Tree.{constant};
 use crate::array::{ArrayRef, Node};
 use crate::sizes::is_few;
 use std::alloc::Global;
-use vx_base::{DType, Mask, Scalar, VortexResult};
+use vx_base::{DType, Mask, Scalar, Value, VortexResult};
 use vx_values::{Decoded, Values};
 
 impl ArrayRef {
@@ -40,16 +43,28 @@ pub(crate) fn constant_has_null(value: &Scalar, len: u64) -> bool
     value.is_null() && len > 0
 }
 
-// The bytes of the value's type, none of null.
+// The bytes of the value, none of null.
 fn payload_bytes(scalar: &Scalar) -> u128
     ensures value { result ≡ payload scalar.now.dtype scalar.now.value }
     ensures small { result < 2 ^ 64 }
 {
-    if scalar.is_null() {
-        return 0;
+    match scalar.value() {
+        Value::Null => 0,
+        Value::Bool(_) => 1,
+        Value::Int(_) => whole_bytes(scalar.dtype()),
+        Value::Bytes(bytes) => u128::from(bytes.len()),
     }
-    match scalar.dtype() {
-        DType::Primitive(ptype, _) => u128::from(ptype.byte_width()),
+}
+
+// The bytes of a whole number: those of an integer type, 8 of a timestamp.
+fn whole_bytes(dtype: &DType) -> u128
+    ensures value { result ≡ (if is_integer (type_of dtype.now) then bytes_of (integer_of (type_of dtype.now)) else 8) }
+    ensures small { result ≤ 8 }
+{
+    if dtype.is_integer() {
+        u128::from(dtype.ptype().byte_width())
+    } else {
+        8
     }
 }
 
@@ -66,7 +81,11 @@ pub(crate) fn constant_extents_fit(value: &Scalar, len: u64) -> bool
     ensures { result ≡ extents_fit (constant value.now len) }
 {
     match value.dtype() {
-        DType::Primitive(_, _) => is_few(len),
+        DType::Bool(_)
+        | DType::Primitive(_, _)
+        | DType::Utf8(_)
+        | DType::Binary(_)
+        | DType::Timestamp(_, _) => is_few(len),
     }
 }
 
@@ -90,6 +109,7 @@ fn validity_of_constant(alloc: Global, value: &Scalar, len: u64) -> VortexResult
 
 // The rows.
 pub(crate) fn decoded_constant(alloc: Global, value: &Scalar, len: u64) -> VortexResult<Decoded>
+    requires { IsTrue (is_flat value.now.dtype) }
     ensures { OrMemory result (λ rows. IsDecoded (constant value.now len) rows) }
 {
     let values = Values::filled(alloc, value, len)?;

@@ -5,7 +5,7 @@ ghost use Rattle.std.specs.Prelude.{◌≡◌, IsTrue, MatchResult, true, length
 ghost use Rattle.vx_array.specs.TreeOf.{tree_of};
 ghost use Rattle.vx_base.specs.Answers.{Makes, OrMemory};
 ghost use Rattle.vx_base.specs.CellValue.{cell_value};
-ghost use Rattle.vx_base.specs.PlainType.{is_integer, is_leaf};
+ghost use Rattle.vx_base.specs.PlainType.{is_flat, is_integer};
 ghost use Rattle.vx_base.specs.PlainValue.{cell};
 ghost use Rattle.vx_model.specs.Decoded.{zeroed_by, picked};
 ghost use Rattle.vx_model.specs.Refusals.{dict_refusal, validity_length};
@@ -26,7 +26,7 @@ use vx_values::{Decoded, Ints, valid_codes};
 impl ArrayRef {
     /// The value at each code's place in `values`; null where the code or that value is. Child 0: `codes`, as many
     /// rows; child 1: `values`. The type is the values', nullable where the values or the codes are. Refuses
-    /// MismatchedTypes where the codes are no integers or the values not of a leaf type, then OutOfBounds where a code
+    /// MismatchedTypes where the codes are no integers or the values not of a leaf or timestamp type, then OutOfBounds where a code
     /// that isn't null is no place of a value.
     pub fn dict(alloc: Global, codes: ArrayRef, values: ArrayRef) -> Made<(ArrayRef, ArrayRef)>
         ensures { Makes (dict_refusal codes values) (dict codes values) (codes, values) result }
@@ -95,7 +95,7 @@ impl ArrayRef {
 fn refusal(alloc: Global, codes: &ArrayRef, values: &ArrayRef) -> Option<VortexError>
     ensures { result ≡ dict_refusal codes.now values.now }
 {
-    if !codes.dtype().is_integer() || !values.dtype().is_leaf() {
+    if !codes.dtype().is_integer() || !values.dtype().is_flat() {
         return Some(VortexError::MismatchedTypes);
     }
     if !have_places(alloc, codes, values.len()) {
@@ -113,6 +113,7 @@ fn have_places(alloc: Global, codes: &ArrayRef, values: u64) -> bool
     if values == 0 {
         return codes.has_places(values);
     }
+    codes.known();
     match codes.decoded(alloc) {
         Ok(rows) => !rows.values.integers().has_outside(values),
         Err(_) => codes.has_places(values),
@@ -147,15 +148,15 @@ fn boxed(
 
 // The value whose place a code is, null where the code is null.
 #[cycle(cell_at)]
-pub(crate) fn picked_at(values: &ArrayRef, code: Cell) -> Cell
-    requires leaf { IsTrue (is_leaf (tree_type values.now)) }
+pub(crate) fn picked_at<'a>(values: &'a ArrayRef, code: Cell<'_>) -> Cell<'a>
+    requires flat { IsTrue (is_flat (tree_type values.now)) }
     requires place { IsTrue (is_place (length (rows values.now)) (cell_value code)) }
-    ensures { cell_value result ≡ looked_up (rows values.now) (cell_value code) }
+    ensures { cell_value result ≡ looked_up (rows values.now) (cell_value code.entry) }
 {
     let _places = values.len();
     match code {
         Cell::Int(place) => values.cell_at(place as u64),
-        Cell::Null => Cell::Null,
+        Cell::Null | Cell::Bool(_) | Cell::Bytes(_) => Cell::Null,
     }
 }
 

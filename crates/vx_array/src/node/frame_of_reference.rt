@@ -7,7 +7,7 @@ ghost use Rattle.vx_base.specs.CellValue.{cell_value};
 ghost use Rattle.vx_base.specs.Integers.{unsigned_of};
 ghost use Rattle.vx_base.specs.PlainScalar.{fits};
 ghost use Rattle.vx_base.specs.PlainType as types;
-ghost use Rattle.vx_base.specs.PlainType.{integer_of};
+ghost use Rattle.vx_base.specs.PlainType.{integer_of, is_integer};
 ghost use Rattle.vx_base.specs.PlainValue.{int, is_null};
 ghost use Rattle.vx_base.specs.declared.dtype.Nullability.TheVariants.{Nullable};
 ghost use Rattle.vx_base.specs.declared.ptype.PType.TheVariants.{U64};
@@ -77,10 +77,11 @@ fn refusal(encoded: &ArrayRef, reference: &Scalar) -> Option<VortexError>
 }
 
 // The row whose difference from the reference is given, null where it is null.
-pub(crate) fn moved_at(reference: &Scalar, difference: Cell) -> Cell
+pub(crate) fn moved_at(reference: &Scalar, difference: Cell<'_>) -> Cell<'static>
+    requires integer { IsTrue (is_integer reference.now.dtype) }
     requires not_null { is_null reference.now.value ≡ false }
     requires held { IsTrue (fits (types.primitive U64 Nullable) (cell_value difference)) }
-    ensures { cell_value result ≡ moved reference.now (cell_value difference) }
+    ensures { cell_value result ≡ moved reference.now (cell_value difference.entry) }
 {
     reference.known();
     match (reference.integer(), difference) {
@@ -105,6 +106,7 @@ pub(crate) fn copied_frame(
 
 // The sums of the reference and each difference.
 fn moved(alloc: Global, reference: &Scalar, differences: &Ints) -> VortexResult<Ints>
+    requires integer { IsTrue (is_integer reference.now.dtype) }
     requires not_null { is_null reference.now.value ≡ false }
     requires unsigned { ptype_of differences.now ≡ unsigned_of (integer_of reference.now.dtype) }
     ensures { OrMemory result (λ ints. (ptype_of ints ≡ integer_of reference.now.dtype) × (wholes_of ints ≡ map (summed reference.now) (wholes_of differences.now))) }
@@ -123,6 +125,7 @@ pub(crate) fn decoded_moved(
     valid: Option<Mask>,
     reference: &Scalar,
 ) -> VortexResult<Decoded>
+    requires integer { IsTrue (is_integer reference.now.dtype) }
     requires not_null { is_null reference.now.value ≡ false }
     requires unsigned { ptype_of differences ≡ unsigned_of (integer_of reference.now.dtype) }
     requires bits { validity_length valid (length (wholes_of differences)) ≡ true }

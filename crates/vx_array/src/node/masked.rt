@@ -4,7 +4,7 @@ ghost use Rattle.std.specs.Prelude.{◌≡◌, ◌<◌, ◌+◌, ◌-◌, ◌^�
 ghost use Rattle.vx_array.specs.TreeOf.{tree_of};
 ghost use Rattle.vx_base.specs.Answers.{Makes, OrMemory};
 ghost use Rattle.vx_base.specs.CellValue.{cell_value};
-ghost use Rattle.vx_base.specs.PlainType.{is_leaf};
+ghost use Rattle.vx_base.specs.PlainType.{is_flat};
 ghost use Rattle.vx_base.specs.PlainValue.{null};
 ghost use Rattle.vx_model.specs.Decoded.{zeroed};
 ghost use Rattle.vx_model.specs.Refusals.{masked_refusal, kept};
@@ -23,12 +23,12 @@ use vx_values::{Decoded, keep};
 
 impl ArrayRef {
     /// The child's rows, null where `valid` is false. Refuses MismatchedTypes where the child isn't of a nullable leaf
-    /// type, then LengthMismatch where the mask hasn't a bit a row, then MismatchedTypes where the child has a null row.
+    /// or timestamp type, then LengthMismatch where the mask hasn't a bit a row, then MismatchedTypes where the child has a null row.
     #[tactic(auto, using(crate::proofs::Making::masked_array))]
     pub fn masked(alloc: Global, child: ArrayRef, valid: Mask) -> Made<(ArrayRef, Mask)>
         ensures { Makes (masked_refusal child valid) (masked child valid) (child, valid) result }
     {
-        if !child.dtype().is_leaf() || !child.dtype().is_nullable() {
+        if !child.dtype().is_flat() || !child.dtype().is_nullable() {
             return Err(Refused {
                 error: VortexError::MismatchedTypes,
                 inputs: (child, valid),
@@ -73,8 +73,8 @@ impl ArrayRef {
 
 // The child's row, null where the mask is false.
 #[cycle(cell_at)]
-pub(crate) fn masked_at(child: &ArrayRef, valid: &Mask, row: u64) -> Cell
-    requires leaf { IsTrue (is_leaf (tree_type child.now)) }
+pub(crate) fn masked_at<'a>(child: &'a ArrayRef, valid: &Mask, row: u64) -> Cell<'a>
+    requires flat { IsTrue (is_flat (tree_type child.now)) }
     requires in_range { row < length (rows child.now) }
     ensures { cell_value result ≡ (if slice_index_or valid.now row false then row_at (rows child.now) row else null) }
 {

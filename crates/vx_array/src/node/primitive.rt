@@ -1,6 +1,6 @@
 //! Integers, row by row.
 
-ghost use Rattle.std.specs.Prelude.{◌≡◌, ◌<◌, length, slice_index_or, map, pos, true, if◌then◌else◌, ◌+◌, ◌*◌};
+ghost use Rattle.std.specs.Prelude.{◌≡◌, ◌<◌, length, None, slice_index_or, map, pos, true, if◌then◌else◌, ◌+◌, ◌*◌};
 ghost use Rattle.vx_array.specs.TreeOf.{tree_of};
 ghost use Rattle.vx_base.specs.Answers.{MakesSurely, OrMemory};
 ghost use Rattle.vx_base.specs.CellValue.{cell_value};
@@ -24,7 +24,6 @@ use vx_values::{Decoded, Ints, Values, copy_validity, has_length, is_allowed, is
 impl ArrayRef {
     /// A tree of integers, null where `valid` is false. Refuses LengthMismatch where the mask hasn't a bit a row, then
     /// MismatchedTypes where it has a false in a non-nullable node.
-    #[tactic(auto, using(crate::proofs::Making::primitive_array))]
     pub fn primitive(
         values: Ints,
         valid: Option<Mask>,
@@ -32,27 +31,51 @@ impl ArrayRef {
     ) -> Made<(Ints, Option<Mask>)>
         ensures { MakesSurely (primitive_refusal (length (wholes_of values)) valid nullability) (primitive (ptype_of values) (wholes_of values) (kept valid) nullability) (values, valid) result }
     {
+        match flat_refusal(values.len(), &valid, nullability) {
+            Some(error) => Err(Refused {
+                error,
+                inputs: (values, valid),
+            }),
+            None => Ok(ArrayRef::primitive_of(values, valid, nullability)),
+        }
+    }
+
+    // The same of validity that is known to be admitted.
+    #[tactic(auto, using(crate::proofs::Making::primitive_array))]
+    pub(crate) fn primitive_of(
+        values: Ints,
+        valid: Option<Mask>,
+        nullability: Nullability,
+    ) -> ArrayRef
+        requires { primitive_refusal (length (wholes_of values)) valid nullability ≡ None }
+        ensures { result ≡ primitive (ptype_of values) (wholes_of values) (kept valid) nullability }
+    {
         let len = values.len();
-        if !has_length(&valid, len) {
-            return Err(Refused {
-                error: VortexError::LengthMismatch,
-                inputs: (values, valid),
-            });
-        }
-        if !is_allowed(&valid, nullability) {
-            return Err(Refused {
-                error: VortexError::MismatchedTypes,
-                inputs: (values, valid),
-            });
-        }
         values.known();
         let own_type = Some(DType::primitive(values.ptype(), nullability));
-        Ok(ArrayRef {
+        ArrayRef {
             node: Node::Primitive(values, keep(valid), nullability),
             own_type,
             len,
-        })
+        }
     }
+}
+
+// Why a node of so many values isn't made with this validity.
+pub(crate) fn flat_refusal(
+    len: u64,
+    valid: &Option<Mask>,
+    nullability: Nullability,
+) -> Option<VortexError>
+    ensures { result ≡ primitive_refusal len valid.now nullability }
+{
+    if !has_length(valid, len) {
+        return Some(VortexError::LengthMismatch);
+    }
+    if !is_allowed(valid, nullability) {
+        return Some(VortexError::MismatchedTypes);
+    }
+    None
 }
 
 // The rows.
@@ -70,7 +93,7 @@ pub(crate) fn decoded_primitive(
 }
 
 // The integer in a row, null where the row isn't valid.
-pub(crate) fn primitive_at(values: &Ints, valid: &Option<Mask>, row: u64) -> Cell
+pub(crate) fn primitive_at(values: &Ints, valid: &Option<Mask>, row: u64) -> Cell<'static>
     requires { row < length (wholes_of values.now) }
     ensures { cell_value result ≡ (if is_valid_at valid.now row then int (slice_index_or (wholes_of values.now) row (pos 0)) else null) }
 {

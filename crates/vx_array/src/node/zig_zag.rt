@@ -55,13 +55,13 @@ impl ArrayRef {
 }
 
 // The row whose zigzag is given, null where it is null.
-pub(crate) fn unzigzagged_at(word: Cell) -> Cell
+pub(crate) fn unzigzagged_at(word: Cell<'_>) -> Cell<'static>
     requires { IsTrue (fits (types.primitive U64 Nullable) (cell_value word)) }
-    ensures { cell_value result ≡ unzigzagged (cell_value word) }
+    ensures { cell_value result ≡ unzigzagged (cell_value word.entry) }
 {
     match word {
         Cell::Int(word) => Cell::Int(i128::from(unzigzag(word as u64))),
-        Cell::Null => Cell::Null,
+        Cell::Null | Cell::Bool(_) | Cell::Bytes(_) => Cell::Null,
     }
 }
 

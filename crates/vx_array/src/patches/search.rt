@@ -30,6 +30,7 @@ impl Patches {
 
     // A look for the patch with an index, at the middle of the places from `low` to before `high`.
     #[cycle(cell_at)]
+    #[tactic(auto, using(crate::proofs::Flat::flats))]
     fn look(&self, wanted: u128, low: u64, high: u64) -> Look
         requires some { low < high }
         requires within { high ≤ length (rows self.now.indices) }
@@ -91,7 +92,8 @@ impl Patches {
 
     // The row's patch, where there is one.
     #[cycle(cell_at)]
-    pub(crate) fn cell_at(&self, row: u64) -> Option<Cell>
+    #[tactic(auto, using(crate::proofs::Flat::flats))]
+    pub(crate) fn cell_at(&self, row: u64) -> Option<Cell<'_>>
         ensures { (fill : PlainValue) → unwrap_or (option_map cell_value result) fill ≡ patched (rows self.now.indices) (rows self.now.values) fill (self.now.offset + row) }
     {
         let place = self.place_of(row)?;

@@ -2,22 +2,27 @@
 
 ghost use Rattle.std.specs.Prelude.{◌≡◌};
 ghost use Rattle.vx_base.specs.Answers.{Answers, Decided};
-ghost use Rattle.vx_base.specs.Casts.{cast_refusal, null_or_default};
+ghost use Rattle.vx_base.specs.Casts.{is_cast, cast_refusal, null_or_default};
 ghost use Rattle.vx_base.specs.PlainScalar.{scalar};
+ghost use Rattle.vx_base.specs.PlainType.{same_base};
 ghost use Rattle.vx_base.specs.TypeOf.{type_of, value_of};
 
 use super::{Scalar, fits};
 use crate::dtype::DType;
 use crate::error::{VortexError, VortexResult};
+use crate::items::Bytes;
 use crate::value::Value;
 use std::alloc::Global;
 
 impl Scalar {
-    /// The same value in another type: the same whole number, or null. Refuses CastRefused where
-    /// the type doesn't hold the number, and where null is none of its values.
+    /// The same value in another type of its base, or the same whole number in another integer type. Refuses
+    /// MismatchedTypes at any other type, and CastRefused where the type doesn't hold the number or null.
     pub fn cast(&self, alloc: Global, dtype: &DType) -> VortexResult<Scalar>
         ensures { Decided (cast_refusal self.now.dtype (type_of dtype.now) self.now.value) (λ s. s ≡ scalar (type_of dtype.now) self.now.value) result }
     {
+        if !is_cast(&self.dtype, dtype) {
+            return Err(VortexError::MismatchedTypes);
+        }
         if !fits(dtype, &self.value) {
             return Err(VortexError::CastRefused);
         }
@@ -26,27 +31,41 @@ impl Scalar {
         Ok(Scalar { dtype, value })
     }
 
-    /// The type's default: null where it is nullable, else zero.
+    /// The type's default: null where it is nullable, else false, 0 or empty.
+    #[tactic(auto, using(crate::proofs::FitLemmas::fitting))]
     pub fn default_value(alloc: Global, dtype: &DType) -> VortexResult<Scalar>
         ensures { Answers result (scalar (type_of dtype.now) (null_or_default (type_of dtype.now))) }
     {
         let dtype = dtype.copy(alloc)?;
-        let value = null_or_default(&dtype);
+        let value = null_or_default(alloc, &dtype);
         Ok(Scalar { dtype, value })
     }
 }
 
+// Whether values of the first type are cast to the second.
+fn is_cast(from: &DType, to: &DType) -> bool
+    ensures { result ≡ is_cast (type_of from.now) (type_of to.now) }
+{
+    (from.is_integer() && to.is_integer()) || has_base(from, to)
+}
+
+// Whether the two types have one base.
+fn has_base(from: &DType, to: &DType) -> bool
+    ensures { result ≡ same_base (type_of from.now) (type_of to.now) }
+{
+    from.same_base(to)
+}
+
 // The value that stands where a type's column has none.
-fn null_or_default(dtype: &DType) -> Value
+fn null_or_default(alloc: Global, dtype: &DType) -> Value
     ensures { value_of result ≡ null_or_default (type_of dtype.now) }
 {
+    if dtype.is_nullable() {
+        return Value::Null;
+    }
     match dtype {
-        DType::Primitive(_, nullability) => {
-            if nullability.allows_null() {
-                Value::Null
-            } else {
-                Value::Int(0)
-            }
-        }
+        DType::Bool(_) => Value::Bool(false),
+        DType::Primitive(_, _) | DType::Timestamp(_, _) => Value::Int(0),
+        DType::Utf8(_) | DType::Binary(_) => Value::Bytes(Bytes::new_in(alloc)),
     }
 }

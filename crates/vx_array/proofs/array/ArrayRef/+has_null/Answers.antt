@@ -2,18 +2,37 @@ use Rattle.std.proofs.Common.{◌∙◌, sym, ap}
 use Rattle.std.specs.List.{list_any}
 use Rattle.vx_base.specs.PlainValue.{is_null}
 use Rattle.vx_model.specs.Rows.{rows}
+use Rattle.vx_model.proofs.BoolLemmas.{any_null-bool}
 use Rattle.vx_model.proofs.DictDecodeLemmas.{any_null-codes, any_null-dict}
 use Rattle.vx_model.proofs.NullLemmas.{any_null-primitive}
 use Rattle.vx_model.proofs.PackedDecodeLemmas.{any_null-frame_of_reference}
 use Rattle.vx_model.proofs.PackedOfLemmas.{any_null-packed_of}
+use Rattle.vx_model.proofs.VarBinLemmas.{any_null-var_bin}
+use Rattle.vx_model.proofs.ViewLemmas.{any_null-var_bin_view}
 use Rattle.vx_model.proofs.ZigZagLemmas.{any_null-zig_zag}
 use Rattle.vx_array.proofs.AtNode.{at_node}
+use Rattle.vx_array.proofs.Flat.{flat_type}
 use Rattle.vx_array.proofs.array.ArrayRef.+has_null.Goals as goal
+
+pub returns-in-Bool : goal.returns-in-Bool
+returns-in-Bool t c =
+    let a = at_node c.self.view_is c.self.invariant c.in-Bool.is in
+    rw a.is (c.is_some.ensures ∙ sym (any_null-bool _ _ _ a.well_formed))
 
 pub returns-in-Primitive : goal.returns-in-Primitive
 returns-in-Primitive t c =
     let a = at_node c.self.view_is c.self.invariant c.in-Primitive.is in
-    rw a.is (c.is_some.ensures ∙ sym (any_null-primitive _ _ _ _ a.well_formed))
+    rw a.is (c.is_some-in-Primitive.ensures ∙ sym (any_null-primitive _ _ _ _ a.well_formed))
+
+pub returns-in-VarBinView : goal.returns-in-VarBinView
+returns-in-VarBinView t c =
+    let a = at_node c.self.view_is c.self.invariant c.in-VarBinView.is in
+    rw a.is (c.is_some-in-VarBinView.ensures ∙ sym (any_null-var_bin_view _ _ _ a.well_formed))
+
+pub returns-in-VarBin : goal.returns-in-VarBin
+returns-in-VarBin t c =
+    let a = at_node c.self.view_is c.self.invariant c.in-VarBin.is in
+    rw a.is (c.is_some-in-VarBin.ensures ∙ sym (any_null-var_bin _ _ _ _ a.well_formed))
 
 pub returns-in-BitPacked : goal.returns-in-BitPacked
 returns-in-BitPacked t c =
@@ -23,7 +42,7 @@ returns-in-BitPacked t c =
 pub returns-in-FoR : goal.returns-in-FoR
 returns-in-FoR t c =
     let a = at_node c.self.view_is c.self.invariant c.in-FoR.is in
-    rw a.is (c.has_null.ensures ∙ ap (λ t. list_any is_null (rows t)) c.deref.ensures ∙ sym (any_null-frame_of_reference c.in-FoR.encoded.value c.in-FoR.field-1))
+    rw a.is (c.has_null-in-FoR.ensures ∙ ap (λ t. list_any is_null (rows t)) c.deref-in-FoR.ensures ∙ sym (any_null-frame_of_reference c.in-FoR.encoded.value c.in-FoR.field-1))
 
 pub returns-in-ZigZag : goal.returns-in-ZigZag
 returns-in-ZigZag t c =
@@ -44,3 +63,6 @@ returns-else-has_null-2 t c =
     let none = ap (λ t. list_any is_null (rows t)) (sym c.deref-in-Dict.ensures) ∙ sym c.has_null-in-Dict.ensures ∙ c.if-has_null.false in
     let none_of_values = ap (λ t. list_any is_null (rows t)) (sym c.deref-else-has_null.ensures) ∙ sym c.has_null-else-has_null.ensures ∙ c.if-has_null-2.false in
     rw a.is (c.if-has_null-2.false ∙ sym (any_null-dict codes values a.well_formed none_of_values ∙ none))
+
+pub has_null_row-requires : goal.has_null_row-requires
+has_null_row-requires t c = flat_type _

@@ -1,22 +1,43 @@
-use Rattle.std.proofs.Common.{◌∙◌, ap}
+use Rattle.std.proofs.Common.{◌∙◌, ap, sym, refl, subst}
+use Rattle.vx_base.specs.Answers.{Answers}
 use Rattle.vx_base.specs.PlainType.{nullability_of}
-use Rattle.vx_base.proofs.MakesLemmas.{MakesSurely_ok, MakesSurely_err}
-use Rattle.vx_model.proofs.DecodeLemmas.{canonical_refusal, canonical_tree}
-use Rattle.vx_array.proofs.Decodings.{integers_of}
+use Rattle.vx_array.specs.AsType.{as_type}
+use Rattle.vx_array.proofs.Canonicals.{bool_of, view_of, ints_of}
 use Rattle.vx_array.proofs.array.ArrayRef.canonical.Goals as goal
 
-pub returns-in-Ok : goal.returns-in-Ok
-returns-in-Ok c =
-    let t = c.args.self.now in
-    let parts = c.into_integers-values in
-    let rows = integers_of t c.in_ok-decoded.field-0 parts.result.0 parts.result.1 parts.ensures.values parts.ensures.valid c.in_ok-decoded.ensures in
-    let nullability = c.nullability.ensures ∙ ap nullability_of c.dtype.ensures in
-    MakesSurely_ok _ _ _ _ c.in-Ok.ensures ∙ canonical_tree t _ _ _ rows.wholes rows.bits nullability _ rows.ptype
+pub bool_of-requires : goal.bool_of-requires
+bool_of-requires c =
+    let d = c.in_ok-values.field-0 in
+    let nullability = c.nullability.ensures ∙ ap nullability_of c.dtype-dtype.ensures in
+    (bool_of c.args.self.now d c.in-Bits.bits d.valid c.nullability.result c.known.ensures (sym c.in-Bits.is) refl nullability c.in_ok-values.ensures).admitted
 
-pub returns-in-Err : goal.returns-in-Err
-returns-in-Err c =
-    let t = c.args.self.now in
-    let parts = c.into_integers-values in
-    let rows = integers_of t c.in_ok-decoded.field-0 parts.result.0 parts.result.1 parts.ensures.values parts.ensures.valid c.in_ok-decoded.ensures in
-    let nullability = c.nullability.ensures ∙ ap nullability_of c.dtype.ensures in
-    absurd (MakesSurely_err _ _ _ _ (canonical_refusal t _ _ _ rows.wholes rows.bits nullability c.known.ensures) c.in-Err.ensures)
+pub returns-in-Bits : goal.returns-in-Bits
+returns-in-Bits c =
+    let d = c.in_ok-values.field-0 in
+    let nullability = c.nullability.ensures ∙ ap nullability_of c.dtype-dtype.ensures in
+    c.bool_of.ensures ∙ (bool_of c.args.self.now d c.in-Bits.bits d.valid c.nullability.result c.known.ensures (sym c.in-Bits.is) refl nullability c.in_ok-values.ensures).made
+
+pub primitive_of-integers-requires : goal.primitive_of-integers-requires
+primitive_of-integers-requires c =
+    let d = c.in_ok-values.field-0 in
+    let nullability = c.nullability-in-Ints.ensures ∙ ap nullability_of c.dtype-dtype.ensures in
+    (ints_of c.args.self.now d c.in-Ints.ints d.valid c.nullability-in-Ints.result c.known.ensures (sym c.in-Ints.is) refl nullability c.in_ok-values.ensures).admitted
+
+pub returns-in-Ints : goal.returns-in-Ints
+returns-in-Ints c =
+    let d = c.in_ok-values.field-0 in
+    let nullability = c.nullability-in-Ints.ensures ∙ ap nullability_of c.dtype-dtype.ensures in
+    let own = ints_of c.args.self.now d c.in-Ints.ints d.valid c.nullability-in-Ints.result c.known.ensures (sym c.in-Ints.is) refl nullability c.in_ok-values.ensures in
+    subst (λ tree. Answers c.as_type.result tree) ((λ i. as_type (c.dtype-dtype.ensures i) (c.primitive_of-integers.ensures i)) ∙ own.made) c.as_type.ensures
+
+pub view_of-requires : goal.view_of-requires
+view_of-requires c =
+    let d = c.in_ok-values.field-0 in
+    let typed = c.in_ok-copy-in-Bytes.ensures ∙ c.dtype-dtype.ensures in
+    (view_of c.args.self.now d c.in-Bytes.rows d.valid _ c.known.ensures (sym c.in-Bytes.is) refl typed c.in_ok-values.ensures).admitted
+
+pub returns-in_ok-copy-in-Bytes : goal.returns-in_ok-copy-in-Bytes
+returns-in_ok-copy-in-Bytes c =
+    let d = c.in_ok-values.field-0 in
+    let typed = c.in_ok-copy-in-Bytes.ensures ∙ c.dtype-dtype.ensures in
+    c.view_of.ensures ∙ (view_of c.args.self.now d c.in-Bytes.rows d.valid _ c.known.ensures (sym c.in-Bytes.is) refl typed c.in_ok-values.ensures).made

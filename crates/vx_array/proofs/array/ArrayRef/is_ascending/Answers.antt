@@ -1,5 +1,4 @@
 use Rattle.std.proofs.Common.{◌≡◌, ◌<◌, ◌≤◌, ◌+◌, ◌∙◌, ℕ, List, length, drop, refl, arith, sym, ap, Some}
-use Rattle.std.specs.Prelude.{nat_lt, nat_le}
 use Rattle.std.proofs.lemmas.Bool.{le-leb, lt-ltb}
 use Rattle.vx_base.specs.PlainValue.{PlainValue}
 use Rattle.vx_model.specs.Rows.{rows, row_at, index_of}

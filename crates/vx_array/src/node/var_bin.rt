@@ -1,0 +1,240 @@
+//! Texts and binaries, by their offsets into bytes.
+
+mod offsets;
+
+ghost use Rattle.std.specs.List.{list_all};
+ghost use Rattle.std.specs.Prelude.{◌≡◌, ◌<◌, ◌≤◌, ◌+◌, ◌-◌, ◌^◌, ◌&&◌, IsTrue, not, length, map, min, nat_le, true, [], if◌then◌else◌};
+ghost use Rattle.vx_array.specs.TreeOf.{tree_of};
+ghost use Rattle.vx_base.specs.Answers.{Makes, OrMemory};
+ghost use Rattle.vx_base.specs.CellValue.{cell_value};
+ghost use Rattle.vx_base.specs.Masks.{rows_between};
+ghost use Rattle.vx_base.specs.PlainScalar.{fits};
+ghost use Rattle.vx_base.specs.PlainType.{is_bytes, is_integer, is_nullable};
+ghost use Rattle.vx_base.specs.PlainValue as plain;
+ghost use Rattle.vx_base.specs.PlainValue.{int, null, is_short};
+ghost use Rattle.vx_base.specs.TypeOf.{type_of};
+ghost use Rattle.vx_model.specs.Decoded.{zeroed_by};
+ghost use Rattle.vx_model.specs.Extents.{row_limit};
+ghost use Rattle.vx_model.specs.Refusals.{var_bin_refusal, validity_length, kept};
+ghost use Rattle.vx_model.specs.Rows.{rows, cut_at, is_valid_at, offset_at, valid_rows};
+ghost use Rattle.vx_model.specs.Size.{validity_size};
+ghost use Rattle.vx_model.specs.Tree.{var_bin};
+ghost use Rattle.vx_model.specs.TreeType.{tree_type};
+ghost use Rattle.vx_model.specs.WellFormed.{are_offsets};
+ghost use Rattle.vx_values.specs.IntsOf.{wholes_of};
+ghost use Rattle.vx_values.specs.ValuesOf.{byte_rows, AreRows};
+
+use super::texts::{fits, is_short};
+use crate::array::{ArrayRef, Node};
+use crate::node::Made;
+use crate::sizes::{is_few, validity_bytes};
+use offsets::{are_offsets, offset_at};
+use std::alloc::Global;
+use vx_base::{Bytes, Cell, DType, Mask, Refused, VortexError, VortexResult};
+use vx_values::{
+    Decoded, Ints, Values, byte_rows, copy_validity, has_length, is_allowed, is_valid, keep,
+};
+
+impl ArrayRef {
+    /// Texts or binaries, in each row the bytes from its offset to the next one, null where `valid` is false; beneath
+    /// nulls any bytes may stand. Child 0: `offsets`, one more than there are rows.
+    ///
+    /// Refuses MismatchedTypes where the offsets aren't non-nullable integers or the type is none of texts or binaries;
+    /// then LengthMismatch where there is no offset or the mask hasn't a bit a row; then OutOfBounds where the offsets
+    /// don't begin at 0, fall, or don't end at the bytes' length; then ValueTooLong where a value has 2^32 bytes or
+    /// more; then MismatchedTypes where the mask has a false in a non-nullable node, or a valid row of texts isn't
+    /// UTF-8.
+    #[tactic(auto, using(crate::proofs::Making::var_bin_array))]
+    pub fn var_bin(
+        alloc: Global,
+        offsets: ArrayRef,
+        bytes: Bytes,
+        valid: Option<Mask>,
+        dtype: DType,
+    ) -> Made<(ArrayRef, Bytes, Option<Mask>, DType)>
+        ensures { Makes (var_bin_refusal offsets bytes valid (type_of dtype)) (var_bin offsets bytes (kept valid) (type_of dtype)) (offsets, bytes, valid, dtype) result }
+    {
+        if let Some(error) = refusal(&offsets, &bytes, &valid, &dtype) {
+            return Err(Refused {
+                error,
+                inputs: (offsets, bytes, valid, dtype),
+            });
+        }
+        let len = row_count(&offsets);
+        offsets.known();
+        match Box::new(alloc, offsets) {
+            Ok(offsets) => Ok(ArrayRef {
+                node: Node::VarBin(offsets, bytes, keep(valid), dtype),
+                own_type: None,
+                len,
+            }),
+            Err(failed) => Err(Refused {
+                error: VortexError::NoMemory,
+                inputs: (failed.value, bytes, valid, dtype),
+            }),
+        }
+    }
+}
+
+// Why the node isn't made of these.
+fn refusal(
+    offsets: &ArrayRef,
+    bytes: &Bytes,
+    valid: &Option<Mask>,
+    dtype: &DType,
+) -> Option<VortexError>
+    ensures { result ≡ var_bin_refusal offsets.now bytes.now valid.now (type_of dtype.now) }
+{
+    if !are_integers(offsets.dtype()) || !dtype.is_bytes() {
+        return Some(VortexError::MismatchedTypes);
+    }
+    if offsets.len() == 0 || !has_length(valid, row_count(offsets)) {
+        return Some(VortexError::LengthMismatch);
+    }
+    if !are_offsets(offsets, bytes.len()) {
+        return Some(VortexError::OutOfBounds);
+    }
+    if !are_short(offsets, bytes) {
+        return Some(VortexError::ValueTooLong);
+    }
+    if !is_allowed(valid, dtype.nullability()) || !are_values(offsets, bytes, valid, dtype) {
+        return Some(VortexError::MismatchedTypes);
+    }
+    None
+}
+
+// Whether the type is one of non-nullable integers.
+fn are_integers(dtype: &DType) -> bool
+    ensures { result ≡ (is_integer (type_of dtype.now) && not (is_nullable (type_of dtype.now))) }
+{
+    dtype.is_integer() && !dtype.is_nullable()
+}
+
+// The rows between so many offsets.
+fn row_count(offsets: &ArrayRef) -> u64
+    ensures { result ≡ length (rows offsets.now) - 1 }
+{
+    offsets.len().saturating_sub(1)
+}
+
+// Whether each value is shorter than 2^32 bytes.
+fn are_short(offsets: &ArrayRef, bytes: &Bytes) -> bool
+    requires integers { IsTrue (is_integer (tree_type offsets.now)) }
+    requires ends { IsTrue (are_offsets (length bytes.now) (rows offsets.now)) }
+    ensures { result ≡ list_all is_short (cut_at (rows offsets.now) bytes.now) }
+{
+    for row in 0..row_count(offsets) {
+        if !is_short(piece(offsets, bytes, row)) {
+            return false;
+        }
+    }
+    true
+}
+
+// Whether each row is one of the type.
+fn are_values(offsets: &ArrayRef, bytes: &Bytes, valid: &Option<Mask>, dtype: &DType) -> bool
+    requires bytes { IsTrue (is_bytes (type_of dtype.now)) }
+    requires integers { IsTrue (is_integer (tree_type offsets.now)) }
+    requires ends { IsTrue (are_offsets (length bytes.now) (rows offsets.now)) }
+    requires lengths { validity_length valid.now (length (rows offsets.now) - 1) ≡ true }
+    ensures { result ≡ list_all (fits (type_of dtype.now)) (valid_rows (kept valid.now) (map plain.bytes (cut_at (rows offsets.now) bytes.now))) }
+{
+    for row in 0..row_count(offsets) {
+        if !fits(dtype, piece_at(offsets, bytes, valid, row)) {
+            return false;
+        }
+    }
+    true
+}
+
+// The bytes from a row's offset to the next one.
+#[cycle(cell_at)]
+fn piece<'a>(offsets: &ArrayRef, bytes: &'a Bytes, row: u64) -> &'a [u8]
+    requires integers { IsTrue (is_integer (tree_type offsets.now)) }
+    requires in_range { row + 1 < length (rows offsets.now) }
+    requires ends { IsTrue (are_offsets (length bytes.now) (rows offsets.now)) }
+    ensures { result.now ≡ rows_between bytes.now (offset_at (rows offsets.now) row) (offset_at (rows offsets.now) (row + 1)) }
+{
+    let _offsets = offsets.len();
+    let start = offset_at(offsets, row);
+    let end = offset_at(offsets, row + 1);
+    part(bytes.as_slice(), start, end)
+}
+
+// The bytes from a start to the one before an end.
+fn part(bytes: &[u8], start: u128, end: u128) -> &[u8]
+    requires rising { start ≤ end }
+    requires within { end ≤ length bytes.now }
+    ensures { result.now ≡ rows_between bytes.now start end }
+{
+    &bytes[start as usize..end as usize]
+}
+
+// The same, null where the row isn't valid.
+#[cycle(cell_at)]
+pub(crate) fn piece_at<'a>(
+    offsets: &ArrayRef,
+    bytes: &'a Bytes,
+    valid: &Option<Mask>,
+    row: u64,
+) -> Cell<'a>
+    requires integers { IsTrue (is_integer (tree_type offsets.now)) }
+    requires in_range { row + 1 < length (rows offsets.now) }
+    requires ends { IsTrue (are_offsets (length bytes.now) (rows offsets.now)) }
+    ensures { cell_value result ≡ (if is_valid_at valid.now row then plain.bytes (rows_between bytes.now (offset_at (rows offsets.now) row) (offset_at (rows offsets.now) (row + 1))) else null) }
+{
+    if is_valid(valid, row) {
+        Cell::Bytes(piece(offsets, bytes, row))
+    } else {
+        Cell::Null
+    }
+}
+
+// The bytes, by those of the offsets.
+pub(crate) fn var_bin_bytes(offsets: u128, bytes: &Bytes, valid: &Option<Mask>) -> u128
+    ensures { result ≡ min (offsets + length bytes.now + validity_size valid.now) (2 ^ 128 - 1) }
+{
+    let own = u128::from(bytes.len()) + validity_bytes(valid);
+    offsets.saturating_add(own)
+}
+
+// Whether the rows are few.
+pub(crate) fn var_bin_extents_fit(offsets: &ArrayRef) -> bool
+    ensures { result ≡ nat_le (length (rows offsets.now) - 1) row_limit }
+{
+    is_few(row_count(offsets))
+}
+
+// A copy, of a copy of the offsets.
+pub(crate) fn copied_var_bin(
+    alloc: Global,
+    offsets: ArrayRef,
+    bytes: &Bytes,
+    valid: &Option<Mask>,
+    dtype: &DType,
+) -> VortexResult<Node>
+    ensures { OrMemory result (λ copy. tree_of copy ≡ var_bin offsets bytes.now valid.now (type_of dtype.now)) }
+{
+    let offsets = Box::new(alloc, offsets)?;
+    let bytes = bytes.copy(alloc)?;
+    let valid = copy_validity(valid, alloc)?;
+    Ok(Node::VarBin(offsets, bytes, valid, dtype.copy(alloc)?))
+}
+
+// The rows, by the offsets.
+pub(crate) fn decoded_var_bin(
+    alloc: Global,
+    offsets: &Ints,
+    bytes: &Bytes,
+    valid: &Option<Mask>,
+) -> VortexResult<Decoded>
+    requires some { 1 ≤ length (wholes_of offsets.now) }
+    requires ends { IsTrue (are_offsets (length bytes.now) (map int (wholes_of offsets.now))) }
+    requires bits { validity_length valid.now (length (wholes_of offsets.now) - 1) ≡ true }
+    ensures { OrMemory result (AreRows byte_rows (map plain.bytes (zeroed_by [] valid.now (cut_at (map int (wholes_of offsets.now)) bytes.now))) valid.now) }
+{
+    let values = Values::Bytes(byte_rows::cut(alloc, bytes.as_slice(), offsets)?);
+    let values = values.zeroed_by(valid);
+    let valid = copy_validity(valid, alloc)?;
+    Ok(Decoded { values, valid })
+}

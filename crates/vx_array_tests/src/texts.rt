@@ -1,0 +1,135 @@
+//! Texts and binaries: in a list, by offsets, and by codes.
+
+use std::alloc::Global;
+use std::test::Fail;
+use vx_array::ArrayRef;
+use vx_base::Nullability::{NonNullable, Nullable};
+use vx_base::PType::{U8, U16};
+use vx_base::{ByteRows, Bytes, Cell, DType, VortexError, VortexResult};
+use vx_fixtures::{accepted, bits, flat, with_nulls};
+
+// Bytes of a slice.
+fn bytes(alloc: Global, items: &[u8]) -> VortexResult<Bytes> {
+    Ok(Bytes::from_vec(Vec::from_slice(alloc, items)?))
+}
+
+// Rows of slices.
+fn byte_rows(alloc: Global, rows: &[&[u8]]) -> VortexResult<ByteRows> {
+    let mut items = Vec::new(alloc);
+    for row in rows {
+        items.push(bytes(alloc, *row)?)?;
+    }
+    Ok(ByteRows::from_vec(items))
+}
+
+// Whether a row of texts or binaries has these bytes, None of a null.
+fn is_row(array: &ArrayRef, row: u64, bytes: Option<&[u8]>) -> bool {
+    if !array.dtype().is_flat() || row >= array.len() {
+        return false;
+    }
+    match (array.cell_at(row), bytes) {
+        (Cell::Bytes(own), Some(bytes)) => own == bytes,
+        (Cell::Null, None) => true,
+        _ => false,
+    }
+}
+
+#[test]
+fn values_of_more_than_12_bytes_stand_beside_their_16(rt: HostRuntime) -> Result<(), Fail> {
+    // What lies beneath the null is no text.
+    let rows = byte_rows(rt.alloc(), &[b"twelve bytes", b"\xff", b"thirteen byte"])?;
+    let valid = Some(bits(rt.alloc(), &[true, false, true])?);
+    let tree = accepted(ArrayRef::var_bin_view(rows, valid, DType::utf8(Nullable)))?;
+    assert!(rt; tree.nbytes() == 62 && !tree.is_plain());
+    let plain = tree.copy(rt.alloc())?.canonical(rt.alloc())?;
+    assert!(rt; plain.nbytes() == 62 && plain.is_plain());
+    assert!(rt; is_row(&plain, 0, Some(b"twelve bytes")) && is_row(&plain, 1, None));
+    assert!(rt; is_row(&plain, 2, Some(b"thirteen byte")));
+    Ok(())
+}
+
+#[test]
+fn only_binaries_are_any_bytes(rt: HostRuntime) -> Result<(), Fail> {
+    let rows = byte_rows(rt.alloc(), &[b"\xff"])?;
+    let Err(refused) = ArrayRef::var_bin_view(rows, None, DType::utf8(NonNullable)) else {
+        return Err(Fail::from("bytes that are no text"));
+    };
+    assert!(rt; matches!(refused.error, VortexError::MismatchedTypes));
+    let (rows, valid, _) = refused.inputs;
+    let tree = accepted(ArrayRef::var_bin_view(rows, valid, DType::binary(NonNullable)))?;
+    assert!(rt; is_row(&tree, 0, Some(b"\xff")));
+    Ok(())
+}
+
+#[test]
+fn values_by_their_offsets_are_made_plain(rt: HostRuntime) -> Result<(), Fail> {
+    let offsets = flat(rt.alloc(), U16, NonNullable, &[0, 2, 2, 5])?;
+    let valid = Some(bits(rt.alloc(), &[true, true, false])?);
+    let whole = bytes(rt.alloc(), b"abcde")?;
+    let tree = accepted(ArrayRef::var_bin(
+        rt.alloc(),
+        offsets,
+        whole,
+        valid,
+        DType::utf8(Nullable),
+    ))?;
+    assert!(rt; tree.nbytes() == 14 && tree.len() == 3 && is_row(&tree, 0, Some(b"ab")));
+    let plain = tree.copy(rt.alloc())?.canonical(rt.alloc())?;
+    assert!(rt; plain.is_plain() && plain.nbytes() == 49);
+    assert!(rt;
+        is_row(&plain, 0, Some(b"ab")) && is_row(&plain, 1, Some(b"")) && is_row(&plain, 2, None)
+    );
+    Ok(())
+}
+
+// Why such offsets are refused, if they are.
+fn refusal(alloc: Global, offsets: &[i128], whole: &[u8]) -> VortexResult<Option<VortexError>> {
+    let offsets = flat(alloc, U8, NonNullable, offsets)?;
+    let whole = bytes(alloc, whole)?;
+    match ArrayRef::var_bin(alloc, offsets, whole, None, DType::utf8(NonNullable)) {
+        Ok(_) => Ok(None),
+        Err(refused) => Ok(Some(refused.error)),
+    }
+}
+
+#[test]
+fn offsets_rise_from_0_to_the_end(rt: HostRuntime) -> Result<(), Fail> {
+    let alloc = rt.alloc();
+    assert!(rt; matches!(refusal(alloc, &[], b"")?, Some(VortexError::LengthMismatch)));
+    for offsets in [&[1, 2], &[0, 1], &[0, 3]] {
+        assert!(rt;
+            matches!(
+                refusal(alloc, offsets, b"ab")?,
+                Some(VortexError::OutOfBounds)
+            )
+        );
+    }
+    assert!(rt;
+        matches!(
+            refusal(alloc, &[0, 3, 2, 5], b"abcde")?,
+            Some(VortexError::OutOfBounds)
+        )
+    );
+    // One letter of two bytes is cut in half.
+    assert!(rt;
+        matches!(
+            refusal(alloc, &[0, 1, 2], b"\xc3\xa9")?,
+            Some(VortexError::MismatchedTypes)
+        )
+    );
+    assert!(rt; refusal(alloc, &[0, 0, 2], b"\xc3\xa9")?.is_none());
+    Ok(())
+}
+
+#[test]
+fn a_dictionary_of_texts_is_made_plain(rt: HostRuntime) -> Result<(), Fail> {
+    let rows = byte_rows(rt.alloc(), &[b"a", b"b", b"c"])?;
+    let values = accepted(ArrayRef::var_bin_view(rows, None, DType::utf8(NonNullable)))?;
+    let codes = with_nulls(rt.alloc(), U8, &[2, 0, 9], &[true, true, false])?;
+    let tree = accepted(ArrayRef::dict(rt.alloc(), codes, values))?;
+    assert!(rt; tree.nbytes() == 52 && is_row(&tree, 0, Some(b"c")));
+    let plain = tree.canonical(rt.alloc())?;
+    assert!(rt; plain.is_plain() && is_row(&plain, 0, Some(b"c")));
+    assert!(rt; is_row(&plain, 1, Some(b"a")) && is_row(&plain, 2, None));
+    Ok(())
+}

@@ -1,0 +1,36 @@
+//! Timestamps over their storage.
+
+use std::alloc::Global;
+use std::test::Fail;
+use vx_array::ArrayRef;
+use vx_base::PType::{I64, U64};
+use vx_base::{Refused, Text, TimeUnit, TimestampType, VortexError, VortexResult};
+use vx_fixtures::{accepted, with_nulls};
+
+// Seconds, as a zone has them.
+fn seconds(alloc: Global) -> VortexResult<TimestampType> {
+    let zone = Text::from_string(String::from_str(alloc, "UTC")?);
+    accepted(TimestampType::new(TimeUnit::Seconds, Some(zone)))
+}
+
+#[test]
+fn timestamps_are_copied_and_made_plain(rt: HostRuntime) -> Result<(), Fail> {
+    let storage = with_nulls(rt.alloc(), I64, &[5, -7], &[true, false])?;
+    let tree = accepted(ArrayRef::timestamp(rt.alloc(), storage, seconds(rt.alloc())?))?;
+    assert!(rt; tree.nbytes() == 17 && tree.num_children() == 1 && !tree.is_plain());
+    let plain = tree.copy(rt.alloc())?.canonical(rt.alloc())?;
+    assert!(rt; plain.is_plain() && plain.dtype() == tree.dtype() && plain.len() == 2);
+    assert!(rt; plain.cell_at(0).integer() == Some(5) && plain.cell_at(1).is_null());
+    Ok(())
+}
+
+#[test]
+fn other_integers_are_no_timestamps(rt: HostRuntime) -> Result<(), Fail> {
+    let storage = with_nulls(rt.alloc(), U64, &[5, 7], &[true, false])?;
+    let Err(refused) = ArrayRef::timestamp(rt.alloc(), storage, seconds(rt.alloc())?) else {
+        return Err(Fail::from("timestamps over u64"));
+    };
+    let Refused { error, inputs } = refused;
+    assert!(rt; matches!(error, VortexError::MismatchedTypes) && inputs.0.len() == 2);
+    Ok(())
+}

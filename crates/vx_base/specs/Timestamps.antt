@@ -1,0 +1,57 @@
+-- Kinds of timestamps: in what unit they count, and the name of a time zone where there is one.
+use Rattle.std.specs.Prelude.{◌≡◌, ℕ, ℤ, pos, List, Bool, Option, Some, None, is_some, cond, ◌==◌, refl}
+use Rattle.std.specs.Coded.{Coded}
+use Rattle.vx_base.specs.declared.timestamp.TimeUnit.{TimeUnit}
+use Rattle.vx_base.specs.declared.timestamp.TimeUnit.TheVariants.{Nanoseconds, Microseconds, Milliseconds, Seconds, Days}
+use Rattle.vx_base.specs.Storable.{Storable, code_of, stored_by, stored×, stored_option, stored_bytes}
+
+pub record PlainTimestamp : Type 0 where
+  pub unit : TimeUnit
+  pub zone : Option (List ℕ)
+
+abbrev pub kind : TimeUnit → Option (List ℕ) → PlainTimestamp
+kind u z = record { unit = u; zone = z }
+
+-- how many of the unit are a second; days are none of one
+abbrev pub divisor_of : TimeUnit → Option ℤ
+divisor_of Nanoseconds = Some (pos 1_000_000_000)
+divisor_of Microseconds = Some (pos 1_000_000)
+divisor_of Milliseconds = Some (pos 1_000)
+divisor_of Seconds = Some (pos 1)
+divisor_of Days = None
+
+-- a unit that divides a second
+abbrev pub divides : TimeUnit → Bool
+divides u = is_some (divisor_of u)
+
+-- ---- how the logic stores a kind
+abbrev pub unit_number : TimeUnit → ℕ
+unit_number Nanoseconds = 0
+unit_number Microseconds = 1
+unit_number Milliseconds = 2
+unit_number Seconds = 3
+unit_number Days = 4
+
+abbrev pub unit_at : ℕ → TimeUnit
+unit_at n = cond (n == 0) Nanoseconds (cond (n == 1) Microseconds (cond (n == 2) Milliseconds (cond (n == 3) Seconds Days)))
+
+pub unit_at-number : (u : TimeUnit) → unit_at (unit_number u) ≡ u
+unit_at-number Nanoseconds = refl
+unit_at-number Microseconds = refl
+unit_at-number Milliseconds = refl
+unit_at-number Seconds = refl
+unit_at-number Days = refl
+
+abbrev pub stored_parts : Storable (TimeUnit × Option (List ℕ))
+stored_parts = stored× (stored_by unit_number unit_at unit_at-number) (stored_option stored_bytes)
+
+abbrev pub stored_kind : Storable PlainTimestamp
+stored_kind =
+    record {
+      to = λ k. stored_parts.to (k.unit, k.zone);
+      from = λ g. let p = stored_parts.from g in kind p.0 p.1;
+      back = λ k i. let p = stored_parts.back (k.unit, k.zone) i in kind p.0 p.1;
+    }
+
+abbrev pub kind_code : Coded PlainTimestamp
+kind_code = code_of stored_kind

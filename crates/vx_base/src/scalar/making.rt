@@ -1,0 +1,122 @@
+//! Scalars from a value and its type.
+
+ghost use Rattle.std.specs.Prelude.{◌≡◌, None};
+ghost use Rattle.vx_base.specs.Answers.{SurelyDecided, MakesSurely, unless};
+ghost use Rattle.vx_base.specs.declared.error.VortexError.TheVariants.{MismatchedTypes, OutOfBounds, ValueTooLong};
+ghost use Rattle.vx_base.specs.Integers.{lies_in};
+ghost use Rattle.vx_base.specs.PlainScalar.{fits, scalar};
+ghost use Rattle.vx_base.specs.PlainType.{boolean, primitive, utf8, binary, timestamp, is_nullable};
+ghost use Rattle.vx_base.specs.PlainValue.{null, truth, int, bytes, is_short, has_short};
+ghost use Rattle.vx_base.specs.TypeOf.{type_of, value_of};
+
+use super::{Scalar, fits, has_short, is_held, is_short};
+use crate::dtype::{DType, Nullability};
+use crate::error::{Refused, VortexError, VortexResult};
+use crate::items::Bytes;
+use crate::ptype::PType;
+use crate::text::Text;
+use crate::timestamp::TimestampType;
+use crate::value::Value;
+
+impl Scalar {
+    /// A type and a value of it. Refuses ValueTooLong where the value has 2^32 bytes or more, then MismatchedTypes where it
+    /// isn't one of the type.
+    pub fn new(dtype: DType, value: Value) -> Result<Scalar, Refused<(DType, Value)>>
+        ensures { MakesSurely (unless (has_short (value_of value)) ValueTooLong (unless (fits (type_of dtype) (value_of value)) MismatchedTypes None)) (scalar (type_of dtype) (value_of value)) (dtype, value) result }
+    {
+        if !has_short(&value) {
+            return Err(Refused {
+                error: VortexError::ValueTooLong,
+                inputs: (dtype, value),
+            });
+        }
+        if !fits(&dtype, &value) {
+            return Err(Refused {
+                error: VortexError::MismatchedTypes,
+                inputs: (dtype, value),
+            });
+        }
+        Ok(Scalar { dtype, value })
+    }
+
+    /// The null of a nullable type.
+    pub fn null(dtype: DType) -> Result<Scalar, Refused<DType>>
+        ensures { MakesSurely (unless (is_nullable (type_of dtype)) MismatchedTypes None) (scalar (type_of dtype) null) dtype result }
+    {
+        if !dtype.is_nullable() {
+            return Err(Refused {
+                error: VortexError::MismatchedTypes,
+                inputs: dtype,
+            });
+        }
+        Ok(Scalar {
+            dtype,
+            value: Value::Null,
+        })
+    }
+
+    /// A truth value.
+    pub fn bool(value: bool, nullability: Nullability) -> Scalar
+        ensures { result ≡ scalar (boolean nullability) (truth value) }
+    {
+        Scalar {
+            dtype: DType::Bool(nullability),
+            value: Value::Bool(value),
+        }
+    }
+
+    /// An integer. Refuses OutOfBounds where its type doesn't hold it.
+    pub fn primitive(value: i128, ptype: PType, nullability: Nullability) -> VortexResult<Scalar>
+        ensures { SurelyDecided (unless (lies_in ptype value) OutOfBounds None) (λ s. s ≡ scalar (primitive ptype nullability) (int value)) result }
+    {
+        if !is_held(value, ptype) {
+            return Err(VortexError::OutOfBounds);
+        }
+        Ok(Scalar {
+            dtype: DType::Primitive(ptype, nullability),
+            value: Value::Int(value),
+        })
+    }
+
+    /// A text. Refuses ValueTooLong where it has 2^32 bytes or more.
+    pub fn text(value: Text, nullability: Nullability) -> Result<Scalar, Refused<Text>>
+        ensures { MakesSurely (unless (is_short value) ValueTooLong None) (scalar (utf8 nullability) (bytes value)) value result }
+    {
+        if !is_short(value.as_str().as_bytes()) {
+            return Err(Refused {
+                error: VortexError::ValueTooLong,
+                inputs: value,
+            });
+        }
+        Ok(Scalar {
+            dtype: DType::Utf8(nullability),
+            value: Value::Bytes(value.into_bytes()),
+        })
+    }
+
+    /// Bytes. Refuses ValueTooLong where there are 2^32 or more.
+    pub fn binary(value: Bytes, nullability: Nullability) -> Result<Scalar, Refused<Bytes>>
+        ensures { MakesSurely (unless (is_short value) ValueTooLong None) (scalar (binary nullability) (bytes value)) value result }
+    {
+        if !is_short(value.as_slice()) {
+            return Err(Refused {
+                error: VortexError::ValueTooLong,
+                inputs: value,
+            });
+        }
+        Ok(Scalar {
+            dtype: DType::Binary(nullability),
+            value: Value::Bytes(value),
+        })
+    }
+
+    /// A timestamp of a kind.
+    pub fn timestamp(value: i64, kind: TimestampType, nullability: Nullability) -> Scalar
+        ensures { result ≡ scalar (timestamp kind nullability) (int value) }
+    {
+        Scalar {
+            dtype: DType::Timestamp(kind, nullability),
+            value: Value::Int(value as i128),
+        }
+    }
+}

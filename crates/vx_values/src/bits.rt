@@ -1,0 +1,121 @@
+//! Truth values, one a row: the default beneath nulls, and values by their places.
+
+ghost use Rattle.std.specs.Prelude.{◌≡◌, ◌<◌, length, map, replicate, true, false, not, ◌||◌, slice_set, slice_index_or, if◌then◌else◌};
+ghost use Rattle.vx_base.specs.Answers.{Answers, OrMemory};
+ghost use Rattle.vx_model.specs.Decoded.{zeroed, zeroed_by, zero_beneath, picked};
+ghost use Rattle.vx_model.specs.Refusals.{validity_length};
+ghost use Rattle.vx_values.specs.IntsOf.{ptype_of, wholes_of};
+
+use crate::ints::{Ints, with_ints};
+use std::alloc::Global;
+use vx_base::{Integer, Mask, VortexResult};
+
+/// One truth value in every row.
+pub fn filled(alloc: Global, bit: bool, len: u64) -> VortexResult<Mask>
+    ensures { Answers result (replicate len bit) }
+{
+    let mut bits = Vec::with_capacity(alloc, len as usize)?;
+    for _row in 0..len {
+        bits.push(bit)?;
+    }
+    Ok(Mask::from_bits(bits))
+}
+
+/// The truth values with false where the mask is false.
+pub fn zeroed(bits: Mask, mask: &Mask) -> Mask
+    requires { length mask.now ≡ length bits }
+    ensures { result ≡ zeroed false mask.now bits }
+{
+    let mut bits = bits.into_vec();
+    zero_beneath(bits.as_mut_slice(), mask.as_slice());
+    Mask::from_bits(bits)
+}
+
+/// A copy with false where a row isn't valid.
+pub fn decoded(alloc: Global, bits: &Mask, valid: &Option<Mask>) -> VortexResult<Mask>
+    requires { validity_length valid.now (length bits.now) ≡ true }
+    ensures { Answers result (zeroed_by false valid.now bits.now) }
+{
+    let copy = bits.copy(alloc)?;
+    match valid {
+        Some(mask) => Ok(zeroed(copy, mask)),
+        None => Ok(copy),
+    }
+}
+
+/// Whether each truth value whose bit in the mask is false is false.
+pub fn is_zero_beneath(bits: &Mask, mask: &Mask) -> bool
+    requires { length mask.now ≡ length bits.now }
+    ensures { result ≡ zero_beneath not mask.now bits.now }
+{
+    are_zero_beneath(bits.as_slice(), mask.as_slice())
+}
+
+#[tactic(auto, using(vx_model::proofs::ZeroLemmas::zeroing))]
+fn are_zero_beneath(bits: &[bool], mask: &[bool]) -> bool
+    requires { length mask.now ≡ length bits.now }
+    ensures { result ≡ zero_beneath not mask.now bits.now }
+{
+    for row in 0..mask.len() {
+        if !is_zero_at(bits, mask, row) {
+            return false;
+        }
+    }
+    true
+}
+
+// Whether the truth value is false where its bit in the mask is false.
+#[inline(always)]
+fn is_zero_at(bits: &[bool], mask: &[bool], row: usize) -> bool
+    requires in_bits { row < length bits.now }
+    requires in_mask { row < length mask.now }
+    ensures { result ≡ (slice_index_or mask.now row false || not (slice_index_or bits.now row false)) }
+{
+    mask[row] || !bits[row]
+}
+
+// Writes false where the mask is false.
+#[tactic(auto, using(vx_model::proofs::ZeroLemmas::zeroing))]
+fn zero_beneath(bits: &mut [bool], mask: &[bool])
+    requires { length mask.now ≡ length bits.old }
+    ensures { bits.new ≡ zeroed false mask.now bits.old }
+{
+    for row in 0..mask.len() {
+        zero_at(bits, row, mask[row]);
+    }
+}
+
+// Leaves the truth value where the bit is true, else writes false.
+#[inline(always)]
+fn zero_at(bits: &mut [bool], row: usize, bit: bool)
+    requires { row < length bits.old }
+    ensures { bits.new ≡ slice_set bits.old row (if bit then slice_index_or bits.old row false else false) }
+{
+    bits[row] = if bit { bits[row] } else { false };
+}
+
+/// The truth value whose place each code has, false where there is none.
+pub fn picked(alloc: Global, bits: &Mask, codes: &Ints) -> VortexResult<Mask>
+    ensures { Answers result (map (λ code. picked (ptype_of codes.now) bits.now false code) (wholes_of codes.now)) }
+{
+    with_ints!(codes, codes => picked_by(alloc, bits, codes.as_slice()))
+}
+
+// The truth value whose place the code has, false where there is none.
+#[inline(always)]
+fn pick<C: Integer>(bits: &Mask, code: C) -> bool
+    ensures { result ≡ picked C.kind bits.now false (C.whole code) }
+{
+    bits.is_set(code.to_bits())
+}
+
+// The same of each code.
+fn picked_by<C: Integer>(alloc: Global, bits: &Mask, codes: &[C]) -> VortexResult<Mask>
+    ensures { Answers result (map (λ code. picked C.kind bits.now false code) (map C.whole codes.now)) }
+{
+    let mut picked = Vec::with_capacity(alloc, codes.len())?;
+    for row in 0..codes.len() {
+        picked.push(pick(bits, codes[row]))?;
+    }
+    Ok(Mask::from_bits(picked))
+}

@@ -1,0 +1,214 @@
+//! Texts and binaries, one a row: the default beneath nulls, and values by their places.
+
+ghost use Rattle.std.specs.Prelude.{◌≡◌, ◌<◌, ◌≤◌, ◌+◌, IsTrue, [], length, map, replicate, true, false, ◌||◌, slice_set, slice_index_or, if◌then◌else◌};
+ghost use Rattle.std.specs.List.{list_all};
+ghost use Rattle.vx_base.specs.Answers.{Answers};
+ghost use Rattle.vx_base.specs.Masks.{rows_between, is_part};
+ghost use Rattle.vx_base.specs.PlainValue.{int, is_short};
+ghost use Rattle.vx_model.specs.Rows.{offset_at, cut_at};
+ghost use Rattle.vx_model.specs.WellFormed.{are_offsets};
+ghost use Rattle.vx_model.specs.Decoded.{zeroed, zeroed_by, zero_beneath, is_empty, picked};
+ghost use Rattle.vx_model.specs.Refusals.{validity_length};
+ghost use Rattle.vx_values.specs.IntsOf.{ptype_of, wholes_of};
+
+use crate::ints::{Ints, with_ints};
+use crate::validity::is_valid;
+use std::alloc::Global;
+use vx_base::{ByteRows, Bytes, Integer, Mask, VortexResult};
+
+/// The same bytes in every row.
+pub fn filled(alloc: Global, bytes: &[u8], len: u64) -> VortexResult<ByteRows>
+    ensures { Answers result (replicate len bytes.now) }
+{
+    let mut rows = Vec::with_capacity(alloc, len as usize)?;
+    for _row in 0..len {
+        rows.push(row_of(alloc, bytes)?)?;
+    }
+    Ok(ByteRows::from_vec(rows))
+}
+
+// A row with these bytes.
+fn row_of(alloc: Global, bytes: &[u8]) -> VortexResult<Bytes>
+    ensures { Answers result bytes.now }
+{
+    Ok(Bytes::from_vec(Vec::from_slice(alloc, bytes)?))
+}
+
+/// The rows, empty where the mask is false.
+pub fn zeroed(rows: ByteRows, mask: &Mask) -> ByteRows
+    requires { length mask.now ≡ length rows }
+    ensures { result ≡ zeroed [] mask.now rows }
+{
+    let mut rows = rows.into_vec();
+    zero_beneath(rows.as_mut_slice(), mask.as_slice());
+    ByteRows::from_vec(rows)
+}
+
+/// A copy, empty where a row isn't valid: the bytes beneath nulls aren't copied.
+#[tactic(auto, using(crate::proofs::Kept::keeping))]
+pub fn decoded(alloc: Global, rows: &ByteRows, valid: &Option<Mask>) -> VortexResult<ByteRows>
+    requires { validity_length valid.now (length rows.now) ≡ true }
+    ensures { Answers result (zeroed_by [] valid.now rows.now) }
+{
+    let mut copy = Vec::with_capacity(alloc, rows.len() as usize)?;
+    for row in 0..rows.len() {
+        copy.push(kept_row(alloc, rows, row, is_valid(valid, row))?)?;
+    }
+    Ok(ByteRows::from_vec(copy))
+}
+
+// A copy of a row where the bit is true, else an empty one.
+fn kept_row(alloc: Global, rows: &ByteRows, row: u64, bit: bool) -> VortexResult<Bytes>
+    ensures { Answers result (if bit then slice_index_or rows.now row [] else []) }
+{
+    if bit {
+        copied(alloc, rows, row)
+    } else {
+        Ok(Bytes::new_in(alloc))
+    }
+}
+
+// A copy of a row, empty where there is none.
+fn copied(alloc: Global, rows: &ByteRows, row: u64) -> VortexResult<Bytes>
+    ensures { Answers result (slice_index_or rows.now row []) }
+{
+    match rows.get(row) {
+        Some(bytes) => bytes.copy(alloc),
+        None => Ok(Bytes::new_in(alloc)),
+    }
+}
+
+/// Whether each row whose bit is false is empty.
+pub fn is_zero_beneath(rows: &ByteRows, mask: &Mask) -> bool
+    requires { length mask.now ≡ length rows.now }
+    ensures { result ≡ zero_beneath is_empty mask.now rows.now }
+{
+    are_zero_beneath(rows.as_slice(), mask.as_slice())
+}
+
+#[tactic(auto, using(vx_model::proofs::ZeroLemmas::zeroing))]
+fn are_zero_beneath(rows: &[Bytes], mask: &[bool]) -> bool
+    requires { length mask.now ≡ length rows.now }
+    ensures { result ≡ zero_beneath is_empty mask.now rows.now }
+{
+    for row in 0..mask.len() {
+        if !is_zero_at(rows, mask, row) {
+            return false;
+        }
+    }
+    true
+}
+
+// Whether the row is empty where its bit is false.
+fn is_zero_at(rows: &[Bytes], mask: &[bool], row: usize) -> bool
+    requires in_rows { row < length rows.now }
+    requires in_mask { row < length mask.now }
+    ensures { result ≡ (slice_index_or mask.now row false || is_empty (slice_index_or rows.now row [])) }
+{
+    mask[row] || rows[row].len() == 0
+}
+
+/// The bytes from each offset to the next.
+pub fn cut(alloc: Global, bytes: &[u8], offsets: &Ints) -> VortexResult<ByteRows>
+    requires some { 1 ≤ length (wholes_of offsets.now) }
+    requires ends { IsTrue (are_offsets (length bytes.now) (map int (wholes_of offsets.now))) }
+    ensures { Answers result (cut_at (map int (wholes_of offsets.now)) bytes.now) }
+{
+    with_ints!(offsets, offsets => cut_by(alloc, bytes, offsets.as_slice()))
+}
+
+fn cut_by<T: Integer>(alloc: Global, bytes: &[u8], offsets: &[T]) -> VortexResult<ByteRows>
+    requires some { 1 ≤ length offsets.now }
+    requires ends { IsTrue (are_offsets (length bytes.now) (map int (map T.whole offsets.now))) }
+    ensures { Answers result (cut_at (map int (map T.whole offsets.now)) bytes.now) }
+{
+    let mut rows = Vec::with_capacity(alloc, offsets.len() - 1)?;
+    for row in 0..offsets.len() - 1 {
+        rows.push(piece(alloc, bytes, offsets, row)?)?;
+    }
+    Ok(ByteRows::from_vec(rows))
+}
+
+// A copy of the bytes from a row's offset to the next one.
+fn piece<T: Integer>(alloc: Global, bytes: &[u8], offsets: &[T], row: usize) -> VortexResult<Bytes>
+    requires within { row + 1 < length offsets.now }
+    requires ends { IsTrue (are_offsets (length bytes.now) (map int (map T.whole offsets.now))) }
+    ensures { Answers result (rows_between bytes.now (offset_at (map int (map T.whole offsets.now)) row) (offset_at (map int (map T.whole offsets.now)) (row + 1))) }
+{
+    let start = offsets[row].to_bits();
+    let end = offsets[row + 1].to_bits();
+    row_of(alloc, part(bytes, start, end))
+}
+
+// The bytes from a start to the one before an end.
+fn part(bytes: &[u8], start: u64, end: u64) -> &[u8]
+    requires { IsTrue (is_part (length bytes.now) start end) }
+    ensures { result.now ≡ rows_between bytes.now start end }
+{
+    &bytes[start as usize..end as usize]
+}
+
+/// Whether each row is shorter than 2^32 bytes.
+pub fn are_short(rows: &ByteRows) -> bool
+    ensures { result ≡ list_all is_short rows.now }
+{
+    for row in rows.as_slice() {
+        if row.len() >= 1 << 32 {
+            return false;
+        }
+    }
+    true
+}
+
+// Empties the rows where the mask is false.
+#[tactic(auto, using(vx_model::proofs::ZeroLemmas::zeroing))]
+fn zero_beneath(rows: &mut [Bytes], mask: &[bool])
+    requires { length mask.now ≡ length rows.old }
+    ensures { rows.new ≡ zeroed [] mask.now rows.old }
+{
+    for row in 0..mask.len() {
+        zero_at(rows, row, mask[row]);
+    }
+}
+
+// Leaves the row where the bit is true, else empties it.
+fn zero_at(rows: &mut [Bytes], row: usize, bit: bool)
+    requires { row < length rows.old }
+    ensures { rows.new ≡ slice_set rows.old row (if bit then slice_index_or rows.old row [] else []) }
+{
+    let bytes = &mut rows[row];
+    empty_unless(bytes, bit);
+}
+
+fn empty_unless(bytes: &mut Bytes, bit: bool)
+    ensures { bytes.new ≡ (if bit then bytes.old else []) }
+{
+    if !bit {
+        bytes.clear();
+    }
+}
+
+/// The bytes whose place each code has, empty where there is none.
+pub fn picked(alloc: Global, rows: &ByteRows, codes: &Ints) -> VortexResult<ByteRows>
+    ensures { Answers result (map (λ code. picked (ptype_of codes.now) rows.now [] code) (wholes_of codes.now)) }
+{
+    with_ints!(codes, codes => picked_by(alloc, rows, codes.as_slice()))
+}
+
+// The bytes whose place the code has, empty where there is none.
+fn pick<C: Integer>(alloc: Global, rows: &ByteRows, code: C) -> VortexResult<Bytes>
+    ensures { Answers result (picked C.kind rows.now [] (C.whole code)) }
+{
+    copied(alloc, rows, code.to_bits())
+}
+
+// The same of each code.
+fn picked_by<C: Integer>(alloc: Global, rows: &ByteRows, codes: &[C]) -> VortexResult<ByteRows>
+    ensures { Answers result (map (λ code. picked C.kind rows.now [] code) (map C.whole codes.now)) }
+{
+    let mut picked = Vec::with_capacity(alloc, codes.len())?;
+    for row in 0..codes.len() {
+        picked.push(pick(alloc, rows, codes[row])?)?;
+    }
+    Ok(ByteRows::from_vec(picked))
+}
