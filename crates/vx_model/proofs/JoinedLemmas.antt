@@ -6,7 +6,7 @@ use Rattle.std.proofs.Math.Seq.{take-append_seam, drop-append_seam}
 use Rattle.std.proofs.lemmas.Bool.{and_from, eq-eqb}
 use Rattle.std.proofs.lemmas.Bool.Decides.{nat_tests}
 use Rattle.std.proofs.lemmas.Int.{ints}
-use Rattle.std.proofs.lemmas.List.{append_assoc, append-nil, length-append, length-map, same_lists, get_or_default}
+use Rattle.std.proofs.lemmas.List.{append_assoc, append-nil, length-append, length-map, same_lists, get_or_default, take_more}
 use Rattle.std.proofs.lemmas.List.Folds.{concat-append}
 use Rattle.vx_base.specs.Masks.{rows_between}
 use Rattle.vx_base.specs.PlainValue.{PlainValue, int}
@@ -97,3 +97,10 @@ offsets_of-more rows row = offsets_from-more 0 rows row ∙ ap (λ n. offsets_of
 
 pub concat-more : (rows : List (List ℕ)) (row : List ℕ) → concat (rows ++ row ∷ []) ≡ concat rows ++ row
 concat-more rows row = concat-append rows (row ∷ []) ∙ ap (λ r. concat rows ++ r) (append-nil row)
+
+-- the same of the rows before a place, and the row there
+pub concat-next : (rows : List (List ℕ)) (i : ℕ) (row : List ℕ) → i < length rows → row ≡ slice_index_or rows i row → concat (take (i + 1) rows) ≡ concat (take i rows) ++ row
+concat-next rows i row l e = ap concat (take_more rows i row l ∙ ap (λ r. take i rows ++ r ∷ []) (sym e)) ∙ concat-more (take i rows) row
+
+pub offsets_of-next : (rows : List (List ℕ)) (i : ℕ) (row : List ℕ) → i < length rows → row ≡ slice_index_or rows i row → offsets_of (take (i + 1) rows) ≡ offsets_of (take i rows) ++ (length (concat (take i rows)) + length row) ∷ []
+offsets_of-next rows i row l e = ap offsets_of (take_more rows i row l ∙ ap (λ r. take i rows ++ r ∷ []) (sym e)) ∙ offsets_of-more (take i rows) row

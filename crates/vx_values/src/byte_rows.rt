@@ -1,5 +1,7 @@
 //! Texts and binaries, one a row: the default beneath nulls, and values by their places.
 
+mod joining;
+
 ghost use Rattle.std.specs.Prelude.{◌≡◌, ◌<◌, ◌≤◌, ◌+◌, IsTrue, [], length, map, replicate, true, false, ◌||◌, slice_set, slice_index_or, if◌then◌else◌};
 ghost use Rattle.std.specs.List.{list_all};
 ghost use Rattle.vx_base.specs.Answers.{Answers};
@@ -13,6 +15,7 @@ ghost use Rattle.vx_values.specs.IntsOf.{ptype_of, wholes_of};
 
 use crate::ints::{Ints, with_ints};
 use crate::validity::is_valid;
+pub use joining::{joined, offsets};
 use std::alloc::Global;
 use vx_base::{ByteRows, Bytes, Integer, Mask, VortexResult};
 
