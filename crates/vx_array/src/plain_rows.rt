@@ -37,7 +37,6 @@ impl ArrayRef {
     }
 
     /// The first row of a plain tree that isn't null.
-    #[tactic(auto, using(crate::proofs::PlainRows::positions))]
     pub fn first_valid(&self) -> Option<u64>
         requires { IsPlain self.now }
         ensures { result ≡ position (λ v. not (is_null v)) (rows self.now) }

@@ -237,7 +237,11 @@ pub fn gather(alloc: Global, rows: &ByteRows, ranges: &[(u64, u64)]) -> VortexRe
 {
     let mut all = Vec::new(alloc);
     for range in ranges {
-        push_rows(alloc, &mut all, &rows.as_slice()[range.0 as usize..range.1 as usize])?;
+        push_rows(
+            alloc,
+            &mut all,
+            &rows.as_slice()[range.0 as usize..range.1 as usize],
+        )?;
     }
     Ok(ByteRows::from_vec(all))
 }

@@ -117,7 +117,6 @@ pub(crate) fn is_false_beneath(values: &Mask, valid: &Option<Mask>) -> bool
 }
 
 // The rows of ranges of a plain tree, as a plain tree.
-#[tactic(auto, using(crate::proofs::PlainRows::gathering_bits))]
 pub(crate) fn gathered_bool(
     alloc: Global,
     values: &Mask,

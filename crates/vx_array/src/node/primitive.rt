@@ -145,7 +145,6 @@ pub(crate) fn is_zero_beneath(values: &Ints, valid: &Option<Mask>) -> bool
 }
 
 // The rows of ranges of a plain tree, as a plain tree.
-#[tactic(auto, using(crate::proofs::PlainRows::gathering_ints))]
 pub(crate) fn gathered_primitive(
     alloc: Global,
     values: &Ints,

@@ -178,7 +178,6 @@ pub(crate) fn is_empty_beneath(values: &ByteRows, valid: &Option<Mask>) -> bool
 }
 
 // The rows of ranges of a plain tree, as a plain tree.
-#[tactic(auto, using(crate::proofs::PlainRows::gathering_views))]
 pub(crate) fn gathered_view(
     alloc: Global,
     values: &ByteRows,
@@ -191,7 +190,8 @@ pub(crate) fn gathered_view(
     requires parts { IsTrue (are_parts (length values.now) ranges.now) }
     ensures { Answers result (plain (column (type_of dtype.now) (gathered ranges.now (rows (var_bin_view values.now valid.now (type_of dtype.now)))))) }
 {
-    let values = byte_rows::gather(alloc, values, ranges)?;
+    let dtype = dtype.copy(alloc)?;
     let valid = gathered_validity(alloc, valid, ranges)?;
-    Ok(ArrayRef::view_of(values, valid, dtype.copy(alloc)?))
+    let values = byte_rows::gather(alloc, values, ranges)?;
+    Ok(ArrayRef::view_of(values, valid, dtype))
 }
