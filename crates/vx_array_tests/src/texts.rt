@@ -133,3 +133,30 @@ fn a_dictionary_of_texts_is_made_plain(rt: HostRuntime) -> Result<(), Fail> {
     assert!(rt; is_row(&plain, 1, Some(b"a")) && is_row(&plain, 2, None));
     Ok(())
 }
+
+// "ab", null, "" and "c" in turn, as a plain tree.
+fn four(alloc: Global) -> Result<ArrayRef, Fail> {
+    let rows = byte_rows(alloc, &[b"ab", b"", b"", b"c"])?;
+    let valid = Some(bits(alloc, &[true, false, true, true])?);
+    accepted(ArrayRef::var_bin_view(rows, valid, DType::utf8(Nullable)))
+}
+
+#[test]
+fn ranges_of_plain_texts_are_plain(rt: HostRuntime) -> Result<(), Fail> {
+    let tree = four(rt.alloc())?;
+    assert!(rt; tree.is_plain() && tree.len() == 4);
+    let some = tree.gather(rt.alloc(), &[(2, 4), (0, 1)])?;
+    assert!(rt; some.is_plain() && some.len() == 3 && some.nbytes() == 48);
+    assert!(rt; is_row(&some, 1, Some(b"c")) && is_row(&some, 2, Some(b"ab")));
+    Ok(())
+}
+
+#[test]
+fn plain_texts_are_joined_over_their_offsets(rt: HostRuntime) -> Result<(), Fail> {
+    let tree = four(rt.alloc())?;
+    let offsets = tree.row_offsets(rt.alloc())?;
+    assert!(rt; offsets.len() == 5 && offsets.nbytes() == 40);
+    let joined = tree.joined_over(rt.alloc(), offsets)?;
+    assert!(rt; joined.nbytes() == 44 && is_row(&joined, 3, Some(b"c")));
+    Ok(())
+}

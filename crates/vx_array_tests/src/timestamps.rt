@@ -34,3 +34,13 @@ fn other_integers_are_no_timestamps(rt: HostRuntime) -> Result<(), Fail> {
     assert!(rt; matches!(error, VortexError::MismatchedTypes) && inputs.0.len() == 2);
     Ok(())
 }
+
+#[test]
+fn ranges_of_plain_timestamps_are_plain(rt: HostRuntime) -> Result<(), Fail> {
+    let storage = with_nulls(rt.alloc(), I64, &[5, 0, 5], &[true, false, true])?;
+    let tree = accepted(ArrayRef::timestamp(rt.alloc(), storage, seconds(rt.alloc())?))?;
+    assert!(rt; tree.is_plain() && tree.len() == 3);
+    let some = tree.gather(rt.alloc(), &[(1, 3)])?;
+    assert!(rt; some.is_plain() && some.dtype() == tree.dtype() && some.nbytes() == 17);
+    Ok(())
+}

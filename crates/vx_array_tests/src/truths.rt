@@ -48,3 +48,15 @@ fn a_masked_constant_is_made_plain(rt: HostRuntime) -> Result<(), Fail> {
     assert!(rt; plain.is_plain() && has_truths(&plain, &[None, Some(true)]));
     Ok(())
 }
+
+#[test]
+fn ranges_of_plain_truth_values_are_plain(rt: HostRuntime) -> Result<(), Fail> {
+    let values = bits(rt.alloc(), &[true, false, true])?;
+    let valid = Some(bits(rt.alloc(), &[true, false, true])?);
+    let tree = accepted(ArrayRef::bool(values, valid, Nullable))?;
+    assert!(rt; tree.is_plain() && tree.len() == 3);
+    let some = tree.gather(rt.alloc(), &[(2, 3), (0, 1)])?;
+    assert!(rt; some.is_plain() && has_truths(&some, &[Some(true), Some(true)]));
+    assert_eq!(rt; some.nbytes(), 1);
+    Ok(())
+}

@@ -10,7 +10,7 @@ use Rattle.vx_base.specs.Storable.{Storable, first, rest, stored_by, stored×, s
 use Rattle.vx_base.specs.Timestamps.{PlainTimestamp, stored_kind}
 use base.Stored.{Gv, gnum, gcons, num}
 
--- a type of columns: so far an integer type, with or without nulls
+-- a type of columns, with or without nulls: truth values, integers of a type, texts, binaries and timestamps of a kind
 pub data PlainType : Type 0 where
   boolean : Nullability → PlainType
   primitive : PType → Nullability → PlainType

@@ -4,7 +4,7 @@ use Rattle.std.proofs.Common.{ap}
 use Rattle.vx_base.specs.Storable.{Storable, same, first, rest, stored_ℤ, stored_bool, stored_bytes}
 use base.Stored.{Gv, gnil, gnum, gcons, num}
 
--- a value of a column: null, or a whole number
+-- a value of a column: null, a truth value, the whole number that an integer or a timestamp is, or the bytes of a text or a binary
 pub data PlainValue : Type 0 where
   null : PlainValue
   truth : Bool → PlainValue

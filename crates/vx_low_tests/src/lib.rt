@@ -14,4 +14,6 @@ mod scalars;
 #[cfg(test)]
 mod texts;
 #[cfg(test)]
+mod types;
+#[cfg(test)]
 mod widths;

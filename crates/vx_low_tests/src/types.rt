@@ -1,0 +1,87 @@
+//! Types and scalars of truth values, texts, binaries and timestamps, each call once.
+
+use std::alloc::Global;
+use std::test::Fail;
+use vx_base::Nullability::{NonNullable, Nullable};
+use vx_base::PType::{I32, U8};
+use vx_base::{
+    Bytes, Cell, DType, Scalar, Text, TimeUnit, TimestampType, Value, VortexError, VortexResult,
+};
+
+fn text(alloc: Global, text: &str) -> VortexResult<Text> {
+    Ok(Text::from_string(String::from_str(alloc, text)?))
+}
+
+// Milliseconds of a zone.
+fn zoned(alloc: Global) -> Result<TimestampType, Fail> {
+    let zone = Some(text(alloc, "UTC")?);
+    match TimestampType::new(TimeUnit::Milliseconds, zone) {
+        Ok(kind) => Ok(kind),
+        Err(_) => Err(Fail::from("milliseconds")),
+    }
+}
+
+#[test]
+fn days_are_no_unit_of_timestamps(rt: HostRuntime) -> Result<(), Fail> {
+    let Err(refused) = TimestampType::new(TimeUnit::Days, None) else {
+        return Err(Fail::from("timestamps in days"));
+    };
+    assert!(rt; matches!(refused.error, VortexError::DayUnit) && refused.inputs.is_none());
+    Ok(())
+}
+
+#[test]
+fn types_are_copied_with_their_zone(rt: HostRuntime) -> Result<(), Fail> {
+    let dtype = DType::timestamp(zoned(rt.alloc())?, NonNullable);
+    let copy = dtype.with_nullability(rt.alloc(), Nullable)?;
+    let texts = DType::utf8(Nullable).copy(rt.alloc())?;
+    let shown = format!(in rt.alloc(); "{dtype} {copy} {texts}")?;
+    assert_eq!(rt;
+        shown.as_str(),
+        "timestamp ms<UTC> timestamp ms<UTC>? text?"
+    );
+    assert!(rt; dtype.same_base(&copy) && dtype != copy);
+    Ok(())
+}
+
+#[test]
+fn values_of_each_type_are_compact_json(rt: HostRuntime) -> Result<(), Fail> {
+    let alloc = rt.alloc();
+    let a = Scalar::text(text(alloc, "a")?, NonNullable)
+        .ok()
+        .ok_or("a text")?;
+    assert_eq!(rt; a.json(alloc)?.as_str(), "\"a\"");
+    let bytes = Bytes::from_vec(Vec::from_slice(alloc, &[171, 5])?);
+    let digits = Scalar::binary(bytes, Nullable).ok().ok_or("two bytes")?;
+    assert_eq!(rt; digits.copy(alloc)?.json(alloc)?.as_str(), "\"ab05\"");
+    let early = Scalar::timestamp(-1, zoned(alloc)?, NonNullable);
+    assert_eq!(rt; early.copy(alloc)?.json(alloc)?.as_str(), "-1");
+    assert_eq!(rt; Scalar::bool(true, Nullable).json(alloc)?.as_str(), "true");
+    Ok(())
+}
+
+#[test]
+fn a_value_of_another_type_is_refused(rt: HostRuntime) -> Result<(), Fail> {
+    let Err(refused) = Scalar::new(DType::bool(NonNullable), Value::Int(1)) else {
+        return Err(Fail::from("1 of bool"));
+    };
+    assert!(rt; matches!(refused.error, VortexError::MismatchedTypes));
+    assert!(rt; Scalar::null(DType::primitive(U8, NonNullable)).is_err());
+    let seven = Scalar::primitive(7, U8, NonNullable)?;
+    let cast = seven.cast(rt.alloc(), &DType::utf8(NonNullable));
+    assert!(rt; matches!(cast, Err(VortexError::MismatchedTypes)));
+    let number = Scalar::primitive(300, I32, NonNullable)?;
+    let cast = number.cast(rt.alloc(), &DType::primitive(U8, NonNullable));
+    assert!(rt; matches!(cast, Err(VortexError::CastRefused)));
+    Ok(())
+}
+
+#[test]
+fn a_text_becomes_nullable_by_a_cast(rt: HostRuntime) -> Result<(), Fail> {
+    let a = Scalar::of_cell(rt.alloc(), &DType::utf8(NonNullable), Cell::Bytes(b"a"))?;
+    let cast = a.cast(rt.alloc(), &DType::utf8(Nullable))?;
+    assert!(rt; cast.value() == a.value() && cast != a);
+    let none = Scalar::default_value(rt.alloc(), &DType::binary(NonNullable))?;
+    assert_eq!(rt; none.json(rt.alloc())?.as_str(), "\"\"");
+    Ok(())
+}
