@@ -16,7 +16,7 @@ ghost use Rattle.vx_values.specs.IntsOf.{ptype_of, wholes_of};
 use crate::ints::{Ints, with_ints};
 use crate::validity::is_valid;
 use std::alloc::Global;
-use vx_base::{ByteRows, Bytes, Integer, Mask, VortexResult};
+use vx_base::{ByteRows, Bytes, Integer, Mask, VortexResult, is_short};
 
 /// The same bytes in every row.
 pub fn filled(alloc: Global, bytes: &[u8], len: u64) -> VortexResult<ByteRows>
@@ -155,7 +155,7 @@ pub fn are_short(rows: &ByteRows) -> bool
     ensures { result ≡ list_all is_short rows.now }
 {
     for row in rows.as_slice() {
-        if row.len() >= 1 << 32 {
+        if !is_short(row.as_slice()) {
             return false;
         }
     }

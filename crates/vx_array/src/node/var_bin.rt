@@ -24,13 +24,13 @@ ghost use Rattle.vx_model.specs.WellFormed.{are_offsets};
 ghost use Rattle.vx_values.specs.IntsOf.{wholes_of};
 ghost use Rattle.vx_values.specs.ValuesOf.{byte_rows, AreRows};
 
-use super::texts::{fits, is_short};
+use super::texts::fits;
 use crate::array::{ArrayRef, Node};
 use crate::node::Made;
 use crate::sizes::{is_few, validity_bytes};
 use offsets::{are_offsets, offset_at};
 use std::alloc::Global;
-use vx_base::{Bytes, Cell, DType, Mask, Refused, VortexError, VortexResult};
+use vx_base::{Bytes, Cell, DType, Mask, Refused, VortexError, VortexResult, is_short};
 use vx_values::{
     Decoded, Ints, Values, byte_rows, copy_validity, has_length, is_allowed, is_valid, keep,
 };
