@@ -233,8 +233,10 @@ pub(crate) fn decoded_var_bin(
     requires bits { validity_length valid.now (length (wholes_of offsets.now) - 1) ≡ true }
     ensures { OrMemory result (AreRows byte_rows (map plain.bytes (zeroed_by [] valid.now (cut_at (map int (wholes_of offsets.now)) bytes.now))) valid.now) }
 {
-    let values = Values::Bytes(byte_rows::cut(alloc, bytes.as_slice(), offsets)?);
-    let values = values.zeroed_by(valid);
+    let rows = byte_rows::cut(alloc, bytes.as_slice(), offsets, valid)?;
     let valid = copy_validity(valid, alloc)?;
-    Ok(Decoded { values, valid })
+    Ok(Decoded {
+        values: Values::Bytes(rows),
+        valid,
+    })
 }
