@@ -1,5 +1,5 @@
 -- The plain tree of a tree, from what it is decoded to.
-use Rattle.std.proofs.Common.{◌≡◌, ◌∙◌, ℕ, ℤ, pos, List, [], ◌∷◌, map, length, Bool, ap, refl, sym, true, false, Some, None, Option}
+use Rattle.std.proofs.Common.{◌≡◌, ◌∙◌, ℕ, ℤ, pos, List, [], ◌∷◌, map, length, Bool, ap, refl, sym, true, false, None, Option}
 use Rattle.std.specs.List.{list_all}
 use Rattle.std.proofs.lemmas.Bool.{and_from}
 use Rattle.vx_base.specs.declared.error.VortexError.{VortexError}

@@ -3,7 +3,7 @@ use Rattle.std.proofs.lemmas.List.{length-map}
 use Rattle.std.proofs.lemmas.List.FromFn.{map-range_with_len_more}
 use Rattle.vx_base.specs.PlainValue.{int}
 use Rattle.vx_model.specs.Refusals.{validity_length}
-use Rattle.vx_model.specs.Rows.{cut_at, is_valid_at}
+use Rattle.vx_model.specs.Rows.{cut_at}
 use Rattle.vx_model.proofs.VarBinLemmas.{length-cut_at, cut_at-at}
 use Rattle.vx_values.proofs.Kept.{kept_at, zeroed_by-kept}
 use Rattle.vx_values.proofs.byte_rows.cut_by.Goals as goal
