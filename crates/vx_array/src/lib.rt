@@ -5,6 +5,7 @@ mod array;
 mod arrays;
 mod canonical;
 mod copies;
+mod joined_bytes;
 mod look_up;
 mod node;
 mod parts;
