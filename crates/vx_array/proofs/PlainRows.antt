@@ -1,5 +1,5 @@
 -- Plain trees by their rows: validity, the first valid row, rows that share one value, and the rows of ranges.
-use Rattle.std.proofs.Common.{◌≡◌, ◌<◌, ◌+◌, ◌∙◌, ℕ, ℤ, zero, suc, pos, Bool, true, false, cond, List, [], ◌∷◌, map, length, Option, Some, None, option_map, refl, sym, ap, subst, arith}
+use Rattle.std.proofs.Common.{◌≡◌, ◌<◌, ◌+◌, ◌∙◌, ℕ, ℤ, pos, Bool, true, false, cond, List, [], ◌∷◌, map, length, Some, None, option_map, refl, sym, ap}
 use Rattle.std.specs.Prelude.{not, position, slice_index_or, nat_lt, IsTrue, IfSome}
 use Rattle.std.specs.List.{list_all, list_any, position_or_len}
 use Rattle.std.proofs.lemmas.List.Recursion.{is_position_or_len}
@@ -15,8 +15,7 @@ use Rattle.vx_base.specs.Storable.{same_refl}
 use Rattle.vx_base.specs.PlainType as types
 use Rattle.vx_base.specs.PlainValue.{PlainValue, null, truth, int, bytes, is_null, truth_or_false, whole_or_zero, bytes_or_empty}
 use Rattle.vx_base.specs.Timestamps.{PlainTimestamp}
-use Rattle.vx_model.specs.Column.{column, column_of}
-use Rattle.vx_model.specs.Leaf.{each_null_or}
+use Rattle.vx_model.specs.Column.{column}
 use Rattle.vx_model.specs.Plain.{IsPlain, plain, plain_of, validity, valid_bits}
 use Rattle.vx_model.specs.Refusals.{kept, primitive_refusal, var_bin_view_refusal, timestamp_refusal}
 use Rattle.vx_model.specs.Rows.{rows, row_at, is_valid_at}

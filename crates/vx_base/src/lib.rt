@@ -30,7 +30,7 @@ pub use integer::Integer;
 pub use items::{ByteRows, Bytes, IntList, Items, Names, Ranges, Words};
 pub use mask::Mask;
 pub use ptype::PType;
-pub use scalar::Scalar;
+pub use scalar::{Scalar, is_short, is_text};
 pub use steps::Steps;
 pub use text::Text;
 pub use timestamp::{TimeUnit, TimestampType};

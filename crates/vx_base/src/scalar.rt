@@ -50,8 +50,8 @@ fn is_held(value: i128, ptype: PType) -> bool
     value >= ptype.least() && value <= ptype.greatest()
 }
 
-// Whether the bytes are fewer than 2^32.
-fn is_short(bytes: &[u8]) -> bool
+/// Whether the bytes are fewer than 2^32.
+pub fn is_short(bytes: &[u8]) -> bool
     ensures { result ≡ is_short bytes.now }
 {
     bytes.len() < 1 << 32
@@ -67,8 +67,8 @@ fn has_short(value: &Value) -> bool
     }
 }
 
-// Whether the bytes are a text.
-fn is_text(bytes: &[u8]) -> bool
+/// Whether the bytes are a text, which is UTF-8.
+pub fn is_text(bytes: &[u8]) -> bool
     ensures { result ≡ is_utf8 bytes.now }
 {
     std::str::from_utf8(bytes).is_ok()

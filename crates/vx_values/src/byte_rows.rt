@@ -1,6 +1,6 @@
 //! Texts and binaries, one a row: the default beneath nulls, and values by their places.
 
-ghost use Rattle.std.specs.Prelude.{◌≡◌, ◌↔◌, ◌<◌, ◌≤◌, ◌+◌, IsTrue, [], length, map, replicate, true, false, ◌||◌, ◌++◌, slice_set, slice_index_or, if◌then◌else◌};
+ghost use Rattle.std.specs.Prelude.{◌≡◌, ◌↔◌, ◌<◌, ◌≤◌, ◌+◌, ◌-◌, IsTrue, [], length, map, replicate, true, false, ◌||◌, ◌++◌, slice_set, slice_index_or, if◌then◌else◌};
 ghost use Rattle.std.specs.List.{list_all};
 ghost use Rattle.vx_base.specs.Answers.{Answers, OrMemory};
 ghost use Rattle.vx_base.specs.Gathered.{gathered, are_parts};
@@ -19,7 +19,7 @@ use crate::ints::{Ints, with_ints};
 use crate::validity::is_valid;
 pub use joining::{joined, offsets};
 use std::alloc::Global;
-use vx_base::{ByteRows, Bytes, Integer, Mask, VortexResult};
+use vx_base::{ByteRows, Bytes, Integer, Mask, VortexResult, is_short};
 
 /// The same bytes in every row.
 pub fn filled(alloc: Global, bytes: &[u8], len: u64) -> VortexResult<ByteRows>
@@ -113,25 +113,57 @@ fn is_zero_at(rows: &[Bytes], mask: &[bool], row: usize) -> bool
     mask[row] || rows[row].len() == 0
 }
 
-/// The bytes from each offset to the next.
-pub fn cut(alloc: Global, bytes: &[u8], offsets: &Ints) -> VortexResult<ByteRows>
+/// The bytes from each offset to the next, empty where a row isn't valid: the bytes beneath nulls aren't copied.
+pub fn cut(
+    alloc: Global,
+    bytes: &[u8],
+    offsets: &Ints,
+    valid: &Option<Mask>,
+) -> VortexResult<ByteRows>
     requires some { 1 ≤ length (wholes_of offsets.now) }
     requires ends { IsTrue (are_offsets (length bytes.now) (map int (wholes_of offsets.now))) }
-    ensures { Answers result (cut_at (map int (wholes_of offsets.now)) bytes.now) }
+    requires bits { validity_length valid.now (length (wholes_of offsets.now) - 1) ≡ true }
+    ensures { Answers result (zeroed_by [] valid.now (cut_at (map int (wholes_of offsets.now)) bytes.now)) }
 {
-    with_ints!(offsets, offsets => cut_by(alloc, bytes, offsets.as_slice()))
+    with_ints!(offsets, offsets => cut_by(alloc, bytes, offsets.as_slice(), valid))
 }
 
-fn cut_by<T: Integer>(alloc: Global, bytes: &[u8], offsets: &[T]) -> VortexResult<ByteRows>
+fn cut_by<T: Integer>(
+    alloc: Global,
+    bytes: &[u8],
+    offsets: &[T],
+    valid: &Option<Mask>,
+) -> VortexResult<ByteRows>
     requires some { 1 ≤ length offsets.now }
     requires ends { IsTrue (are_offsets (length bytes.now) (map int (map T.whole offsets.now))) }
-    ensures { Answers result (cut_at (map int (map T.whole offsets.now)) bytes.now) }
+    requires bits { validity_length valid.now (length offsets.now - 1) ≡ true }
+    ensures { Answers result (zeroed_by [] valid.now (cut_at (map int (map T.whole offsets.now)) bytes.now)) }
 {
     let mut rows = Vec::with_capacity(alloc, offsets.len() - 1)?;
     for row in 0..offsets.len() - 1 {
-        rows.push(piece(alloc, bytes, offsets, row)?)?;
+        let bit = is_valid(valid, row as u64);
+        rows.push(kept_piece(alloc, bytes, offsets, row, bit)?)?;
     }
     Ok(ByteRows::from_vec(rows))
+}
+
+// A copy of the bytes from a row's offset to the next one where the bit is true, else none.
+fn kept_piece<T: Integer>(
+    alloc: Global,
+    bytes: &[u8],
+    offsets: &[T],
+    row: usize,
+    bit: bool,
+) -> VortexResult<Bytes>
+    requires within { row + 1 < length offsets.now }
+    requires ends { IsTrue (are_offsets (length bytes.now) (map int (map T.whole offsets.now))) }
+    ensures { Answers result (if bit then rows_between bytes.now (offset_at (map int (map T.whole offsets.now)) row) (offset_at (map int (map T.whole offsets.now)) (row + 1)) else []) }
+{
+    if bit {
+        piece(alloc, bytes, offsets, row)
+    } else {
+        Ok(Bytes::new_in(alloc))
+    }
 }
 
 // A copy of the bytes from a row's offset to the next one.
@@ -158,7 +190,7 @@ pub fn are_short(rows: &ByteRows) -> bool
     ensures { result ≡ list_all is_short rows.now }
 {
     for row in rows.as_slice() {
-        if row.len() >= 1 << 32 {
+        if !is_short(row.as_slice()) {
             return false;
         }
     }

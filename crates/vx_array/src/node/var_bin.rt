@@ -24,13 +24,13 @@ ghost use Rattle.vx_model.specs.WellFormed.{are_offsets};
 ghost use Rattle.vx_values.specs.IntsOf.{wholes_of};
 ghost use Rattle.vx_values.specs.ValuesOf.{byte_rows, AreRows};
 
-use super::texts::{fits, is_short};
+use super::texts::fits;
 use crate::array::{ArrayRef, Node};
 use crate::node::Made;
 use crate::sizes::{is_few, validity_bytes};
 use offsets::{are_offsets, offset_at};
 use std::alloc::Global;
-use vx_base::{Bytes, Cell, DType, Mask, Refused, VortexError, VortexResult};
+use vx_base::{Bytes, Cell, DType, Mask, Refused, VortexError, VortexResult, is_short};
 use vx_values::{
     Decoded, Ints, Values, byte_rows, copy_validity, has_length, is_allowed, is_valid, keep,
 };
@@ -233,8 +233,10 @@ pub(crate) fn decoded_var_bin(
     requires bits { validity_length valid.now (length (wholes_of offsets.now) - 1) ≡ true }
     ensures { OrMemory result (AreRows byte_rows (map plain.bytes (zeroed_by [] valid.now (cut_at (map int (wholes_of offsets.now)) bytes.now))) valid.now) }
 {
-    let values = Values::Bytes(byte_rows::cut(alloc, bytes.as_slice(), offsets)?);
-    let values = values.zeroed_by(valid);
+    let rows = byte_rows::cut(alloc, bytes.as_slice(), offsets, valid)?;
     let valid = copy_validity(valid, alloc)?;
-    Ok(Decoded { values, valid })
+    Ok(Decoded {
+        values: Values::Bytes(rows),
+        valid,
+    })
 }
