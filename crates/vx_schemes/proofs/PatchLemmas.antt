@@ -19,7 +19,7 @@ use Rattle.vx_base.proofs.NullLemmas.{by_null, same-null, null-same}
 use Rattle.vx_model.specs.Column.{Column, column_of}
 use Rattle.vx_model.specs.Leaf.{first_valid, null_or, each_null_or}
 use Rattle.vx_model.specs.Plain.{plain, plain_of, validity, valid_bits}
-use Rattle.vx_model.specs.Rows.{rows, row_at, index_of, valid_rows}
+use Rattle.vx_model.specs.Rows.{rows, row_at, index_of}
 use Rattle.vx_model.specs.Tree.{Tree, Validity, primitive, PlainPatches}
 use Rattle.vx_model.specs.TreeType.{tree_type}
 use Rattle.vx_model.specs.WellFormed.{WellFormed, ascend, WellFormedPatches}
