@@ -1,2 +1,3 @@
+pub mod JoinedTexts
 pub mod QuickPacking
 pub mod SpanFrame

@@ -53,7 +53,7 @@ span_frame = record {
 -- the differences are a part, and under the least value any tree of them stands for the column
 span_frame-stands : PartStands is_integer (λ c. true) above_least frame_over
 span_frame-stands = record {
-  is_part = λ c taken h passes. differences-part c (reference_of c) taken h;
+  is_part = λ c taken h few passes. differences-part c (reference_of c) taken h;
   stands = λ c tree taken h passes well same. framed-stands c (reference_of c) taken h tree (least_in-held c taken h) well same;
 }
 

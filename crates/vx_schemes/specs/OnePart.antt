@@ -1,10 +1,11 @@
 -- A scheme that makes one part of a column, or keeps it.
-use Rattle.std.specs.Prelude.{◌≡◌, Bool, true, if◌then◌else◌, List, [], ◌∷◌}
+use Rattle.std.specs.Prelude.{◌≡◌, ◌≤◌, Bool, true, if◌then◌else◌, List, [], ◌∷◌, length}
 use Rattle.vx_base.specs.PlainType.{PlainType}
 use Rattle.vx_model.specs.Column.{Column, IsColumn, column_of}
 use Rattle.vx_model.specs.Plain.{plain}
 use Rattle.vx_model.specs.Tree.{Tree}
 use Rattle.vx_model.specs.WellFormed.{WellFormed}
+use Rattle.vx_scheme.specs.Asked.{most_rows}
 use Rattle.vx_scheme.specs.Lawful.{IsPart}
 use Rattle.vx_scheme.specs.Meaning.{PlainSplit, kept, parts}
 use Rattle.vx_schemes.specs.StandsFor.{StandsFor}
@@ -18,7 +19,7 @@ abbrev pub over_part : (Column → Tree → Tree) → Column → List Tree → T
 over_part wrap c [] = plain c
 over_part wrap c (tree ∷ trees) = wrap c tree
 
--- of each column that is taken and passes the test: the part is one, and over any well-formed tree of the part the wrapper stands for the column
+-- of each column that is taken and passes the test, with as many rows as a site's may have: the part is one, and over any well-formed tree of the part the wrapper stands for the column
 pub record PartStands (takes : PlainType → Bool) (test : Column → Bool) (part : Column → Column) (wrap : Column → Tree → Tree) : Type 0 where
-  pub is_part : (c : Column) → takes c.dtype ≡ true → IsColumn c → test c ≡ true → IsPart c (part c)
+  pub is_part : (c : Column) → takes c.dtype ≡ true → IsColumn c → length c.values ≤ most_rows → test c ≡ true → IsPart c (part c)
   pub stands : (c : Column) (tree : Tree) → takes c.dtype ≡ true → IsColumn c → test c ≡ true → WellFormed tree → column_of tree ≡ part c → StandsFor (wrap c tree) c

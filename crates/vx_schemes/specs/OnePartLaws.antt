@@ -38,5 +38,5 @@ module _ (m : Meaning) (test : Column → Bool) (part : Column → Column) (wrap
       joined_well = λ c site columns trees asked e well fit. wrapped c site trees asked.taken asked.column (made c site columns e).0 well (fit ∙ sym (made c site columns e).1);
       few_parts = λ c site columns asked e. subst (λ cs. length cs ≤ m.children) (made c site columns e).1 (omega (arith, room));
       small_parts = λ c site columns asked e.
-          subst (All (IsPart c)) (made c site columns e).1 (All-from_recursion (IsPart c) (part c ∷ []) (law.is_part c asked.taken asked.column (made c site columns e).0, tt));
+          subst (All (IsPart c)) (made c site columns e).1 (All-from_recursion (IsPart c) (part c ∷ []) (law.is_part c asked.taken asked.column asked.few (made c site columns e).0, tt));
     }

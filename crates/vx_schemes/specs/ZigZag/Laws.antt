@@ -93,6 +93,6 @@ signed-test false h = refl
 
 pub zig_zag-stands : PartStands is_integer (λ c. not (is_unsigned c.dtype)) zigzags (λ c tree. zig_zag tree)
 zig_zag-stands = record {
-  is_part = λ c j h signed. zigzags-part c j h (signed-test (is_unsigned c.dtype) signed);
+  is_part = λ c j h few signed. zigzags-part c j h (signed-test (is_unsigned c.dtype) signed);
   stands = λ c tree j h signed well same. over-well c tree j h (signed-test (is_unsigned c.dtype) signed) well same;
 }
