@@ -1,0 +1,4 @@
+pub mod DocumentColumns
+pub mod DocumentRows
+pub mod DocumentWords
+pub mod Documents
