@@ -18,7 +18,7 @@ use crate::document::unread::Unread;
 use serde_json::Value;
 use std::alloc::Global;
 use vx_array::ArrayRef;
-use vx_base::{ByteRows, DType, IntList, Mask, Nullability, PType, TimestampType};
+use vx_base::{DType, Mask, Nullability, PType, TimestampType};
 use vx_values::Ints;
 
 // Truth values.
@@ -30,7 +30,7 @@ fn read_truths(
     ensures { Gives (λ tree. tree) result (plain_rows (boolean nullability) (items_view list.items)) }
 {
     let rows = read_rows::<Truths>(alloc, list, nullability)?;
-    match ArrayRef::bool(Mask::from_bits(rows.items), rows.valid, nullability) {
+    match ArrayRef::bool(Mask::from_bits(rows.items.into_vec()), rows.valid, nullability) {
         Ok(tree) => Ok(tree),
         // Rows that fit their type are never refused.
         Err(_refused) => Err(Unread::BadDocument),
@@ -49,13 +49,14 @@ macro_rules! typed_rows {
     ($alloc:expr, $list:expr, $nullability:expr, $variant:ident, $integer:ty) => {{
         let rows = read_rows::<Wholes<$integer>>($alloc, $list, $nullability)?;
         Ok(TypedRows {
-            values: Ints::$variant(IntList::from_vec(rows.items)),
+            values: Ints::$variant(rows.items),
             valid: rows.valid,
         })
     }};
 }
 
 // The rows of a list of values, of an integer type.
+#[tactic(auto, using(crate::proofs::DocumentColumns::fused))]
 fn read_typed(
     alloc: Global,
     list: Vec<Value>,
@@ -104,7 +105,7 @@ fn read_texts(
 {
     let rows = read_rows::<Texts>(alloc, list, nullability)?;
     let dtype = DType::utf8(nullability);
-    match ArrayRef::var_bin_view(ByteRows::from_vec(rows.items), rows.valid, dtype) {
+    match ArrayRef::var_bin_view(rows.items, rows.valid, dtype) {
         Ok(tree) => Ok(tree),
         // Rows that fit their type are never refused.
         Err(_refused) => Err(Unread::BadDocument),
@@ -121,7 +122,7 @@ fn read_binaries(
 {
     let rows = read_rows::<Binaries>(alloc, list, nullability)?;
     let dtype = DType::binary(nullability);
-    match ArrayRef::var_bin_view(ByteRows::from_vec(rows.items), rows.valid, dtype) {
+    match ArrayRef::var_bin_view(rows.items, rows.valid, dtype) {
         Ok(tree) => Ok(tree),
         // Rows that fit their type are never refused.
         Err(_refused) => Err(Unread::BadDocument),
@@ -159,7 +160,7 @@ fn read_list(alloc: Global, list: Vec<Value>, dtype: DType) -> Result<ArrayRef, 
 }
 
 // The plain tree of a value's rows.
-#[tactic(auto, unfolding(crate::specs::RowsOf::rows_of))]
+#[tactic(auto, using(crate::proofs::DocumentColumns::reads), unfolding(crate::specs::RowsOf::rows_of))]
 pub(crate) fn read_column(alloc: Global, value: Value, dtype: DType) -> Result<ArrayRef, Unread>
     ensures rows { Gives rows result (rows_of (type_of dtype) (view value)) }
     ensures dtype { IfOk result (λ array. tree_type array ≡ type_of dtype) }

@@ -12,12 +12,12 @@ use crate::document::kinds::Kind;
 use crate::document::unread::Unread;
 use serde_json::Value;
 use std::alloc::{AllocError, Global};
-use vx_base::{Mask, Nullability};
+use vx_base::{Items, Mask, Nullability};
 
 // Rows of one kind: the default beneath nulls, and where the type is nullable whether each row is valid.
 #[derive(Drop)]
 pub(crate) struct Rows<T> {
-    pub(crate) items: Vec<T>,
+    pub(crate) items: Items<T>,
     pub(crate) valid: Option<Mask>,
 }
 
@@ -62,7 +62,7 @@ pub(crate) fn read_rows<K: Kind>(
     list: Vec<Value>,
     nullability: Nullability,
 ) -> Result<Rows<K::Item>, Unread>
-    ensures { GivesForm (λ rows. AreRows (default_of K.dtype) nullability (map K.seen rows.items.items) rows.valid) result
+    ensures { GivesForm (λ rows. AreRows (default_of K.dtype) nullability (map K.seen rows.items) rows.valid) result
         (all_by (row_of (with_nullability K.dtype nullability)) (items_view list.items)) }
 {
     let mut items = Vec::with_capacity(alloc, list.len())?;
@@ -73,7 +73,7 @@ pub(crate) fn read_rows<K: Kind>(
         items.push(item_of::<K>(alloc, row))?;
     }
     Ok(Rows {
-        items,
+        items: Items::from_vec(items),
         valid: mask_of(valid),
     })
 }
