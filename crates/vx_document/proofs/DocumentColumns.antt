@@ -3,8 +3,9 @@ use Rattle.std.proofs.Common.{◌≡◌, ℕ, List, [], ◌∷◌, length, map, 
 use Rattle.std.specs.Prelude.{Result, Ok, Err, ◌==◌}
 use Rattle.std.specs.List.{list_all, list_any}
 use Rattle.std.proofs.lemmas.Bool.{and_from, eq-eqb}
-use Rattle.std.proofs.lemmas.List.{length-map, map-map}
-use Rattle.serde_json.specs.Data.{Data, Items, no_items, item}
+use Rattle.std.proofs.lemmas.List.{length-map}
+use Rattle.std.proofs.lemmas.Simd.{map-map}
+use Rattle.serde_json.specs.Data.{Data, array, Items, no_items, item}
 use Rattle.vx_base.specs.declared.error.VortexError.{VortexError}
 use Rattle.vx_base.specs.declared.error.Refused.{Refused}
 use Rattle.vx_base.specs.declared.ptype.PType.{PType}
@@ -29,8 +30,10 @@ use Rattle.vx_model.specs.Refusals.{kept, primitive_refusal, var_bin_view_refusa
 use Rattle.vx_model.proofs.DecodeLemmas.{no_null}
 use Rattle.vx_model.proofs.PlainLemmas.{length-valid_bits, rows-plain_of, type-plain_of, plain_is_plain, short_items}
 use Rattle.vx_model.proofs.ViewLemmas.{plain_of-bytes}
-use Rattle.vx_document.specs.Reading.{◌>>=◌, when, all_by}
-use Rattle.vx_document.specs.RowsOf.{AreRows, bits_of, cell_of, plain_rows, row_of}
+use Rattle.vx_document.specs.declared.document.unread.Unread.{Unread}
+use Rattle.vx_document.specs.declared.document.unread.Unread.TheVariants.{NoMemory, BadDocument}
+use Rattle.vx_document.specs.Reading.{◌>>=◌, when, all_by, Gives}
+use Rattle.vx_document.specs.RowsOf.{AreRows, bits_of, cell_of, plain_rows, row_of, rows_of}
 
 -- ---- what is read fits its type
 
@@ -213,6 +216,17 @@ module _ (t : PlainType) (ds : Items) (tree : Tree) where
       of_rows : (o : Option (List PlainValue)) → all_by (row_of t) ds ≡ o → option_map (plain_of t) o ≡ Some tree → IsPlain tree
       of_rows None f e = absurd cc
       of_rows (Some vs) f e = let is : tree ≡ plain_of t vs = cc in rw is (plain_is_plain (column t vs) (fits-rows t ds vs f))
+
+-- a reader of the plain tree reads the rows
+pub Gives-rows : (t : PlainType) (ds : Items) (r : Result Tree Unread) → Gives (λ (x : Tree). x) r (plain_rows t ds) → Gives rows r (rows_of t (array ds))
+unfolding rows_of
+Gives-rows t ds (Ok tree) h = rows-read t ds tree h
+Gives-rows t ds (Err NoMemory) h = tt
+Gives-rows t ds (Err BadDocument) h = none (all_by (row_of t) ds) h
+  where
+    none : (o : Option (List PlainValue)) → option_map (plain_of t) o ≡ None → o ≡ None
+    none None e = refl
+    none (Some vs) e = absurd cc
 
 pub ruleset fused = (map-map)
 

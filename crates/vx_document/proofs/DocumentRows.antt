@@ -1,6 +1,7 @@
 -- A document's rows as items and truth values, one row at a time.
-use Rattle.std.proofs.Common.{◌≡◌, List, [], ◌∷◌, ◌++◌, length, map, Bool, true, false, cond, Option, Some, None, option_map, refl, sym, ap, ◌∙◌}
-use Rattle.std.specs.Prelude.{Vec, not, is_some, unwrap_or}
+use Rattle.std.proofs.Common.{◌≡◌, ℕ, List, [], ◌∷◌, ◌++◌, length, map, Bool, true, false, cond, Option, Some, None, option_map, refl, sym, ap, ◌∙◌}
+use Rattle.std.specs.Prelude.{Vec, ◌&&◌, not, is_some, unwrap_or, Result, Ok, Err}
+use Rattle.std.specs.Str.{is_utf8}
 use Rattle.std.specs.declared.alloc.Global.{Global}
 use Rattle.std.proofs.lemmas.List.{map-append}
 use Rattle.serde_json.specs.Data as json
@@ -13,9 +14,11 @@ use Rattle.vx_base.specs.declared.dtype.Nullability.TheVariants.{NonNullable, Nu
 use Rattle.vx_base.specs.Defaults.{or_default}
 use Rattle.vx_base.specs.PlainScalar.{fits}
 use Rattle.vx_base.specs.PlainType.{PlainType, boolean, primitive, utf8, binary, timestamp, allows_null, nullability_of, with_nullability}
-use Rattle.vx_base.specs.PlainValue.{PlainValue, null, truth, int, bytes, is_null}
+use Rattle.vx_base.specs.PlainValue.{PlainValue, null, truth, int, bytes, is_null, is_short}
 use Rattle.vx_model.specs.Tree.{Validity}
-use Rattle.vx_document.specs.Reading.{◌>>=◌, when, all_by}
+use Rattle.vx_document.specs.declared.document.unread.Unread.{Unread}
+use Rattle.vx_document.specs.declared.document.unread.Unread.TheVariants.{NoMemory, BadDocument}
+use Rattle.vx_document.specs.Reading.{◌>>=◌, when, all_by, Gives}
 use Rattle.vx_document.specs.RowsOf.{AreRows, bits_of, bytes_of_digits, row_of, some_of, whole_of}
 use Rattle.vx_document.proofs.Documents.{with_left, with_left_first, with_left_more, with_left_none, with_left_last}
 
@@ -84,6 +87,19 @@ row-some t n (json.number x) e f = some-row t n (json.number x)
 row-some t n (json.string s) e f = some-row t n (json.string s)
 row-some t n (json.array ds) e f = some-row t n (json.array ds)
 row-some t n (json.object ms) e f = some-row t n (json.object ms)
+
+-- a text of few bytes is a row
+pub text-row : (text : List ℕ) (r : Result (List ℕ) Unread) → is_utf8 text ≡ true → Gives (λ (bs : List ℕ). bs) r (option_map (λ u. text) (when (is_short text))) → Gives bytes r (row_of (utf8 NonNullable) (json.string text))
+unfolding row_of
+text-row text r e h = rw e (of_short (is_short text) r h)
+  where
+    of_short : (short : Bool) (s : Result (List ℕ) Unread) → Gives (λ (bs : List ℕ). bs) s (option_map (λ u. text) (when short)) → Gives bytes s (when (short && true) >>= (λ u. Some (bytes text)))
+    of_short true (Ok bs) k = cc
+    of_short true (Err NoMemory) k = tt
+    of_short true (Err BadDocument) k = absurd cc
+    of_short false (Ok bs) k = absurd cc
+    of_short false (Err NoMemory) k = tt
+    of_short false (Err BadDocument) k = refl
 
 -- ---- one row more
 

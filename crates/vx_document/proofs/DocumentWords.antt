@@ -1,5 +1,5 @@
 -- The words of a seed, one output at a time.
-use Rattle.std.proofs.Common.{◌≡◌, ◌<◌, ◌+◌, ◌-◌, ℕ, zero, suc, List, [], ◌∷◌, ◌++◌, length, refl, sym, ap, ◌∙◌, append_assoc, add-one, arith}
+use Rattle.std.proofs.Common.{◌≡◌, ◌<◌, ◌≤◌, ◌+◌, ◌-◌, ℕ, zero, suc, List, [], ◌∷◌, ◌++◌, length, refl, sym, ap, ◌∙◌, append_assoc, add-one, arith}
 use Rattle.std.proofs.lemmas.List.{append-nil, length-append}
 use Rattle.rand_core.specs.Steps.{first_words}
 
@@ -18,3 +18,8 @@ module _ {S : Type 0} (step : S → ℕ × S) where
   first_words-next n i done s t w l e =
       ap (λ ws. done ++ ws) (first_words-suc (n - i) (n - (i + 1)) s (omega arith) ∙ ap (λ (p : ℕ × S). p.0 ∷ first_words step (n - (i + 1)) p.1) (sym e))
       ∙ sym (append_assoc done (w ∷ []) (first_words step (n - (i + 1)) t))
+
+  -- where none is left, they are all
+  pub first_words-end : (n i : ℕ) (done : List ℕ) (s first : S) → n ≤ i → done ++ first_words step (n - i) s ≡ first_words step n first → done ≡ first_words step n first
+  unfolding first_words
+  first_words-end n i done s first l e = let none : n - i ≡ 0 = omega arith in let all = rw none at e in sym (append-nil done) ∙ all

@@ -1,14 +1,16 @@
 -- A document's parts, one item or member at a time.
-use Rattle.std.proofs.Common.{◌≡◌, ℕ, List, [], ◌∷◌, ◌++◌, length, map, Bool, cond, true, false, Option, Some, None, option_map, refl, sym, ap, append_assoc, arith}
-use Rattle.std.specs.Prelude.{◌||◌}
+use Rattle.std.proofs.Common.{◌≡◌, ℕ, List, [], ◌∷◌, ◌++◌, length, map, Bool, cond, true, false, Option, Some, None, option_map, refl, sym, ap, append_assoc, arith, rules}
+use Rattle.std.specs.Prelude.{◌||◌, String, string_bytes}
+use Rattle.std.specs.declared.alloc.Global.{Global}
 use Rattle.std.specs.List.{list_any}
 use Rattle.std.specs.Str.{IsUtf8, is_utf8}
 use Rattle.std.proofs.lemmas.Str.{IsUtf8-from_is_utf8, is_utf8-from_IsUtf8}
 use Rattle.std.proofs.lemmas.List.{append-nil}
-use Rattle.serde_json.specs.Data.{Data}
+use Rattle.serde_json.specs.Data.{Data, string}
 use Rattle.serde_json.specs.Read.{read}
 use Rattle.serde_json.specs.View.{view, items_view}
-use Rattle.serde_json.specs.declared.value.Value.{Value}
+use Rattle.serde_json.specs.declared.value.Value.{Value, the_lemmas}
+use Rattle.serde_json.specs.declared.value.Value as values
 use Rattle.vx_document.specs.Reading.{value_of, all_by}
 
 pub value_of-text : (bytes : List ℕ) (o : Option Data) → IsUtf8 bytes → read bytes ≡ o → value_of bytes ≡ o
@@ -20,7 +22,8 @@ unfolding value_of
 value_of-none bytes h =
     elim (is_utf8 bytes) as (λ b. is_utf8 bytes ≡ b → cond b (read bytes) None ≡ None) [ true ↦ λ e. h (IsUtf8-from_is_utf8 bytes e) | false ↦ λ e. refl ] refl
 
-pub ruleset texts = (is_utf8-from_IsUtf8)
+pub view-String : (s : String Global) → view (values.String s) ≡ string (string_bytes s)
+view-String s = search (rules, the_lemmas)
 
 pub list_any-map : {A B : Type 0} (test : B → Bool) (f : A → B) (xs : List A) → list_any (λ x. test (f x)) xs ≡ list_any test (map f xs)
 list_any-map test f [] = refl

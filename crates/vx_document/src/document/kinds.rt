@@ -122,7 +122,7 @@ impl Kind for Texts {
 
     ghost seen = { bytes };
 
-    #[tactic(auto, using(crate::proofs::Documents::texts), unfolding(crate::specs::RowsOf::row_of))]
+    #[tactic(auto, unfolding(crate::specs::RowsOf::row_of))]
     fn read(_alloc: Global, value: Value) -> Result<Bytes, Unread> {
         match value {
             Value::String(text) => short(Text::from_string(text).into_bytes()),

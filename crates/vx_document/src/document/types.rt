@@ -1,6 +1,6 @@
 //! The type that a document names.
 
-ghost use Rattle.std.specs.Prelude.{◌≡◌, IsTrue, option_map, None};
+ghost use Rattle.std.specs.Prelude.{◌≡◌, IfOk, IfSome, IsTrue, option_map, None};
 ghost use Rattle.serde_json.specs.View.{view, members_view};
 ghost use Rattle.vx_base.specs.PlainType.{timestamp};
 ghost use Rattle.vx_base.specs.Timestamps.{divides, kind};
@@ -67,7 +67,8 @@ fn type_named(text: &str) -> Option<DType>
 // The unit of a text, which is never days.
 #[tactic(auto, unfolding(crate::specs::Types::unit_named))]
 fn unit_named(text: &str) -> Option<TimeUnit>
-    ensures { result ≡ unit_named text.now }
+    ensures unit { result ≡ unit_named text.now }
+    ensures divides { IfSome result (λ unit. IsTrue (divides unit)) }
 {
     match text {
         "s" => Some(TimeUnit::Seconds),
@@ -80,7 +81,8 @@ fn unit_named(text: &str) -> Option<TimeUnit>
 
 // The unit of a value.
 fn read_unit(value: Option<Value>) -> Result<TimeUnit, Unread>
-    ensures { Gives (λ unit. unit) result (unit_in (option_map view value)) }
+    ensures unit { Gives (λ unit. unit) result (unit_in (option_map view value)) }
+    ensures divides { IfOk result (λ unit. IsTrue (divides unit)) }
 {
     match value {
         Some(Value::String(text)) => unit_named(text.as_str()).ok_or(Unread::BadDocument),
