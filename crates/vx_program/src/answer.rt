@@ -8,8 +8,8 @@ ghost use Rattle.vx_base.specs.ErrorName.{error_name};
 ghost use Rattle.vx_model.specs.Column.{column_of};
 ghost use Rattle.vx_model.specs.Plain.{IsPlain};
 ghost use Rattle.vx_model.specs.Size.{size};
-ghost use Rattle.vx_program.specs.Document.{document};
-ghost use Rattle.vx_program.specs.Listing.{listing, sizes_line};
+ghost use Rattle.vx_document.specs.Document.{document};
+ghost use Rattle.vx_document.specs.Listing.{listing, sizes_line};
 ghost use Rattle.vx_program.specs.Reading.{limit, TakesAtMost};
 ghost use Rattle.vx_scheme.specs.NoMeaning.{no_meaning};
 ghost use Rattle.vx_btrblocks.specs.AnyMeaning.{any_meaning};
@@ -17,8 +17,6 @@ ghost use Rattle.vx_btrblocks.specs.Shipped.{shipped_schemes};
 ghost use Rattle.vx_program.specs.Answer.{texts_of, is_built, refusal, report, of_column, of_document, IsReply};
 ghost use Rattle.vx_program.specs.Statuses.{RestsOnAll, IsUsage, IsTooLong};
 
-use crate::document::{Document, Unread, read_document};
-use crate::listing::{push_sizes, push_tree};
 use crate::outside::Source;
 use crate::reading::{Input, read_all};
 use std::alloc::{AllocError, Global};
@@ -26,6 +24,7 @@ use std::borrow::CowStr;
 use vx_array::ArrayRef;
 use vx_base::{ExecutionCtx, VortexError};
 use vx_btrblocks::{BtrBlocksCompressor, NoScheme};
+use vx_document::{Document, Unread, push_sizes, push_tree, read_document};
 
 /// The whole output is written.
 pub const DONE: u8 = 0;
