@@ -30,7 +30,11 @@ fn read_truths(
     ensures { Gives (λ tree. tree) result (plain_rows (boolean nullability) (items_view list.items)) }
 {
     let rows = read_rows::<Truths>(alloc, list, nullability)?;
-    match ArrayRef::bool(Mask::from_bits(rows.items.into_vec()), rows.valid, nullability) {
+    match ArrayRef::bool(
+        Mask::from_bits(rows.items.into_vec()),
+        rows.valid,
+        nullability,
+    ) {
         Ok(tree) => Ok(tree),
         // Rows that fit their type are never refused.
         Err(_refused) => Err(Unread::BadDocument),
@@ -96,11 +100,7 @@ fn read_integers(
 }
 
 // Texts.
-fn read_texts(
-    alloc: Global,
-    list: Vec<Value>,
-    nullability: Nullability,
-) -> Result<ArrayRef, Unread>
+fn read_texts(alloc: Global, list: Vec<Value>, nullability: Nullability) -> Result<ArrayRef, Unread>
     ensures { Gives (λ tree. tree) result (plain_rows (utf8 nullability) (items_view list.items)) }
 {
     let rows = read_rows::<Texts>(alloc, list, nullability)?;

@@ -49,11 +49,7 @@ fn words_of(alloc: Global, value: Value) -> Result<Words, Unread>
 }
 
 // So many outputs of a generator, one a step.
-fn outputs(
-    alloc: Global,
-    mut generator: Lcg64Xsh32,
-    count: usize,
-) -> Result<Vec<u64>, AllocError>
+fn outputs(alloc: Global, mut generator: Lcg64Xsh32, count: usize) -> Result<Vec<u64>, AllocError>
     ensures words { IfOk result (λ v. v.items ≡ first_words pcg32 count generator) }
     ensures count { IfOk result (λ v. length v.items ≡ count) }
 {

@@ -1,4 +1,4 @@
-use Rattle.std.proofs.Common.{◌≤◌, length, ap, sym, ◌∙◌, arith}
+use Rattle.std.proofs.Common.{length, ap, sym, ◌∙◌, arith}
 use Rattle.rand_pcg.specs.Pcg.{pcg32}
 use Rattle.vx_document.proofs.DocumentWords.{first_words-next, first_words-end, length-first_words}
 use Rattle.vx_document.proofs.document.words.outputs.Goals as goal
