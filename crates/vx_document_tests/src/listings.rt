@@ -22,7 +22,13 @@ fn a_text_stands_as_a_string_of_json(rt: HostRuntime) -> Result<(), Fail> {
         return Err(Fail::from("a long text"));
     };
     let tree = ArrayRef::constant(scalar, 2);
-    assert!(rt; lists(rt.alloc(), &tree, "vortex.constant text len=2 size=5 value=\"\\\"\u{e9}\\n\"\n")?);
+    assert!(rt;
+        lists(
+            rt.alloc(),
+            &tree,
+            "vortex.constant text len=2 size=5 value=\"\\\"\u{e9}\\n\"\n"
+        )?
+    );
     Ok(())
 }
 
@@ -33,6 +39,12 @@ fn bytes_stand_as_their_digits(rt: HostRuntime) -> Result<(), Fail> {
         return Err(Fail::from("long bytes"));
     };
     let tree = ArrayRef::constant(scalar, 3);
-    assert!(rt; lists(rt.alloc(), &tree, "vortex.constant binary len=3 size=3 value=\"00ff\"\n")?);
+    assert!(rt;
+        lists(
+            rt.alloc(),
+            &tree,
+            "vortex.constant binary len=3 size=3 value=\"00ff\"\n"
+        )?
+    );
     Ok(())
 }

@@ -64,7 +64,13 @@ fn texts(rt: HostRuntime) -> Result<(), Fail> {
 fn binaries_of_digits_in_either_case(rt: HostRuntime) -> Result<(), Fail> {
     let text = "{\"type\":\"binary?\",\"rows\":[\"00fF\",null],\"words\":[0]}";
     let read = document(rt.alloc(), text)?;
-    assert!(rt; lists(rt.alloc(), &read, "vortex.varbinview binary? len=2 size=33\n")?);
+    assert!(rt;
+        lists(
+            rt.alloc(),
+            &read,
+            "vortex.varbinview binary? len=2 size=33\n"
+        )?
+    );
     assert!(rt; matches!(cell(&read.array, 0), Some(Cell::Bytes(b"\x00\xff"))));
     assert!(rt; matches!(cell(&read.array, 1), Some(Cell::Null)));
     Ok(())
@@ -72,7 +78,8 @@ fn binaries_of_digits_in_either_case(rt: HostRuntime) -> Result<(), Fail> {
 
 #[test]
 fn timestamps_with_a_zone(rt: HostRuntime) -> Result<(), Fail> {
-    let text = "{\"type\":{\"timestamp\":\"ms\",\"zone\":\"UTC\",\"nullable\":true},\"rows\":[-1,null],\"words\":[0]}";
+    let text =
+        "{\"type\":{\"timestamp\":\"ms\",\"zone\":\"UTC\",\"nullable\":true},\"rows\":[-1,null],\"words\":[0]}";
     let read = document(rt.alloc(), text)?;
     assert!(rt;
         lists(
@@ -87,7 +94,10 @@ fn timestamps_with_a_zone(rt: HostRuntime) -> Result<(), Fail> {
 
 #[test]
 fn a_seed_stands_for_1024_words(rt: HostRuntime) -> Result<(), Fail> {
-    let read = document(rt.alloc(), "{\"type\":\"timestamp ns\",\"rows\":[],\"seed\":7}")?;
+    let read = document(
+        rt.alloc(),
+        "{\"type\":\"timestamp ns\",\"rows\":[],\"seed\":7}",
+    )?;
     assert_eq!(rt; read.words.len(), 1024);
     assert_eq!(rt; read.words.get(0), Some(&2442223337));
     assert_eq!(rt; read.words.get(1), Some(&414063806));

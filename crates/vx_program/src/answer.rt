@@ -128,6 +128,7 @@ fn reply_over(
     requires plain { IsPlain array.now }
     ensures { IfOk result (λ r. (r.status, cow_str_bytes r.text) ≡ of_column ctx.old (column_of array.now)) }
 {
+    array.known();
     match compressor.compress(array, ctx) {
         Ok(tree) => report(alloc, array.nbytes(), tree),
         Err(error) => refuse_document(alloc, error),
