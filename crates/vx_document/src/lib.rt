@@ -5,4 +5,4 @@ mod document;
 mod listing;
 
 pub use document::{Document, Unread, read_document};
-pub use listing::{listing_text, push_sizes, push_tree};
+pub use listing::{listing_text, report_text};

@@ -97,8 +97,8 @@ fn deeper(alloc: Global, indent: &str) -> Result<String, AllocError>
     format!(in alloc; "{indent}  ")
 }
 
-/// Adds the listing of a tree, in preorder.
-pub fn push_tree(
+// Adds the listing of a tree, in preorder.
+fn push_tree(
     alloc: Global,
     text: &mut String,
     indent: &str,
@@ -146,11 +146,23 @@ pub fn listing_text(alloc: Global, tree: &ArrayRef) -> Result<String, AllocError
     Ok(text)
 }
 
-/// Adds the line of sizes, in bytes.
+// Adds the line of sizes, in bytes.
 #[tactic(auto, unfolding(crate::specs::Listing::sizes_line))]
-pub fn push_sizes(text: &mut String, plain: u128, tree: u128) -> Result<(), AllocError>
+fn push_sizes(text: &mut String, plain: u128, tree: u128) -> Result<(), AllocError>
     ensures { OnOk result (string_bytes text.new ≡ string_bytes text.old ++ sizes_line plain tree) }
 {
     writeln!(text, "plain={plain} tree={tree}")?;
     Ok(())
+}
+
+/// The listing of a tree, whose bytes are below 2^128, and behind it the line of the plain tree's bytes and its own.
+pub fn report_text(alloc: Global, plain: u128, tree: &ArrayRef) -> Result<String, AllocError>
+    requires { size tree.now < 2 ^ 128 }
+    ensures { IfOk result (λ text. string_bytes text
+        ≡ listing [] tree.now ++ sizes_line plain (size tree.now)) }
+{
+    let mut text = String::new(alloc);
+    push_tree(alloc, &mut text, "", tree)?;
+    push_sizes(&mut text, plain, tree.nbytes())?;
+    Ok(text)
 }
