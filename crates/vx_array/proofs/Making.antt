@@ -1,5 +1,5 @@
 -- What a constructor has to show of its array, from its tests.
-use Rattle.std.proofs.Common.{◌≡◌, ◌-◌, ℕ, List, Bool, true, false, None, Some, length, refl, sym, ◌∙◌}
+use Rattle.std.proofs.Common.{◌≡◌, ◌-◌, ℕ, List, Bool, false, None, Some, length, refl, sym, ◌∙◌}
 use Rattle.std.specs.Prelude.{IsTrue, IfSome, Option, nat_lt}
 use Rattle.std.specs.List.{list_any, list_all}
 use Rattle.vx_base.specs.declared.dtype.Nullability.{Nullability}

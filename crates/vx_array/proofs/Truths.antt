@@ -1,8 +1,8 @@
 -- What stands in a row of truth values.
 use Rattle.std.proofs.Common.{◌≡◌, ◌<◌, ◌∙◌, ℕ, ℤ, List, length, true, ap, sym}
 use Rattle.vx_base.specs.PlainScalar.{fits}
-use Rattle.vx_base.specs.PlainType.{PlainType, boolean, nullability_of}
-use Rattle.vx_base.specs.PlainValue.{PlainValue, null, truth, int, bytes}
+use Rattle.vx_base.specs.PlainType.{boolean, nullability_of}
+use Rattle.vx_base.specs.PlainValue.{int, bytes}
 use Rattle.vx_model.specs.Rows.{rows, row_at}
 use Rattle.vx_model.specs.Tree.{Tree}
 use Rattle.vx_model.specs.TreeType.{tree_type}

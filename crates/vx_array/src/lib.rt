@@ -5,10 +5,12 @@ mod array;
 mod arrays;
 mod canonical;
 mod copies;
+mod joined_bytes;
 mod look_up;
 mod node;
 mod parts;
 mod patches;
+mod plain_rows;
 mod reads;
 mod sizes;
 

@@ -9,10 +9,14 @@ pub mod EachIntLemmas
 pub mod FilledLemmas
 pub mod FlatLemmas
 pub mod FrameOfReferenceLemmas
+pub mod GatheredLemmas
 pub mod ItemMapLemmas
+pub mod JoinedLemmas
+pub mod JoinedTreeLemmas
 pub mod LeafLemmas
 pub mod MadeLemmas
 pub mod NullLemmas
+pub mod OffsetColumnLemmas
 pub mod OffsetLemmas
 pub mod OneValueLemmas
 pub mod PackedDecodeLemmas

@@ -5,6 +5,7 @@ pub mod Extents
 pub mod Laws
 pub mod Leaf
 pub mod Nodes
+pub mod Offsets
 pub mod Plain
 pub mod Refusals
 pub mod Rows

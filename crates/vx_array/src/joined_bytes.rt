@@ -1,0 +1,82 @@
+//! The rows of a plain tree of texts or binaries one after the other, and the offsets between them.
+
+ghost use Rattle.std.specs.List.{concat};
+ghost use Rattle.std.specs.Prelude.{◌≡◌, IsTrue, None};
+ghost use Rattle.vx_base.specs.Answers.{Answers};
+ghost use Rattle.vx_base.specs.PlainType.{is_bytes};
+ghost use Rattle.vx_base.specs.TypeOf.{type_of};
+ghost use Rattle.vx_model.specs.Column.{column_of};
+ghost use Rattle.vx_model.specs.Offsets.{byte_rows_of, offsets_column};
+ghost use Rattle.vx_model.specs.Plain.{IsPlain, plain, validity};
+ghost use Rattle.vx_model.specs.Refusals.{kept, var_bin_refusal};
+ghost use Rattle.vx_model.specs.Rows.{rows};
+ghost use Rattle.vx_model.specs.Tree.{var_bin};
+ghost use Rattle.vx_model.specs.TreeType.{tree_type};
+
+use crate::array::{ArrayRef, Node};
+use std::alloc::Global;
+use vx_base::{ByteRows, Bytes, DType, Mask, Nullability, VortexResult};
+use vx_values::{Ints, byte_rows, copy_validity, keep};
+
+impl ArrayRef {
+    /// The offsets between the rows of a plain tree of texts or binaries, as a plain tree of `u64`: 0, and where each
+    /// row ends if they stand one after the other.
+    pub fn row_offsets(&self, alloc: Global) -> VortexResult<ArrayRef>
+        requires plain { IsPlain self.now }
+        requires bytes { IsTrue (is_bytes (tree_type self.now)) }
+        ensures { Answers result (plain (offsets_column (byte_rows_of (column_of self.now)))) }
+    {
+        let (rows, _, _) = self.as_views();
+        let offsets = Ints::U64(byte_rows::offsets(alloc, rows)?);
+        Ok(ArrayRef::primitive_of(offsets, None, Nullability::NonNullable))
+    }
+
+    /// The rows of a plain tree of texts or binaries, one after the other over any tree of the offsets between them.
+    pub fn joined_over(&self, alloc: Global, offsets: ArrayRef) -> VortexResult<ArrayRef>
+        requires plain { IsPlain self.now }
+        requires bytes { IsTrue (is_bytes (tree_type self.now)) }
+        requires offsets { column_of offsets ≡ offsets_column (byte_rows_of (column_of self.now)) }
+        ensures { Answers result (var_bin offsets (concat (byte_rows_of (column_of self.now))) (validity (rows self.now)) (tree_type self.now)) }
+    {
+        self.known();
+        let (rows, valid, dtype) = self.as_views();
+        let bytes = byte_rows::joined(alloc, rows)?;
+        let valid = copy_validity(valid, alloc)?;
+        ArrayRef::var_bin_of(alloc, offsets, bytes, valid, dtype.copy(alloc)?)
+    }
+
+    // The texts or binaries, the validity and the type of a plain tree of them.
+    fn as_views(&self) -> (&ByteRows, &Option<Mask>, &DType)
+        requires plain { IsPlain self.now }
+        requires bytes { IsTrue (is_bytes (tree_type self.now)) }
+        ensures rows { result.0.now ≡ byte_rows_of (column_of self.now) }
+        ensures valid { result.1.now ≡ validity (rows self.now) }
+        ensures dtype { type_of result.2.now ≡ tree_type self.now }
+    {
+        match &self.node {
+            Node::VarBinView(values, valid, dtype) => (values, valid, dtype),
+            _ => unreachable!(),
+        }
+    }
+
+    // Texts or binaries over offsets that are known to be admitted. It looks at no offset and no value.
+    fn var_bin_of(
+        alloc: Global,
+        offsets: ArrayRef,
+        bytes: Bytes,
+        valid: Option<Mask>,
+        dtype: DType,
+    ) -> VortexResult<ArrayRef>
+        requires { var_bin_refusal offsets bytes valid (type_of dtype) ≡ None }
+        ensures { Answers result (var_bin offsets bytes (kept valid) (type_of dtype)) }
+    {
+        let len = offsets.len().saturating_sub(1);
+        offsets.known();
+        let offsets = Box::new(alloc, offsets)?;
+        Ok(ArrayRef {
+            node: Node::VarBin(offsets, bytes, keep(valid), dtype),
+            own_type: None,
+            len,
+        })
+    }
+}
