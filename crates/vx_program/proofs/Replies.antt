@@ -4,7 +4,7 @@ use Rattle.std.specs.Prelude.{◌↔◌}
 use Rattle.std.proofs.lemmas.Bool.{le-ltb, lt-ltb}
 use Rattle.std.specs.Io.KnownBytes.{Consumes, IsAtEnd}
 use Rattle.vx_program.specs.Reading.{limit}
-use Rattle.vx_program.specs.Document.{document}
+use Rattle.vx_document.specs.Document.{document}
 use Rattle.vx_program.specs.Answer.{Reply, IsReply, answer, is_built, refusal, of_bytes, of_document}
 use Rattle.vx_program.specs.Statuses.{IsUsage, IsTooLong}
 

@@ -10,7 +10,7 @@ use Rattle.vx_model.specs.Size.{size}
 use Rattle.vx_btrblocks.specs.Shipped.{shipped_tree}
 use Rattle.vx_program.specs.Causes.{Rose}
 use Rattle.vx_program.specs.Reading.{limit}
-use Rattle.vx_program.specs.Document.{PlainDocument, document}
+use Rattle.vx_document.specs.Document.{PlainDocument, document}
 use Rattle.vx_program.specs.Answer.{Reply, IsReply, answer, is_built, refusal, report, counts_fit, of_column, of_document, of_bytes}
 use Rattle.vx_program.specs.Statuses.{IsWritten, IsAnswered, ComesExactly, IsUsage, IsRead, IsBadDocument, HasTooManyRows, IsCompressible}
 

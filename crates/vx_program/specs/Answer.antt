@@ -12,8 +12,8 @@ use Rattle.vx_model.specs.Plain.{plain}
 use Rattle.vx_model.specs.Size.{size}
 use Rattle.vx_btrblocks.specs.Shipped.{shipped_tree}
 use Rattle.vx_program.specs.Causes.{Rose}
-use Rattle.vx_program.specs.Document.{PlainDocument, document}
-use Rattle.vx_program.specs.Listing.{listing, sizes_line}
+use Rattle.vx_document.specs.Document.{PlainDocument, document}
+use Rattle.vx_document.specs.Listing.{listing, sizes_line}
 use Rattle.vx_program.specs.Reading.{limit}
 
 -- the words as lists of bytes

@@ -1,7 +1,5 @@
 pub mod Answer
 pub mod Causes
-pub mod Document
-pub mod Listing
 pub mod Reading
 pub mod Run
 pub mod Statuses

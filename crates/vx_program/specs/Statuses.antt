@@ -1,7 +1,7 @@
 -- Why a status is answered.
 use Rattle.std.specs.Prelude.{◌≡◌, ◌≢◌, ◌↔◌, ◌⊎◌, ◌<◌, ◌≤◌, ◌+◌, ℕ, List, length, true, false, Option, Some, None, IfSome, IsSomeAnd}
 use Rattle.vx_program.specs.Reading.{limit}
-use Rattle.vx_program.specs.Document.{document}
+use Rattle.vx_document.specs.Document.{document}
 use Rattle.vx_program.specs.Answer.{is_built, counts_fit}
 
 -- The reply was written whole: 1 and 6 stand in the place of its status.

@@ -1,6 +1,6 @@
 //! From words and a source to a status and a text.
 
-ghost use Rattle.std.specs.Prelude.{◌≡◌, ◌≢◌, ◌<◌, ◌+◌, ◌^◌, ◌++◌, ◌↔◌, [], true, List, ℕ, Option, IfOk, IfSome, OnErr, string_bytes, length, map};
+ghost use Rattle.std.specs.Prelude.{◌≡◌, ◌≢◌, ◌<◌, ◌+◌, ◌^◌, ◌↔◌, true, List, ℕ, Option, IfOk, IfSome, OnErr, string_bytes, length, map};
 ghost use Rattle.std.specs.Cow.{cow_str_bytes};
 ghost use Rattle.std.specs.Io.KnownBytes.{IsAtEnd};
 ghost use Rattle.vx_base.specs.declared.error.VortexError.TheVariants.{NoMemory};
@@ -8,8 +8,7 @@ ghost use Rattle.vx_base.specs.ErrorName.{error_name};
 ghost use Rattle.vx_model.specs.Column.{column_of};
 ghost use Rattle.vx_model.specs.Plain.{IsPlain};
 ghost use Rattle.vx_model.specs.Size.{size};
-ghost use Rattle.vx_program.specs.Document.{document};
-ghost use Rattle.vx_program.specs.Listing.{listing, sizes_line};
+ghost use Rattle.vx_document.specs.Document.{document};
 ghost use Rattle.vx_program.specs.Reading.{limit, TakesAtMost};
 ghost use Rattle.vx_scheme.specs.NoMeaning.{no_meaning};
 ghost use Rattle.vx_btrblocks.specs.AnyMeaning.{any_meaning};
@@ -17,8 +16,6 @@ ghost use Rattle.vx_btrblocks.specs.Shipped.{shipped_schemes};
 ghost use Rattle.vx_program.specs.Answer.{texts_of, is_built, refusal, report, of_column, of_document, IsReply};
 ghost use Rattle.vx_program.specs.Statuses.{RestsOnAll, IsUsage, IsTooLong};
 
-use crate::document::{Document, Unread, read_document};
-use crate::listing::{push_sizes, push_tree};
 use crate::outside::Source;
 use crate::reading::{Input, read_all};
 use std::alloc::{AllocError, Global};
@@ -26,6 +23,7 @@ use std::borrow::CowStr;
 use vx_array::ArrayRef;
 use vx_base::{ExecutionCtx, VortexError};
 use vx_btrblocks::{BtrBlocksCompressor, NoScheme};
+use vx_document::{Document, Unread, read_document, report_text};
 
 /// The whole output is written.
 pub const DONE: u8 = 0;
@@ -81,18 +79,6 @@ fn is_built(words: &[String]) -> bool
     }
 }
 
-// The listing of a tree, and both sizes.
-fn report_text(alloc: Global, plain: u128, tree: &ArrayRef) -> Result<String, AllocError>
-    requires { size tree.now < 2 ^ 128 }
-    ensures { IfOk result (λ text. string_bytes text
-        ≡ listing [] tree.now ++ sizes_line plain (size tree.now)) }
-{
-    let mut text = String::new(alloc);
-    push_tree(alloc, &mut text, "", tree)?;
-    push_sizes(&mut text, plain, tree.nbytes())?;
-    Ok(text)
-}
-
 // The reply to a column, by its compressed tree.
 fn report(alloc: Global, plain: u128, tree: ArrayRef) -> Result<Reply, AllocError>
     requires { size tree < 2 ^ 128 }
@@ -129,6 +115,7 @@ fn reply_over(
     requires plain { IsPlain array.now }
     ensures { IfOk result (λ r. (r.status, cow_str_bytes r.text) ≡ of_column ctx.old (column_of array.now)) }
 {
+    array.known();
     match compressor.compress(array, ctx) {
         Ok(tree) => report(alloc, array.nbytes(), tree),
         Err(error) => refuse_document(alloc, error),

@@ -4,12 +4,12 @@ use Rattle.vx_program.proofs.Compression.{size-compressed, reply_compressed, rep
 use Rattle.vx_program.proofs.answer.reply_over.Goals as goal
 
 pub report-requires : goal.report-requires
-report-requires c = size-compressed _ _ _ c.requires.plain (rw c.requires.shipped at c.in-Ok.ensures.answer)
+report-requires c = size-compressed _ _ _ c.requires.plain c.known.ensures (rw c.requires.shipped at c.in-Ok.ensures.answer)
 
 pub returns-in-Ok : goal.returns-in-Ok
 returns-in-Ok c =
     let answer = rw c.requires.shipped at c.in-Ok.ensures.answer in
-    let whole = reply_compressed _ _ _ c.requires.plain answer _ c.nbytes.ensures in
+    let whole = reply_compressed _ _ _ c.requires.plain c.known.ensures answer _ c.nbytes.ensures in
     IfOk-weaker c.report.result _ _ (λ r e. e ∙ whole) c.report.ensures
 
 pub returns-in-Err : goal.returns-in-Err

@@ -1,0 +1,62 @@
+-- The listing of a tree: a line for each node, and the line of sizes.
+use Rattle.std.specs.Prelude.{ℕ, List, [], ◌∷◌, ◌++◌, length, decimal, codes}
+use Rattle.std.specs.List.{concat}
+use Rattle.vx_base.specs.IdName.{id_name}
+use Rattle.vx_base.specs.TypeText.{type_text, value_text}
+use Rattle.vx_model.specs.Tree.{Tree, bool, primitive, var_bin_view, var_bin, timestamp, constant, masked, bit_packed, bit_packed_with, frame_of_reference, zig_zag, dict}
+use Rattle.vx_model.specs.Nodes.{encoding}
+use Rattle.vx_model.specs.TreeType.{tree_type}
+use Rattle.vx_model.specs.Rows.{rows}
+use Rattle.vx_model.specs.Size.{size}
+
+-- the numbers of packed integers: the bits of a row, and how many patches there are
+abbrev pub packed_numbers : ℕ → ℕ → List ℕ
+packed_numbers width patches = codes " width=" ++ decimal width ++ codes " patches=" ++ decimal patches
+
+-- the numbers that only the root's encoding has
+abbrev pub own_numbers : Tree → List ℕ
+own_numbers (bool bs valid n) = []
+own_numbers (primitive p xs valid n) = []
+own_numbers (var_bin_view vs valid t) = []
+own_numbers (var_bin offsets bytes valid t) = []
+own_numbers (timestamp storage k) = []
+own_numbers (constant s len) = codes " value=" ++ value_text s.dtype s.value
+own_numbers (masked child valid) = []
+own_numbers (bit_packed k) = packed_numbers k.width 0
+own_numbers (bit_packed_with k len offset indices values) = packed_numbers k.width (length (rows indices))
+own_numbers (frame_of_reference encoded reference) = codes " reference=" ++ value_text reference.dtype reference.value
+own_numbers (zig_zag encoded) = []
+own_numbers (dict places values) = []
+
+-- the root's encoding, type, rows and bytes
+unfoldable pub heading : Tree → List ℕ
+heading tree =
+    concat (id_name (encoding tree) ∷ codes " " ∷ type_text (tree_type tree) ∷ codes " len=" ∷ decimal (length (rows tree)) ∷ codes " size=" ∷ decimal (size tree) ∷ [])
+
+-- the root's line
+unfoldable pub line : List ℕ → Tree → List ℕ
+line indent tree = concat (indent ∷ heading tree ∷ own_numbers tree ∷ codes "\n" ∷ [])
+
+-- two spaces more
+abbrev pub deeper : List ℕ → List ℕ
+deeper indent = concat (indent ∷ codes "  " ∷ [])
+
+-- the root's line, and then the deeper listings of the trees inside
+abbrev pub listing : List ℕ → Tree → List ℕ
+listing indent (bool bs valid n) = line indent (bool bs valid n)
+listing indent (primitive p xs valid n) = line indent (primitive p xs valid n)
+listing indent (var_bin_view vs valid t) = line indent (var_bin_view vs valid t)
+listing indent (var_bin offsets bytes valid t) = line indent (var_bin offsets bytes valid t) ++ listing (deeper indent) offsets
+listing indent (timestamp storage k) = line indent (timestamp storage k) ++ listing (deeper indent) storage
+listing indent (constant s len) = line indent (constant s len)
+listing indent (masked child valid) = line indent (masked child valid) ++ listing (deeper indent) child
+listing indent (bit_packed k) = line indent (bit_packed k)
+listing indent (bit_packed_with k len offset indices values) =
+    line indent (bit_packed_with k len offset indices values) ++ listing (deeper indent) indices ++ listing (deeper indent) values
+listing indent (frame_of_reference encoded reference) = line indent (frame_of_reference encoded reference) ++ listing (deeper indent) encoded
+listing indent (zig_zag encoded) = line indent (zig_zag encoded) ++ listing (deeper indent) encoded
+listing indent (dict places values) = line indent (dict places values) ++ listing (deeper indent) places ++ listing (deeper indent) values
+
+-- the bytes of the plain tree and of the compressed one
+unfoldable pub sizes_line : ℕ → ℕ → List ℕ
+sizes_line plain tree = concat (codes "plain=" ∷ decimal plain ∷ codes " tree=" ∷ decimal tree ∷ codes "\n" ∷ [])
