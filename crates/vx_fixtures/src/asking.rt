@@ -113,6 +113,7 @@ fn made<S: Scheme, L: Ledger>(
 {
     let mut steps = Steps::<L>::new(blank);
     let site = CompressorContext::new();
+    column.array().known();
     match scheme.split(column, &site, ctx, &mut steps)? {
         Split::Kept => Ok((
             0,

@@ -1,4 +1,4 @@
-//! What tests of several crates share: masks, integers and trees made of plain slices, and what is told of them.
+//! What tests of several crates share: masks, integers, rows of bytes and trees made of plain slices, and what is told of them.
 #![tactic(auto)]
 
 mod asking;
@@ -8,5 +8,5 @@ mod rows;
 
 pub use asking::{Told, made_of, told_of};
 pub use columns::{bundle, column, context};
-pub use making::{accepted, bits, flat, integers, list, packed, with_nulls};
+pub use making::{accepted, bits, byte_rows, flat, integers, list, packed, with_nulls};
 pub use rows::{has_rows, has_wholes};

@@ -1,9 +1,9 @@
-//! Masks, integers, packed bytes and flat trees, made of plain slices.
+//! Masks, integers, rows of bytes, packed bytes and flat trees, made of plain slices.
 
 use std::alloc::Global;
 use vx_array::ArrayRef;
 use vx_base::{
-    Bytes, IntList, Integer, Mask, Nullability, PType, Refused, VortexError, VortexResult,
+    ByteRows, Bytes, IntList, Integer, Mask, Nullability, PType, Refused, VortexError, VortexResult,
 };
 use vx_blocks::pack;
 use vx_values::Ints;
@@ -19,6 +19,15 @@ pub fn accepted<T: Drop, I: Drop>(made: Result<T, Refused<I>>) -> VortexResult<T
 /// A mask of these bits.
 pub fn bits(alloc: Global, values: &[bool]) -> VortexResult<Mask> {
     Ok(Mask::from_bits(Vec::from_slice(alloc, values)?))
+}
+
+/// Rows of these bytes.
+pub fn byte_rows(alloc: Global, rows: &[&[u8]]) -> VortexResult<ByteRows> {
+    let mut items = Vec::new(alloc);
+    for row in rows {
+        items.push(Bytes::from_vec(Vec::from_slice(alloc, *row)?))?;
+    }
+    Ok(ByteRows::from_vec(items))
 }
 
 /// A list of integers of a type. Refuses OutOfBounds where the type doesn't hold one of them.

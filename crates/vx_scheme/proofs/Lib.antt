@@ -1,3 +1,4 @@
 pub mod NullLemmas
+pub mod PartLemmas
 pub mod RatioLemmas
 pub mod StandardFacts

@@ -3,11 +3,11 @@
 use crate::shapes::{Shape, has_shape};
 use std::alloc::Global;
 use std::test::Fail;
-use vx_array::Patches;
+use vx_array::{ArrayRef, Patches};
 use vx_base::ArrayId::{Constant, Primitive};
 use vx_base::PType::{I16, U8, U16, U32, U64};
-use vx_base::VortexResult;
-use vx_fixtures::{accepted, column, context};
+use vx_base::{DType, Nullability, VortexResult};
+use vx_fixtures::{accepted, byte_rows, column, context};
 use vx_schemes::compress_patches;
 
 // The rows that are patched.
@@ -56,5 +56,31 @@ fn equal_values_are_one_scalar(rt: HostRuntime) -> Result<(), Fail> {
         let values = (encoding, I16, nbytes, &values[..]);
         assert!(rt; shortens(rt.alloc(), 0, indices, values)?, "{nbytes}");
     }
+    Ok(())
+}
+
+// The bytes of the short form of patches with these texts, where they became one scalar.
+fn shared_bytes(alloc: Global, texts: &[&[u8]]) -> VortexResult<Option<u128>> {
+    let rows = byte_rows(alloc, texts)?;
+    let values = ArrayRef::var_bin_view(rows, None, DType::utf8(Nullability::NonNullable));
+    let places = column(alloc, U64, &[Some(1), Some(300)])?;
+    let patches = accepted(Patches::new(ROWS, 0, places, accepted(values)?))?;
+    let short = compress_patches(&patches, &mut context(alloc)?)?;
+    if short.values().encoding_id() != Constant {
+        return Ok(None);
+    }
+    Ok(Some(short.values().nbytes()))
+}
+
+#[test]
+fn equal_texts_are_one_scalar(rt: HostRuntime) -> Result<(), Fail> {
+    assert_eq!(rt;
+        shared_bytes(rt.alloc(), &[b"thirteen byte", b"thirteen byte"])?,
+        Some(14)
+    );
+    assert_eq!(rt;
+        shared_bytes(rt.alloc(), &[b"thirteen byte", b"thirteen bytE"])?,
+        None
+    );
     Ok(())
 }

@@ -11,6 +11,7 @@ pub(crate) type Shape<'a> = (ArrayId, PType, u128, &'a [Option<i128>]);
 pub(crate) fn has_shape(tree: &ArrayRef, shape: &Shape) -> bool {
     let (encoding, ptype, nbytes, rows) = *shape;
     tree.encoding_id() == encoding
+        && tree.dtype().is_integer()
         && tree.dtype().ptype() == ptype
         && tree.nbytes() == nbytes
         && has_rows(tree, rows)

@@ -1,8 +1,8 @@
 -- Patches in their short form: the type of their indices, and values that are all equal.
 use Rattle.std.proofs.Common.{◌≡◌, ◌<◌, ◌≤◌, ◌+◌, ◌^◌, ◌∙◌, ℕ, zero, suc, ℤ, pos, negsuc, Bool, true, false, List, [], ◌∷◌, length, map, Some, None, cond, refl, sym, ap, subst, arith, inl, inr}
-use Rattle.std.specs.Prelude.{◌&&◌, ◌||◌, nat_lt, IsSome, find, unwrap_or, slice_index_or}
+use Rattle.std.specs.Prelude.{◌&&◌, ◌||◌, nat_lt, is_some, IsSome, find, unwrap_or}
 use Rattle.std.specs.List.{list_all, list_any}
-use Rattle.std.proofs.lemmas.Bool.{and_from, lt-ltb, le-ltb, cases_lt, eq-eqb}
+use Rattle.std.proofs.lemmas.Bool.{and_from, or_parts, lt-ltb, le-ltb, cases_lt, eq-eqb}
 use Rattle.vx_base.specs.declared.ptype.PType.{PType}
 use Rattle.vx_base.specs.declared.ptype.PType.TheVariants.{U8, U16, U32, U64}
 use Rattle.vx_base.specs.declared.dtype.Nullability.{Nullability}
@@ -127,28 +127,31 @@ indices_held t low high q xs a w e f =
 
 -- ---- values that are all equal
 
--- where validity bits stand, some row is null
-pub some_null_of : (vs : List PlainValue) (bits : List Bool) → validity vs ≡ Some bits → list_any is_null vs ≡ true
-some_null_of vs bits e = by_any (list_any is_null vs) e
+-- validity bits stand where some row is null
+pub bits-some : (vs : List PlainValue) → is_some (validity vs) ≡ list_any is_null vs
+bits-some vs = by_any (list_any is_null vs)
   where
-    by_any : (b : Bool) → cond b (Some (valid_bits vs)) None ≡ Some bits → b ≡ true
-    by_any true q = refl
-    by_any false q = absurd cc
+    by_any : (b : Bool) → is_some (cond b (Some (valid_bits vs)) None) ≡ b
+    by_any true = refl
+    by_any false = refl
 
-same_first : (x : ℤ) (ys : List ℤ) → list_all (null_or (int x)) (map int ys) ≡ list_all (λ w. same_value w (int x)) (map int ys)
-same_first x [] = refl
-same_first x (y ∷ ys) = ap (λ b. same_value (int y) (int x) && b) (same_first x ys)
+same_first : (v : PlainValue) (vs : List PlainValue) → list_any is_null vs ≡ false → list_all (null_or v) vs ≡ list_all (λ w. same_value w v) vs
+same_first v [] e = refl
+same_first v (w ∷ ws) e =
+    let b = or_parts (is_null w) (list_any is_null ws) e in
+    (λ i. (b.0 i || same_value w v) && list_all (null_or v) ws) ∙ ap (λ rest. same_value w v && rest) (same_first v ws b.1)
 
-pub shared-ints : (xs : List ℤ) (z : ℤ) → 0 < length xs → z ≡ slice_index_or xs 0 (pos 0) → shared_value (map int xs) ≡ cond (each_null_or (int z) (map int xs)) (Some (int z)) None
-shared-ints [] z h e = absurd (omega arith)
-shared-ints (x ∷ xs) z h e =
-    let whole : each_null_or (int x) (map int (x ∷ xs)) ≡ list_all (λ w. same_value w (int x)) (map int xs) = ap (λ b. b && list_all (null_or (int x)) (map int xs)) (same_refl stored_value (int x) (int x) refl) ∙ same_first x xs in
-    subst (λ y. shared_value (map int (x ∷ xs)) ≡ cond (each_null_or (int y) (map int (x ∷ xs))) (Some (int y)) None) (sym e) (ap (λ b. cond b (Some (int x)) None) (sym whole))
-
--- the first value is shared, or none is
-pub shared-first : (valid : Validity) (xs : List ℤ) (z : ℤ) (same : Bool) → valid ≡ None → 0 < length xs → z ≡ slice_index_or xs 0 (pos 0) → same ≡ each_null_or (int z) (map int xs)
-    → cond same (Some (int z)) None ≡ shared_value (valid_rows valid (map int xs))
-shared-first valid xs z same no_bits h e each = ap (λ b. cond b (Some (int z)) None) each ∙ sym (shared-ints xs z h e) ∙ ap (λ v. shared_value (valid_rows v (map int xs))) (sym no_bits)
+-- where no row is null, the first value is shared, or none is
+pub shared-first : (vs : List PlainValue) (v : PlainValue) (same : Bool) → list_any is_null vs ≡ false → first_valid vs ≡ Some v → same ≡ each_null_or v vs → cond same (Some v) None ≡ shared_value vs
+shared-first [] v same n e each = absurd cc
+shared-first (w ∷ ws) v same n e each =
+    let b = or_parts (is_null w) (list_any is_null ws) n in
+    let is : Some w ≡ Some v = rw b.0 at e in
+    let first : w ≡ v = cc in
+    subst (λ u. same ≡ each_null_or u (w ∷ ws) → cond same (Some u) None ≡ shared_value (w ∷ ws)) first (λ all. ap (λ s. cond s (Some w) None) (all ∙ whole b.0 b.1)) each
+  where
+    whole : is_null w ≡ false → list_any is_null ws ≡ false → each_null_or w (w ∷ ws) ≡ list_all (λ u. same_value u w) ws
+    whole f rest = (λ i. (f i || same_value w w) && list_all (null_or w) ws) ∙ (λ i. same_refl stored_value w w refl i && same_first w ws rest i)
 
 not_nulls : (vs : List PlainValue) (v : PlainValue) → first_valid vs ≡ Some v → list_all (λ w. same_value w null) vs ≡ false
 not_nulls [] v e = absurd cc

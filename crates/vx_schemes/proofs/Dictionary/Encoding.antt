@@ -1,5 +1,5 @@
 -- What statistics tell of a column whose dictionary is made, and what the dictionary stands for.
-use Rattle.std.proofs.Common.{◌≡◌, ◌<◌, ◌∙◌, ℕ, ℤ, List, length, map, true, Some, None, refl, ap, subst, arith}
+use Rattle.std.proofs.Common.{◌≡◌, ◌<◌, ◌^◌, ◌∙◌, ℕ, ℤ, List, length, map, true, Some, None, refl, ap, subst, arith}
 use Rattle.std.specs.Prelude.{IfSome, Result, Ok, Err}
 use Rattle.vx_base.specs.Answers.{Answers, OrMemory}
 use Rattle.vx_base.specs.declared.error.VortexError.{VortexError}
@@ -12,9 +12,9 @@ use Rattle.vx_model.specs.Plain.{plain}
 use Rattle.vx_model.specs.Refusals.{dict_refusal}
 use Rattle.vx_model.specs.Tree.{Tree}
 use Rattle.vx_model.proofs.PlainLemmas.{column_of-plain}
-use Rattle.vx_stats.specs.Stats.{PlainStats, stats_of, distinct_values, distinct_counts}
+use Rattle.vx_stats.specs.Stats.{PlainStats, stats_of, distinct_values, distinct_count, distinct_counts}
 use Rattle.vx_schemes.specs.Dictionary.Tree.{dictionary_values, dictionary_codes, dictionary_of, distinct_options}
-use Rattle.vx_schemes.specs.Dictionary.Laws.{dictionary-admitted, dictionary-column}
+use Rattle.vx_schemes.specs.Dictionary.Laws.{values-fit, codes-column, dictionary-admitted, dictionary-column}
 use Rattle.vx_schemes.proofs.Dictionary.Ratio.{distinct-told}
 use Rattle.vx_schemes.proofs.Dictionary.Tree.{uncounted-distinct}
 
@@ -34,12 +34,19 @@ module _ (p : PType) (vs : List PlainValue) (stats : PlainStats) (is : stats ≡
 
 -- ---- the dictionary
 
-pub dictionary-accepted : (c : Column) → is_integer c.dtype ≡ true → IsColumn c → dict_refusal (plain (dictionary_codes c)) (plain (dictionary_values c)) ≡ None
-dictionary-accepted c j h = dictionary-admitted c (plain (dictionary_codes c)) (plain (dictionary_values c)) j h (column_of-plain (dictionary_values c)) (column_of-plain (dictionary_codes c))
+module _ (c : Column) (j : is_integer c.dtype ≡ true) (h : IsColumn c) (few : distinct_count c.values < 2 ^ 32) where
+  values-back : column_of (plain (dictionary_values c)) ≡ dictionary_values c
+  values-back = column_of-plain (dictionary_values c) (values-fit c j h)
 
-column_of-dictionary : (c : Column) → is_integer c.dtype ≡ true → IsColumn c → column_of (dictionary_of c) ≡ c
-column_of-dictionary c j h = dictionary-column c (plain (dictionary_codes c)) (plain (dictionary_values c)) j h (column_of-plain (dictionary_values c)) (column_of-plain (dictionary_codes c))
+  codes-back : column_of (plain (dictionary_codes c)) ≡ dictionary_codes c
+  codes-back = column_of-plain (dictionary_codes c) (codes-column c j h (omega arith))
 
-pub dictionary-kept : (c : Column) → is_integer c.dtype ≡ true → IsColumn c → (result : Result Tree VortexError) → Answers result (dictionary_of c) → OrMemory result (λ tree. column_of tree ≡ c)
-dictionary-kept c j h (Ok tree) is = ap column_of is ∙ column_of-dictionary c j h
-dictionary-kept c j h (Err e) is = is
+  pub dictionary-accepted : dict_refusal (plain (dictionary_codes c)) (plain (dictionary_values c)) ≡ None
+  dictionary-accepted = dictionary-admitted c (plain (dictionary_codes c)) (plain (dictionary_values c)) j h values-back codes-back
+
+  column_of-dictionary : column_of (dictionary_of c) ≡ c
+  column_of-dictionary = dictionary-column c (plain (dictionary_codes c)) (plain (dictionary_values c)) j h values-back codes-back
+
+  pub dictionary-kept : (result : Result Tree VortexError) → Answers result (dictionary_of c) → OrMemory result (λ tree. column_of tree ≡ c)
+  dictionary-kept (Ok tree) is = ap column_of is ∙ column_of-dictionary
+  dictionary-kept (Err e) is = is

@@ -53,8 +53,8 @@ differences-natural c z i h =
 
 -- ---- the tree of the differences
 
-pub encoded-is : (c : Column) (z : ℤ) (d e : Tree) → d ≡ plain (differences c z) → e ≡ packed_or_plain (column_of d) → e ≡ packed_or_plain (differences c z)
-encoded-is c z d e h k = k ∙ ap (λ u. packed_or_plain (column_of u)) h ∙ ap packed_or_plain (column_of-plain (differences c z))
+pub encoded-is : (c : Column) (z : ℤ) (d e : Tree) → is_integer c.dtype ≡ true → IsColumn c → d ≡ plain (differences c z) → e ≡ packed_or_plain (column_of d) → e ≡ packed_or_plain (differences c z)
+encoded-is c z d e i f h k = k ∙ ap (λ u. packed_or_plain (column_of u)) h ∙ ap packed_or_plain (column_of-plain (differences c z) (differences-column c z i f))
 
 module _ (t : Tree) (z : ℤ) (i : is_integer (tree_type t) ≡ true) (w : WellFormed t) where
   pub least-in : least_value (rows t) ≡ Some z → lies_in (integer_of (tree_type t)) z ≡ true
@@ -63,18 +63,21 @@ module _ (t : Tree) (z : ℤ) (i : is_integer (tree_type t) ≡ true) (w : WellF
   abbrev less : Column
   less = differences (column_of t) z
 
+  pub less-column : IsColumn less
+  less-column = differences-column (column_of t) z i (rows_fit t w)
+
   pub plain-natural : has_negative (column_of (plain less)) ≡ false
-  plain-natural = ap has_negative (column_of-plain less) ∙ differences-natural (column_of t) z i (rows_fit t w)
+  plain-natural = ap has_negative (column_of-plain less less-column) ∙ differences-natural (column_of t) z i (rows_fit t w)
 
   module _ (few : length (rows t) ≤ 2 ^ 32) where
     less-few : length less.values ≤ 2 ^ 32
     less-few = omega (arith, length-map (rows t) (difference (integer_of (tree_type t)) z), few)
 
     pub plain-few : length (rows (plain less)) ≤ 2 ^ 32
-    plain-few = subst (λ d. length d.values ≤ 2 ^ 32) (sym (column_of-plain less)) less-few
+    plain-few = subst (λ d. length d.values ≤ 2 ^ 32) (sym (column_of-plain less less-column)) less-few
 
     pub less-typed : tree_type (packed_or_plain less) ≡ differences_type (types.primitive (integer_of (tree_type t)) NonNullable) (tree_type (packed_or_plain less))
     less-typed =
-        let inner = packed_or_plain-well less refl (differences-column (column_of t) z i (rows_fit t w)) less-few in
+        let inner = packed_or_plain-well less refl less-column less-few in
         let typed : tree_type (packed_or_plain less) ≡ less.dtype = ap (λ d. d.dtype) inner.1 in
         typed ∙ sym (ap (differences_type (types.primitive (integer_of (tree_type t)) NonNullable)) typed)

@@ -38,7 +38,7 @@ use Rattle.vx_schemes.specs.Widths.{widths_of, best_width_of}
 use Rattle.vx_schemes.specs.BitPacking.Admitted.{packed_admitted}
 use Rattle.vx_schemes.specs.BitPacking.Rising.{wide_rows-ascend}
 use Rattle.vx_schemes.specs.BitPacking.Picked.{picked_at, picked-filter}
-use Rattle.vx_schemes.specs.Patches.Laws.{short_well, patches_at-well, rows-narrowed, rows-constant_or_plain}
+use Rattle.vx_schemes.specs.Patches.Laws.{short_well, patches_at-well, values-column, rows-narrowed, rows-constant_or_plain}
 use Rattle.vx_schemes.specs.BitPacking.FirstLeast.{first_least-le, narrow_width}
 
 -- ---- well formed
@@ -85,23 +85,23 @@ module _ (p : PType) (n : Nullability) (xs : List ℤ) (valid : List Bool) (widt
   twice [] = refl
   twice (row ∷ chosen) = ap (λ vs. value_at row ∷ vs) (twice chosen)
 
-  by_patches : (chosen : List ℕ) (i : ℕ) → ascend 0 (length xs) (map int (map pos chosen)) ≡ true → packed_or_patch packed (patches_of p xs chosen) i ≡ picked_at value_at (packed_at packed i) i chosen
-  by_patches [] i a = refl
-  by_patches (row ∷ chosen) i a =
+  by_patches : list_all (lies_in p) xs ≡ true → (chosen : List ℕ) (i : ℕ) → ascend 0 (length xs) (map int (map pos chosen)) ≡ true → packed_or_patch packed (patches_of p xs chosen) i ≡ picked_at value_at (packed_at packed i) i chosen
+  by_patches held [] i a = refl
+  by_patches held (row ∷ chosen) i a =
       let made = patches_at p xs (row ∷ chosen) in
       let is = rows-narrowed made.indices 0 (length xs) a in
-      let vs = rows-constant_or_plain (column_of made.values) ∙ twice (row ∷ chosen) in
+      let vs = rows-constant_or_plain (column_of made.values) (values-column p xs (row ∷ chosen) held a) ∙ twice (row ∷ chosen) in
       let first : 0 + i ≡ i = omega arith in
       λ j. patched (is j) (vs j) (packed_at packed i) (first j)
 
-  pub packed_row-at : (i : ℕ) → i < length xs → packed_or_patch packed (patches_of p xs wide) i
+  pub packed_row-at : list_all (lies_in p) xs ≡ true → (i : ℕ) → i < length xs → packed_or_patch packed (patches_of p xs wide) i
       ≡ cond (is_wide width (get_or (map (bits_in p) xs) i 0) (get_or valid i false)) (value_at i) (int (pos (kept_row width (get_or (map (bits_in p) xs) i 0) (get_or valid i false))))
-  packed_row-at i h =
+  packed_row-at held i h =
       let bits = map (bits_in p) xs in
       let long : length bits ≡ length xs = length-map xs (bits_in p) in
       let at : packed_row (packed_bytes p width xs valid) width i ≡ kept_row width (get_or bits i 0) (get_or valid i false) =
       unpacked width bits valid (packed_bytes p width xs valid) i (same ∙ sym long) (omega arith) (bytes_hold p width xs valid same) in
-      by_patches wide i (wide_rows-ascend p width xs valid)
+      by_patches held wide i (wide_rows-ascend p width xs valid)
       ∙ picked-filter value_at (packed_at packed i) i (λ k. is_wide width (get_or bits k 0) (get_or valid k false)) 0 (length bits) (omega arith) (omega arith)
       ∙ ap (λ b. cond (is_wide width (get_or bits i 0) (get_or valid i false)) (value_at i) (int (pos b))) at
 
@@ -170,7 +170,7 @@ module _ (p : PType) (n : Nullability) (vs : List PlainValue) (width : ℕ) wher
       let b : get_or bits i false ≡ not (is_null (row_at vs i)) = get_or-map (λ v. not (is_null v)) vs i null false m in
       let f : get_or (map (bits_in p) wholes) i 0 ≡ bits_in p (get_or wholes i (pos 0)) = get_or-map (bits_in p) wholes i (pos 0) 0 l in
       let valid = is_valid-kept p n wholes bits width long_bits i l in
-      let row = packed_row-at p n wholes bits width long_bits i l in
+      let row = packed_row-at p n wholes bits width long_bits (wholes_lie_in p n vs fit) i l in
       row_at-packed_of k o i w l ∙ (λ j. cond (valid j) (row j) null) ∙ back i x f b (none_negative wholes i none l))
     where
       back : (i : ℕ) → IsRowOf p width (get_or wholes i (pos 0)) (get_or (map (bits_in p) wholes) i 0) (get_or bits i false) (row_at vs i)

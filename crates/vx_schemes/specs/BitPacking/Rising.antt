@@ -15,7 +15,6 @@ use Rattle.vx_base.specs.PlainValue.{PlainValue, int, whole_or_zero}
 use Rattle.vx_model.specs.WellFormed.{ascend}
 use Rattle.vx_model.proofs.PatchLemmas.{ascend_parts, ascend_from}
 use Rattle.vx_model.proofs.AscentLemmas.{by_ascent}
-use Rattle.vx_base.proofs.IntegerLemmas.{by_integer, integer-fitted}
 use Rattle.vx_base.specs.PlainScalar.{fits}
 
 pub ascend-lower : (low lower high : ℕ) (is : List PlainValue) → lower ≤ low → ascend low high is ≡ true → ascend lower high is ≡ true
@@ -61,7 +60,9 @@ natural_word I32 n h = lt-ltb _ _ (omega (arith, ltb-true _ _ h))
 natural_word I64 n h = lt-ltb _ _ (omega (arith, ltb-true _ _ h))
 
 word_of : (t : PlainType) (n : ℕ) → fits t (int (pos n)) ≡ true → lies_in U64 (pos n) ≡ true
-word_of t n h = by_integer (λ s. fits s (int (pos n)) ≡ true → lies_in U64 (pos n) ≡ true) (λ p m k. natural_word p n k) t (integer-fitted t (pos n) h) h
+word_of (types.primitive p m) n h = natural_word p n h
+word_of (types.timestamp k m) n h = natural_word I64 n h
+word_of t n h = absurd cc
 
 pub ascend-words : (t : PlainType) (low high : ℕ) (is : List PlainValue) → ascend low high is ≡ true → list_all (fits t) is ≡ true → fit_all U64 is ≡ true
 ascend-words t low high =

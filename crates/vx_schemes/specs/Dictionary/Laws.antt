@@ -1,5 +1,5 @@
 -- The codes of a column's rows are places of its distinct values, and give the rows back.
-use Rattle.std.proofs.Common.{◌≡◌, ◌<◌, ◌≤◌, ◌-◌, ◌∙◌, ℕ, suc, ℤ, pos, Bool, true, false, cond, List, [], ◌∷◌, length, map, Option, None, Some, refl, ap, arith, inl, inr}
+use Rattle.std.proofs.Common.{◌≡◌, ◌<◌, ◌≤◌, ◌-◌, ◌^◌, ◌∙◌, ℕ, suc, ℤ, pos, Bool, true, false, cond, List, [], ◌∷◌, length, map, Option, None, Some, refl, ap, arith, inl, inr}
 use Rattle.std.specs.Prelude.{◌==◌, nat_lt, int_lt, All}
 use Rattle.std.specs.List.{list_all}
 use Rattle.std.specs.Ordering.{int_eq}
@@ -153,11 +153,11 @@ values-fit c j h =
     by_integer (λ t. list_all (fits t) c.values ≡ true → list_all (fits t) (map int (distinct_values c.values)) ≡ true)
     (λ p n k. ints-fit p n (distinct_values c.values) (distinct-all (lies_in p) (valid_wholes c.values) (integers-lie_in p n c.values k))) c.dtype j h
 
-pub codes-column : (c : Column) → is_integer c.dtype ≡ true → IsColumn c → length c.values ≤ most_rows → IsColumn (dictionary_codes c)
+pub codes-column : (c : Column) → is_integer c.dtype ≡ true → IsColumn c → distinct_count c.values ≤ 2 ^ 32 → IsColumn (dictionary_codes c)
 codes-column c j h few = by_integer (λ t. list_all (fits t) c.values ≡ true → IsColumn (dictionary_codes (column t c.values))) of_type c.dtype j h
   where
     wide : (i : ℕ) → i < distinct_count c.values → lies_in (code_type (distinct_count c.values)) (pos i) ≡ true
-    wide i l = code_type-holds (distinct_count c.values) i (omega (arith, distinct_count-few c.values)) l
+    wide i l = code_type-holds (distinct_count c.values) i few l
 
     of_type : (p : PType) (n : Nullability) → list_all (fits (types.primitive p n)) c.values ≡ true → IsColumn (dictionary_codes (column (types.primitive p n) c.values))
     of_type p n k =
@@ -168,7 +168,7 @@ codes-column c j h few = by_integer (λ t. list_all (fits t) c.values ≡ true �
 pub dictionary-small : (c : Column) → is_integer c.dtype ≡ true → IsColumn c → length c.values ≤ most_rows → All (IsPart c) (dictionary_values c ∷ dictionary_codes c ∷ [])
 dictionary-small c j h few =
     let values : IsPart c (dictionary_values c) = record { column = values-fit c j h; leaf = integer-is_leaf c.dtype j; rows = omega (arith, length-map (distinct_values c.values) int, distinct_count-few c.values) } in
-    let codes : IsPart c (dictionary_codes c) = record { column = codes-column c j h few; leaf = refl; rows = omega (arith, length-map c.values (code_in (distinct_values c.values))) } in
+    let codes : IsPart c (dictionary_codes c) = record { column = codes-column c j h (omega (arith, distinct_count-few c.values)); leaf = refl; rows = omega (arith, length-map c.values (code_in (distinct_values c.values))) } in
     All-from_recursion (IsPart c) (dictionary_values c ∷ dictionary_codes c ∷ []) (values, (codes, tt))
 
 -- ---- the joined tree

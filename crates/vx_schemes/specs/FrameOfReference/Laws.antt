@@ -79,7 +79,7 @@ pub packed_or_plain-well : (c : Column) → is_integer c.dtype ≡ true → IsCo
 packed_or_plain-well c i h few = by_made (bit_packing_made c) refl
   where
     by_made : (o : Option Tree) → bit_packing_made c ≡ o → StandsFor (unwrap_or o (plain c)) c
-    by_made None e = (plain_well_formed c h, column_of-plain c)
+    by_made None e = (plain_well_formed c h, column_of-plain c h)
     by_made (Some t) e = bit_packing-lawful c t i h few e
 
 -- under its reference, any well-formed tree of the differences

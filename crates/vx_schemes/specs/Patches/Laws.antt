@@ -65,11 +65,11 @@ shared-copies (w ∷ vs) v e = by_test (list_all (λ u. same_value u w) vs) refl
     by_test true all q = let same : w ≡ v = cc in subst (λ u. replicate (length (w ∷ vs)) u ≡ w ∷ vs) same (ap (λ us. w ∷ us) (copies w vs all))
     by_test false all q = absurd cc
 
-pub rows-constant_or_plain : (c : Column) → rows (constant_or_plain c) ≡ c.values
-rows-constant_or_plain c = by_value (shared_value c.values) refl
+pub rows-constant_or_plain : (c : Column) → IsColumn c → rows (constant_or_plain c) ≡ c.values
+rows-constant_or_plain c h = by_value (shared_value c.values) refl
   where
     by_value : (o : Option PlainValue) → shared_value c.values ≡ o → rows (shared_or_plain c o) ≡ c.values
-    by_value None e = rows-plain_of c.dtype c.values
+    by_value None e = rows-plain_of c.dtype c.values h
     by_value (Some v) e = shared-copies c.values v e
 
 pub short_alike : (p : PlainPatches) → WellFormedPatches p → PatchAlike p (compressed_patches p)
@@ -78,7 +78,7 @@ short_alike p h =
       array_len = refl;
       offset = refl;
       indices = rows-narrowed p.indices p.offset (p.offset + p.array_len) h.2.ascending;
-      values = λ i. column (type-constant_or_plain (column_of p.values) i) (rows-constant_or_plain (column_of p.values) i);
+      values = λ i. column (type-constant_or_plain (column_of p.values) i) (rows-constant_or_plain (column_of p.values) (rows_fit p.values h.1) i);
     }
 
 -- ---- well formed
@@ -99,7 +99,7 @@ short_well p h =
     let low = p.offset in
     let high = p.offset + p.array_len in
     let is = rows-narrowed p.indices low high h.2.ascending in
-    let vs = rows-constant_or_plain (column_of p.values) in (
+    let vs = rows-constant_or_plain (column_of p.values) (rows_fit p.values h.1) in (
       narrowed-well p.indices low high h.2.ascending h.0,
       constant_or_plain-well (column_of p.values) (rows_fit p.values h.1),
       record {
@@ -129,8 +129,16 @@ gathered_held q xs (row ∷ chosen) h l =
     let b = and_parts (nat_lt row (length xs)) (list_all (λ r. nat_lt r (length xs)) chosen) l in
     and_from _ _ (each_at q xs row (ltb-true row (length xs) b.0) h) (gathered_held q xs chosen h b.1)
 
+gathered-well : (p : PType) (xs : List ℤ) (chosen : List ℕ) → list_all (lies_in p) xs ≡ true → ascend 0 (length xs) (map int (map pos chosen)) ≡ true → WellFormed (patches_at p xs chosen).values
+gathered-well p xs chosen held a =
+    primitive_made p (map (λ row. slice_index_or xs row (pos 0)) chosen) None NonNullable refl refl (gathered_held (lies_in p) xs chosen held (rows_below 0 (length xs) chosen a))
+
+-- their values fit the type
+pub values-column : (p : PType) (xs : List ℤ) (chosen : List ℕ) → list_all (lies_in p) xs ≡ true → ascend 0 (length xs) (map int (map pos chosen)) ≡ true → IsColumn (column_of (patches_at p xs chosen).values)
+values-column p xs chosen held a = rows_fit (patches_at p xs chosen).values (gathered-well p xs chosen held a)
+
 pub patches_at-well : (p : PType) (xs : List ℤ) (chosen : List ℕ) → length xs ≤ 2 ^ 64 → list_all (lies_in p) xs ≡ true → ascend 0 (length xs) (map int (map pos chosen)) ≡ true → WellFormedPatches (patches_at p xs chosen)
 patches_at-well p xs chosen few held a =
     let below = rows_below 0 (length xs) chosen a in
     patches_accepted (patches_at p xs chosen) (patches_admitted p xs chosen a) (primitive_made U64 (map pos chosen) None NonNullable refl refl (row_words (length xs) chosen few below))
-    (primitive_made p (map (λ row. slice_index_or xs row (pos 0)) chosen) None NonNullable refl refl (gathered_held (lies_in p) xs chosen held below))
+    (gathered-well p xs chosen held a)

@@ -58,6 +58,7 @@ impl IntegerStats {
     #[tactic(auto, using(vx_model::proofs::PrimitiveLemmas::plain_roots))]
     pub fn summary_of(plain: &ArrayRef) -> IntegerStats
         requires plain { IsPlain plain.now }
+        requires integer { IsTrue (is_integer (tree_type plain.now)) }
         requires few { length (rows plain.now) < 2 ^ 32 }
         ensures { result ≡ stats_of no_options (integer_of (tree_type plain.now)) (rows plain.now) }
     {
@@ -74,6 +75,7 @@ impl IntegerStats {
         opts: GenerateStatsOptions,
     ) -> VortexResult<IntegerStats>
         requires plain { IsPlain plain.now }
+        requires integer { IsTrue (is_integer (tree_type plain.now)) }
         requires few { length (rows plain.now) < 2 ^ 32 }
         requires summary { self.now ≡ stats_of no_options (integer_of (tree_type plain.now)) (rows plain.now) }
         ensures { Answers result (stats_of opts (integer_of (tree_type plain.now)) (rows plain.now)) }
@@ -103,6 +105,7 @@ impl IntegerStats {
     #[tactic(auto, using(vx_model::proofs::PrimitiveLemmas::plain_roots))]
     pub fn shows_mostly_distinct(&self, alloc: Global, plain: &ArrayRef) -> VortexResult<bool>
         requires plain { IsPlain plain.now }
+        requires integer { IsTrue (is_integer (tree_type plain.now)) }
         requires few { length (rows plain.now) < 2 ^ 32 }
         requires summary { self.now ≡ stats_of no_options (integer_of (tree_type plain.now)) (rows plain.now) }
         ensures { OrMemory result (λ shown. shown ≡ true → value_count (rows plain.now) / 2 < distinct_count (rows plain.now)) }
@@ -148,6 +151,7 @@ fn stats_of_plain(
     opts: GenerateStatsOptions,
 ) -> VortexResult<IntegerStats>
     requires plain { IsPlain plain.now }
+    requires integer { IsTrue (is_integer (tree_type plain.now)) }
     requires few { length (rows plain.now) < 2 ^ 32 }
     ensures { Answers result (stats_of opts (integer_of (tree_type plain.now)) (rows plain.now)) }
 {

@@ -5,11 +5,13 @@ ghost use Rattle.std.specs.List.{list_all, list_any};
 ghost use Rattle.vx_base.specs.Answers.{Answers, OrMemory};
 ghost use Rattle.vx_base.specs.Integers.{bits_in, lies_in, natural_bits};
 ghost use Rattle.vx_base.specs.Packed.{wide_rows};
+ghost use Rattle.vx_base.specs.PlainType.{is_integer};
 ghost use Rattle.vx_base.specs.PlainValue.{int};
 ghost use Rattle.vx_model.specs.Column.{column_of};
 ghost use Rattle.vx_model.specs.Plain.{IsPlain};
 ghost use Rattle.vx_model.specs.Refusals.{validity_allowed};
 ghost use Rattle.vx_model.specs.Rows.{rows};
+ghost use Rattle.vx_model.specs.TreeType.{tree_type};
 ghost use Rattle.vx_model.specs.WellFormed.{ascend};
 ghost use Rattle.vx_values.specs.IntsOf.{ptype_of, wholes_of};
 ghost use Rattle.vx_schemes.specs.BitPacking.Tree.{is_negative, has_negative, bit_packing_made, packing_of, packed_tree, patches_of, patches_at};
@@ -31,6 +33,7 @@ pub(crate) fn bit_packing_tree(
     ctx: &mut ExecutionCtx,
 ) -> VortexResult<Option<ArrayRef>>
     requires plain { IsPlain plain.now }
+    requires integer { IsTrue (is_integer (tree_type plain.now)) }
     requires natural { has_negative (column_of plain.now) ≡ false }
     requires few { length (rows plain.now) ≤ 2 ^ 32 }
     ensures answer { Answers result (bit_packing_made (column_of plain.now)) }

@@ -48,6 +48,7 @@ fn encoded(alloc: Global, array: &ArrayRef, values: Ints) -> VortexResult<ArrayR
     requires few { length (wholes_of values) < 2 ^ 32 }
     ensures { Answers result (dictionary_of (column_of array.now)) }
 {
+    array.known();
     if array.is_plain() {
         plain_encoded(alloc, array, values)
     } else {

@@ -62,6 +62,7 @@ fn codes_of_ints(
 #[tactic(auto, using(vx_model::proofs::PrimitiveLemmas::plain_roots))]
 fn codes_tree(alloc: Global, array: &ArrayRef, values: &Ints) -> VortexResult<ArrayRef>
     requires plain { IsPlain array.now }
+    requires integer { IsTrue (is_integer (tree_type array.now)) }
     requires ptype { ptype_of values.now ≡ integer_of (tree_type array.now) }
     requires values { wholes_of values.now ≡ distinct_values (rows array.now) }
     requires few { length (wholes_of values.now) < 2 ^ 32 }

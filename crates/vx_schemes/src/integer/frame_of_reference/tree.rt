@@ -48,6 +48,7 @@ pub(crate) fn frame_of_reference_tree(
 // The differences bit packed, or as they are where bit packing makes nothing of them.
 fn packed_or_plain(array: ArrayRef, ctx: &mut ExecutionCtx) -> VortexResult<ArrayRef>
     requires plain { IsPlain array }
+    requires integer { IsTrue (is_integer (tree_type array)) }
     requires natural { has_negative (column_of array) ≡ false }
     requires few { length (rows array) ≤ 2 ^ 32 }
     ensures answer { Answers result (packed_or_plain (column_of array)) }
@@ -82,6 +83,7 @@ pub fn framed(
 #[tactic(auto, using(vx_model::proofs::PrimitiveLemmas::plain_roots))]
 pub fn differences(alloc: Global, array: &ArrayRef, reference: i128) -> VortexResult<ArrayRef>
     requires plain { IsPlain array.now }
+    requires integer { IsTrue (is_integer (tree_type array.now)) }
     requires held { IsTrue (lies_in (integer_of (tree_type array.now)) reference) }
     ensures { Answers result (plain (differences (column_of array.now) reference)) }
 {
