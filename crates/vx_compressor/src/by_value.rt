@@ -8,7 +8,7 @@ ghost use Rattle.vx_model.specs.Plain.{IsPlain};
 ghost use Rattle.vx_scheme.specs.Contexts.{site_of};
 ghost use Rattle.vx_compressor.specs.ByValue.{IsByValue};
 
-use crate::constant::{Shared, null_tree, shared_of, whole_tree};
+use crate::constant::{Shared, null_tree, shared_of, value_tree};
 use std::alloc::Global;
 use vx_array::ArrayRef;
 use vx_base::VortexResult;
@@ -30,11 +30,11 @@ pub(crate) fn by_value(
     }
     match shared_of(plain) {
         Shared::Nothing => Ok(Some(null_tree(alloc, plain)?)),
-        Shared::One(whole) => {
+        Shared::One(row) => {
             if site.is_sample() {
                 return Ok(None);
             }
-            let tree = whole_tree(alloc, plain, whole)?;
+            let tree = value_tree(alloc, plain, row)?;
             Ok(Some(smaller_or_copy(alloc, tree, plain)?))
         }
         Shared::Many => Ok(None),
@@ -46,6 +46,7 @@ fn smaller_or_copy(alloc: Global, tree: ArrayRef, plain: &ArrayRef) -> VortexRes
     requires { IsPlain plain.now }
     ensures { Answers result (smaller_or_plain (column_of plain.now) tree) }
 {
+    plain.known();
     if plain.nbytes() <= tree.nbytes() {
         return plain.copy(alloc);
     }
@@ -57,6 +58,7 @@ pub(crate) fn smaller(tree: ArrayRef, plain: ArrayRef) -> ArrayRef
     requires { IsPlain plain }
     ensures { result ≡ smaller_or_plain (column_of plain) tree }
 {
+    plain.known();
     if tree.nbytes() < plain.nbytes() {
         tree
     } else {
