@@ -93,7 +93,7 @@ bytes_back (types.binary n) e vs h = rows-plain_of (types.binary n) vs h
 bytes_back t e vs h = absurd cc
 
 -- the values of a column of texts or binaries are admitted
-views_admitted : (t : PlainType) → is_bytes t ≡ true → (vs : List PlainValue) → list_all (fits t) vs ≡ true → var_bin_view_refusal (map bytes_or_empty vs) (validity vs) t ≡ None
+pub views_admitted : (t : PlainType) → is_bytes t ≡ true → (vs : List PlainValue) → list_all (fits t) vs ≡ true → var_bin_view_refusal (map bytes_or_empty vs) (validity vs) t ≡ None
 views_admitted t e vs h =
     let allowed = passed _ _ _ (passed _ _ _ (items_admitted bytes_or_empty t vs h)).1 in
     let own = ap (λ valid. valid_rows valid (map bytes (map bytes_or_empty vs))) (kept-validity vs) ∙ bytes_back t e vs h in

@@ -5,6 +5,7 @@ pub mod Falls
 pub mod Flat
 pub mod Looks
 pub mod Making
+pub mod PlainRows
 pub mod Truths
 pub mod Unpacked
 pub mod Views

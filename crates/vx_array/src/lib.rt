@@ -9,6 +9,7 @@ mod look_up;
 mod node;
 mod parts;
 mod patches;
+mod plain_rows;
 mod reads;
 mod sizes;
 

@@ -15,7 +15,9 @@ mod zig_zag;
 
 use crate::array::ArrayRef;
 pub(crate) use bit_packed::{copied_packed, decoded_packed, packed_bytes, unpacked_at};
-pub(crate) use bool::{bool_bytes, copied_bool, decoded_bool, is_false_beneath, truth_at};
+pub(crate) use bool::{
+    bool_bytes, copied_bool, decoded_bool, gathered_bool, is_false_beneath, truth_at,
+};
 pub(crate) use constant::{
     constant_bytes, constant_extents_fit, constant_has_null, copied_constant, decoded_constant,
 };
@@ -23,13 +25,16 @@ pub(crate) use dict::{copied_dict, decoded_by_codes, picked_at};
 pub(crate) use frame_of_reference::{copied_frame, decoded_moved, moved_at};
 pub(crate) use masked::{copied_masked, decoded_masked, masked_at, masked_bytes};
 pub(crate) use primitive::{
-    copied_primitive, decoded_primitive, is_zero_beneath, primitive_at, primitive_bytes,
+    copied_primitive, decoded_primitive, gathered_primitive, is_zero_beneath, primitive_at,
+    primitive_bytes,
 };
-pub(crate) use timestamp::{as_type, copied_timestamp};
+pub(crate) use timestamp::{as_type, copied_timestamp, stamped};
 pub(crate) use var_bin::{
     copied_var_bin, decoded_var_bin, piece_at, var_bin_bytes, var_bin_extents_fit,
 };
-pub(crate) use var_bin_view::{copied_view, decoded_view, is_empty_beneath, view_at, view_bytes};
+pub(crate) use var_bin_view::{
+    copied_view, decoded_view, gathered_view, is_empty_beneath, view_at, view_bytes,
+};
 use vx_base::Refused;
 pub(crate) use zig_zag::{copied_zig_zag, decoded_zig_zag, unzigzagged_at};
 

@@ -1,9 +1,16 @@
 //! One row of a column whose values hold no others.
 
 ghost use Rattle.std.specs.Prelude.{◌≡◌};
+ghost use Rattle.vx_base.specs.Answers.{OrMemory};
 ghost use Rattle.vx_base.specs.CellValue.{cell_value};
 ghost use Rattle.vx_base.specs.IntegersIn.{integer_in};
 ghost use Rattle.vx_base.specs.PlainValue.{is_null, truth_or_false, whole_or_zero, bytes_or_empty};
+ghost use Rattle.vx_base.specs.TypeOf.{value_of};
+
+use crate::error::VortexResult;
+use crate::items::Bytes;
+use crate::value::Value;
+use std::alloc::Global;
 
 /// What stands in a row of a leaf type or of timestamps: null, or a value. It owns nothing.
 #[derive(Clone, Copy, Debug)]
@@ -60,6 +67,18 @@ impl<'a> Cell<'a> {
         match self {
             Cell::Int(whole) => Some(whole),
             Cell::Null | Cell::Bool(_) | Cell::Bytes(_) => None,
+        }
+    }
+
+    // The value, with bytes of its own.
+    pub(crate) fn to_value(self, alloc: Global) -> VortexResult<Value>
+        ensures { OrMemory result (λ value. value_of value ≡ cell_value self.entry) }
+    {
+        match self {
+            Cell::Null => Ok(Value::Null),
+            Cell::Bool(bit) => Ok(Value::Bool(bit)),
+            Cell::Int(whole) => Ok(Value::Int(whole)),
+            Cell::Bytes(bytes) => Ok(Value::Bytes(Bytes::from_vec(Vec::from_slice(alloc, bytes)?))),
         }
     }
 }

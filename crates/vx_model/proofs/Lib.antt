@@ -9,6 +9,7 @@ pub mod EachIntLemmas
 pub mod FilledLemmas
 pub mod FlatLemmas
 pub mod FrameOfReferenceLemmas
+pub mod GatheredLemmas
 pub mod ItemMapLemmas
 pub mod LeafLemmas
 pub mod MadeLemmas

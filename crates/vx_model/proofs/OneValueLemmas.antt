@@ -1,9 +1,11 @@
 -- Columns of nulls alone, and columns whose valid rows are all one value.
-use Rattle.std.proofs.Common.{◌≡◌, ◌<◌, ◌≤◌, ◌+◌, ◌&&◌, ℕ, ℤ, zero, suc, take, arith, add-one, Bool, true, false, List, [], ◌∷◌, length, Option, Some, None, cond, refl, sym, ap, subst}
-use Rattle.std.specs.Prelude.{replicate, if◌then◌else◌, option_and_then}
-use Rattle.std.specs.List.{list_all, list_any}
-use Rattle.std.proofs.lemmas.Bool.{cond_both, and_parts}
+use Rattle.std.proofs.Common.{◌≡◌, ◌<◌, ◌≤◌, ◌+◌, ◌&&◌, ℕ, ℤ, zero, suc, take, arith, add-one, Bool, true, false, List, [], ◌∷◌, length, Option, Some, None, cond, refl, sym, ap, subst, ◌∙◌}
+use Rattle.std.specs.Prelude.{replicate, if◌then◌else◌, option_and_then, option_map, position, slice_get, nat_lt, not}
+use Rattle.std.specs.List.{list_all, list_any, find, position_or_len}
+use Rattle.std.proofs.lemmas.Bool.{cond_both, and_parts, ltb-true, ltb-false}
 use Rattle.std.proofs.lemmas.List.{take_all}
+use Rattle.std.proofs.lemmas.List.Folds.{find_at}
+use Rattle.std.proofs.lemmas.Option.{slice_get-get_or, slice_get_past}
 use Rattle.vx_base.specs.Storable.{same_path}
 use Rattle.vx_base.specs.PlainValue.{PlainValue, null, int, is_null, same_value, stored_value}
 use Rattle.vx_model.specs.Rows.{rows, masked_rows, row_at}
@@ -26,6 +28,18 @@ pub first_valid-valid : (vs : List PlainValue) (v : PlainValue) → first_valid 
 first_valid-valid [] v e = absurd cc
 first_valid-valid (null ∷ vs) v e = first_valid-valid vs v e
 first_valid-valid (w ∷ vs) v e = let same : w ≡ v = cc in ap is_null (sym same)
+
+-- it is the row at the place of the first that isn't null
+first_valid-find : (vs : List PlainValue) → first_valid vs ≡ find (λ v. not (is_null v)) vs
+first_valid-find [] = refl
+first_valid-find (null ∷ vs) = first_valid-find vs
+first_valid-find (v ∷ vs) = refl
+
+row_at-place : (vs : List PlainValue) (i : ℕ) → slice_get vs i ≡ option_map (row_at vs) (cond (nat_lt i (length vs)) (Some i) None)
+row_at-place vs i = cond_both (nat_lt i (length vs)) (Some i) None (λ o. slice_get vs i ≡ option_map (row_at vs) o) (λ e. slice_get-get_or vs i null (ltb-true i (length vs) e)) (λ e. slice_get_past vs i (ltb-false i (length vs) e))
+
+pub first_valid-position : (vs : List PlainValue) → first_valid vs ≡ option_map (row_at vs) (position (λ v. not (is_null v)) vs)
+first_valid-position vs = first_valid-find vs ∙ find_at (λ v. not (is_null v)) vs ∙ row_at-place vs (position_or_len (λ v. not (is_null v)) vs)
 
 -- nulls alone are one null, again and again
 pub replicate-nulls : (vs : List PlainValue) → list_all is_null vs ≡ true → replicate (length vs) null ≡ vs

@@ -1,8 +1,9 @@
 -- Patches in their short form: the type of their indices, and values that are all equal.
 use Rattle.std.proofs.Common.{◌≡◌, ◌<◌, ◌≤◌, ◌+◌, ◌^◌, ◌∙◌, ℕ, zero, suc, ℤ, pos, negsuc, Bool, true, false, List, [], ◌∷◌, length, map, Some, None, cond, refl, sym, ap, subst, arith, inl, inr}
-use Rattle.std.specs.Prelude.{◌&&◌, ◌||◌, nat_lt, is_some, IsSome, find, unwrap_or}
+use Rattle.std.specs.Prelude.{◌&&◌, ◌||◌, nat_lt, not, is_some, IsSome, find, unwrap_or, option_map, position}
 use Rattle.std.specs.List.{list_all, list_any}
 use Rattle.std.proofs.lemmas.Bool.{and_from, or_parts, lt-ltb, le-ltb, cases_lt, eq-eqb}
+use Rattle.std.proofs.lemmas.List.Quantifiers.{position-Some}
 use Rattle.vx_base.specs.declared.ptype.PType.{PType}
 use Rattle.vx_base.specs.declared.ptype.PType.TheVariants.{U8, U16, U32, U64}
 use Rattle.vx_base.specs.declared.dtype.Nullability.{Nullability}
@@ -24,6 +25,7 @@ use Rattle.vx_model.specs.TreeType.{tree_type}
 use Rattle.vx_model.specs.WellFormed.{WellFormed, ascend, WellFormedPatches}
 use Rattle.vx_model.proofs.MadeLemmas.{rows_fit}
 use Rattle.vx_model.proofs.AscentLemmas.{by_ascent}
+use Rattle.vx_model.proofs.OneValueLemmas.{first_valid-position}
 use Rattle.vx_model.proofs.PatchLemmas.{ascend-within, ascend-index}
 use Rattle.vx_model.proofs.PlainLemmas.{type-plain_of, wholes_lie_in}
 use Rattle.vx_schemes.specs.Patches.Compressed.{index_type, shared_value, narrowed, constant_or_plain, compressed_patches}
@@ -126,6 +128,21 @@ indices_held t low high q xs a w e f =
     rw (e, f) (wholes_lie_in (index_type (rows t)) NonNullable (rows t) (index_type-holds (rows t) (ascend-words (tree_type t) low high (rows t) a (rows_fit t w))))
 
 -- ---- values that are all equal
+
+-- the first row that isn't null
+pub record IsFirst (vs : List PlainValue) (row : ℕ) : Type 0 where
+  pub within : row < length vs
+  pub valid : is_null (row_at vs row) ≡ false
+  pub first : first_valid vs ≡ Some (row_at vs row)
+
+pub first_at : (vs : List PlainValue) (row : ℕ) → Some row ≡ position (λ v. not (is_null v)) vs → IsFirst vs row
+first_at vs row e =
+    let at = position-Some (λ v. not (is_null v)) vs row null (sym e) in
+    record { within = at.0; valid = is_false (is_null (row_at vs row)) at.1; first = first_valid-position vs ∙ ap (option_map (row_at vs)) (sym e) }
+  where
+    is_false : (b : Bool) → not b ≡ true → b ≡ false
+    is_false true q = absurd cc
+    is_false false q = refl
 
 -- validity bits stand where some row is null
 pub bits-some : (vs : List PlainValue) → is_some (validity vs) ≡ list_any is_null vs

@@ -59,6 +59,7 @@ fn narrowed(alloc: Global, patches: &Patches) -> VortexResult<ArrayRef>
 }
 
 // The value that every row has, where there are rows and no two differ: null in it where all are null.
+#[tactic(auto, using(vx_array::proofs::Flat::flats))]
 fn shared_value(plain: &ArrayRef) -> Option<Cell<'_>>
     requires { IsPlain plain.now }
     ensures { option_map cell_value result ≡ shared_value (rows plain.now) }
@@ -66,13 +67,13 @@ fn shared_value(plain: &ArrayRef) -> Option<Cell<'_>>
     if plain.len() == 0 {
         return None;
     }
-    let Some(first) = plain.first_valid() else {
+    let Some(row) = plain.first_valid() else {
         return Some(Cell::Null);
     };
-    if plain.validity().is_some() || !plain.each_null_or(first) {
+    if plain.validity().is_some() || !plain.repeats(row) {
         return None;
     }
-    Some(first)
+    Some(plain.cell_at(row))
 }
 
 // The values as one scalar where all are equal, else plain.

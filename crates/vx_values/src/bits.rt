@@ -2,11 +2,15 @@
 
 ghost use Rattle.std.specs.Prelude.{◌≡◌, ◌<◌, length, map, replicate, true, false, not, ◌||◌, slice_set, slice_index_or, if◌then◌else◌};
 ghost use Rattle.vx_base.specs.Answers.{Answers, OrMemory};
+ghost use Rattle.vx_base.specs.PlainValue.{truth};
 ghost use Rattle.vx_model.specs.Decoded.{zeroed, zeroed_by, zero_beneath, picked};
+ghost use Rattle.vx_model.specs.Leaf.{each_null_or, null_or};
 ghost use Rattle.vx_model.specs.Refusals.{validity_length};
+ghost use Rattle.vx_model.specs.Rows.{valid_rows, row_at};
 ghost use Rattle.vx_values.specs.IntsOf.{ptype_of, wholes_of};
 
 use crate::ints::{Ints, with_ints};
+use crate::validity::is_valid;
 use std::alloc::Global;
 use vx_base::{Integer, Mask, VortexResult};
 
@@ -92,6 +96,33 @@ fn zero_at(bits: &mut [bool], row: usize, bit: bool)
     ensures { bits.new ≡ slice_set bits.old row (if bit then slice_index_or bits.old row false else false) }
 {
     bits[row] = if bit { bits[row] } else { false };
+}
+
+/// Whether each row is null or this truth value.
+pub fn each_null_or(bits: &Mask, valid: &Option<Mask>, bit: bool) -> bool
+    requires { validity_length valid.now (length bits.now) ≡ true }
+    ensures { result ≡ each_null_or (truth bit) (valid_rows valid.now (map truth bits.now)) }
+{
+    for row in 0..bits.len() {
+        if !is_null_or(bits, valid, row, bit) {
+            return false;
+        }
+    }
+    true
+}
+
+// Whether the row is null or this truth value.
+#[inline(always)]
+fn is_null_or(bits: &Mask, valid: &Option<Mask>, row: u64, bit: bool) -> bool
+    requires in_bits { row < length bits.now }
+    requires in_mask { validity_length valid.now (length bits.now) ≡ true }
+    ensures { result ≡ null_or (truth bit) (row_at (valid_rows valid.now (map truth bits.now)) row) }
+{
+    if is_valid(valid, row) {
+        bits.is_set(row) == bit
+    } else {
+        true
+    }
 }
 
 /// The truth value whose place each code has, false where there is none.

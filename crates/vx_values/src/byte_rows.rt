@@ -1,11 +1,13 @@
 //! Texts and binaries, one a row: the default beneath nulls, and values by their places.
 
-ghost use Rattle.std.specs.Prelude.{◌≡◌, ◌<◌, ◌≤◌, ◌+◌, IsTrue, [], length, map, replicate, true, false, ◌||◌, slice_set, slice_index_or, if◌then◌else◌};
+ghost use Rattle.std.specs.Prelude.{◌≡◌, ◌↔◌, ◌<◌, ◌≤◌, ◌+◌, IsTrue, [], length, map, replicate, true, false, ◌||◌, ◌++◌, slice_set, slice_index_or, if◌then◌else◌};
 ghost use Rattle.std.specs.List.{list_all};
-ghost use Rattle.vx_base.specs.Answers.{Answers};
+ghost use Rattle.vx_base.specs.Answers.{Answers, OrMemory};
+ghost use Rattle.vx_base.specs.Gathered.{gathered, are_parts};
 ghost use Rattle.vx_base.specs.Masks.{rows_between, is_part};
-ghost use Rattle.vx_base.specs.PlainValue.{int, is_short};
-ghost use Rattle.vx_model.specs.Rows.{offset_at, cut_at};
+ghost use Rattle.vx_base.specs.PlainValue.{int, bytes, is_short};
+ghost use Rattle.vx_model.specs.Leaf.{each_null_or, null_or};
+ghost use Rattle.vx_model.specs.Rows.{offset_at, cut_at, row_at, valid_rows};
 ghost use Rattle.vx_model.specs.WellFormed.{are_offsets};
 ghost use Rattle.vx_model.specs.Decoded.{zeroed, zeroed_by, zero_beneath, is_empty, picked};
 ghost use Rattle.vx_model.specs.Refusals.{validity_length};
@@ -186,6 +188,72 @@ fn empty_unless(bytes: &mut Bytes, bit: bool)
     if !bit {
         bytes.clear();
     }
+}
+
+/// Whether each row is null or has these bytes.
+pub fn each_null_or(rows: &ByteRows, valid: &Option<Mask>, value: &[u8]) -> bool
+    requires { validity_length valid.now (length rows.now) ≡ true }
+    ensures { result ≡ each_null_or (bytes value.now) (valid_rows valid.now (map bytes rows.now)) }
+{
+    for row in 0..rows.len() {
+        if !is_null_or(rows, valid, row, value) {
+            return false;
+        }
+    }
+    true
+}
+
+// Whether the row is null or has these bytes.
+#[inline(always)]
+fn is_null_or(rows: &ByteRows, valid: &Option<Mask>, row: u64, value: &[u8]) -> bool
+    requires in_rows { row < length rows.now }
+    requires in_mask { validity_length valid.now (length rows.now) ≡ true }
+    ensures { result ≡ null_or (bytes value.now) (row_at (valid_rows valid.now (map bytes rows.now)) row) }
+{
+    if is_valid(valid, row) {
+        is_same(bytes_at(rows, row), value)
+    } else {
+        true
+    }
+}
+
+fn bytes_at(rows: &ByteRows, row: u64) -> &[u8]
+    requires { row < length rows.now }
+    ensures { result.now ≡ slice_index_or rows.now row [] }
+{
+    rows.as_slice()[row as usize].as_slice()
+}
+
+fn is_same(bytes: &[u8], other: &[u8]) -> bool
+    ensures { IsTrue result ↔ (bytes.now ≡ other.now) }
+{
+    bytes == other
+}
+
+/// The rows of the ranges, one range after the other.
+pub fn gather(alloc: Global, rows: &ByteRows, ranges: &[(u64, u64)]) -> VortexResult<ByteRows>
+    requires { IsTrue (are_parts (length rows.now) ranges.now) }
+    ensures { Answers result (gathered ranges.now rows.now) }
+{
+    let mut all = Vec::new(alloc);
+    for range in ranges {
+        push_rows(
+            alloc,
+            &mut all,
+            &rows.as_slice()[range.0 as usize..range.1 as usize],
+        )?;
+    }
+    Ok(ByteRows::from_vec(all))
+}
+
+// A copy of each row more.
+fn push_rows(alloc: Global, all: &mut Vec<Bytes>, rows: &[Bytes]) -> VortexResult<()>
+    ensures { OrMemory result (λ _. all.new.items ≡ all.old.items ++ rows.now) }
+{
+    for row in rows {
+        all.push(row.copy(alloc)?)?;
+    }
+    Ok(())
 }
 
 /// The bytes whose place each code has, empty where there is none.

@@ -10,5 +10,5 @@ mod values;
 
 pub use decoded::{Decoded, behind};
 pub use ints::{Ints, known_bytes, packed_size, summed_in, valid_codes};
-pub use validity::{copy_validity, has_length, is_allowed, is_valid, keep};
+pub use validity::{copy_validity, gathered_validity, has_length, is_allowed, is_valid, keep};
 pub use values::Values;

@@ -1,7 +1,8 @@
 //! Validity: a truth value a row, true where the row is valid, or none where every row is.
 
-ghost use Rattle.std.specs.Prelude.{◌≡◌};
+ghost use Rattle.std.specs.Prelude.{◌≡◌, length, option_map, IfSome, IsTrue};
 ghost use Rattle.vx_base.specs.Answers.{Answers};
+ghost use Rattle.vx_base.specs.Gathered.{gathered, are_parts};
 ghost use Rattle.vx_model.specs.Refusals.{validity_length, validity_allowed, kept};
 ghost use Rattle.vx_model.specs.Rows.{is_valid_at};
 
@@ -50,6 +51,21 @@ pub fn copy_validity(valid: &Option<Mask>, alloc: Global) -> VortexResult<Option
 {
     match valid {
         Some(bits) => Ok(Some(bits.copy(alloc)?)),
+        None => Ok(None),
+    }
+}
+
+/// The validity of the rows of the ranges, one range after the other, without bits where each of them is valid.
+pub fn gathered_validity(
+    alloc: Global,
+    valid: &Option<Mask>,
+    ranges: &[(u64, u64)],
+) -> VortexResult<Option<Mask>>
+    requires { IfSome valid.now (λ bits. IsTrue (are_parts (length bits) ranges.now)) }
+    ensures { Answers result (kept (option_map (gathered ranges.now) valid.now)) }
+{
+    match valid {
+        Some(bits) => Ok(keep(Some(bits.gather(alloc, ranges)?))),
         None => Ok(None),
     }
 }

@@ -1,15 +1,20 @@
 //! Truth values, row by row.
 
-ghost use Rattle.std.specs.Prelude.{◌≡◌, ◌+◌, length, None, slice_index_or, map, not, false, true, if◌then◌else◌};
+ghost use Rattle.std.specs.Prelude.{◌≡◌, ◌+◌, length, IsTrue, None, slice_index_or, map, not, false, true, if◌then◌else◌};
 ghost use Rattle.vx_array.specs.TreeOf.{tree_of};
-ghost use Rattle.vx_base.specs.Answers.{MakesSurely, OrMemory};
+ghost use Rattle.vx_base.specs.Answers.{Answers, MakesSurely, OrMemory};
 ghost use Rattle.vx_base.specs.CellValue.{cell_value};
+ghost use Rattle.vx_base.specs.Gathered.{gathered, are_parts};
+ghost use Rattle.vx_base.specs.PlainType as types;
 ghost use Rattle.vx_base.specs.PlainValue.{truth, null};
+ghost use Rattle.vx_model.specs.Column.{column};
 ghost use Rattle.vx_model.specs.Decoded.{zeroed_by, zero_beneath_by};
 ghost use Rattle.vx_model.specs.Refusals.{primitive_refusal, validity_length, kept};
-ghost use Rattle.vx_model.specs.Rows.{is_valid_at};
+ghost use Rattle.vx_model.specs.Plain.{IsPlain, plain};
+ghost use Rattle.vx_model.specs.Rows.{rows, is_valid_at};
 ghost use Rattle.vx_model.specs.Size.{bit_bytes, validity_size};
 ghost use Rattle.vx_model.specs.Tree.{bool};
+ghost use Rattle.vx_model.specs.WellFormed.{WellFormed};
 ghost use Rattle.vx_values.specs.ValuesOf.{truths, AreRows};
 
 use crate::array::{ArrayRef, Node};
@@ -18,7 +23,7 @@ use crate::node::primitive::flat_refusal;
 use crate::sizes::{bit_bytes, validity_bytes};
 use std::alloc::Global;
 use vx_base::{Cell, DType, Mask, Nullability, Refused, VortexResult};
-use vx_values::{Decoded, Values, bits, copy_validity, is_valid, keep};
+use vx_values::{Decoded, Values, bits, copy_validity, gathered_validity, is_valid, keep};
 
 impl ArrayRef {
     /// A tree of truth values, null where `valid` is false. Refuses LengthMismatch where the mask hasn't a bit a row,
@@ -109,4 +114,22 @@ pub(crate) fn is_false_beneath(values: &Mask, valid: &Option<Mask>) -> bool
         Some(mask) => bits::is_zero_beneath(values, mask),
         None => true,
     }
+}
+
+// The rows of ranges of a plain tree, as a plain tree.
+pub(crate) fn gathered_bool(
+    alloc: Global,
+    values: &Mask,
+    valid: &Option<Mask>,
+    nullability: Nullability,
+    ranges: &[(u64, u64)],
+) -> VortexResult<ArrayRef>
+    requires plain { IsPlain (bool values.now valid.now nullability) }
+    requires well { WellFormed (bool values.now valid.now nullability) }
+    requires parts { IsTrue (are_parts (length values.now) ranges.now) }
+    ensures { Answers result (plain (column (types.boolean nullability) (gathered ranges.now (rows (bool values.now valid.now nullability))))) }
+{
+    let values = values.gather(alloc, ranges)?;
+    let valid = gathered_validity(alloc, valid, ranges)?;
+    Ok(ArrayRef::bool_of(values, valid, nullability))
 }

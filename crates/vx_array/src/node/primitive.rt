@@ -1,16 +1,21 @@
 //! Integers, row by row.
 
-ghost use Rattle.std.specs.Prelude.{◌≡◌, ◌<◌, length, None, slice_index_or, map, pos, true, if◌then◌else◌, ◌+◌, ◌*◌};
+ghost use Rattle.std.specs.Prelude.{◌≡◌, ◌<◌, length, IsTrue, None, slice_index_or, map, pos, true, if◌then◌else◌, ◌+◌, ◌*◌};
 ghost use Rattle.vx_array.specs.TreeOf.{tree_of};
-ghost use Rattle.vx_base.specs.Answers.{MakesSurely, OrMemory};
+ghost use Rattle.vx_base.specs.Answers.{Answers, MakesSurely, OrMemory};
 ghost use Rattle.vx_base.specs.CellValue.{cell_value};
+ghost use Rattle.vx_base.specs.Gathered.{gathered, are_parts};
 ghost use Rattle.vx_base.specs.Integers.{bytes_of};
+ghost use Rattle.vx_base.specs.PlainType as types;
 ghost use Rattle.vx_base.specs.PlainValue.{int, null};
+ghost use Rattle.vx_model.specs.Column.{column};
 ghost use Rattle.vx_model.specs.Decoded.{zeroed_by, zero_beneath_by, is_zero};
+ghost use Rattle.vx_model.specs.Plain.{IsPlain, plain};
 ghost use Rattle.vx_model.specs.Refusals.{primitive_refusal, validity_length, kept};
-ghost use Rattle.vx_model.specs.Rows.{is_valid_at};
+ghost use Rattle.vx_model.specs.Rows.{rows, is_valid_at};
 ghost use Rattle.vx_model.specs.Size.{validity_size};
 ghost use Rattle.vx_model.specs.Tree.{primitive};
+ghost use Rattle.vx_model.specs.WellFormed.{WellFormed};
 ghost use Rattle.vx_values.specs.IntsOf.{ptype_of, wholes_of};
 ghost use Rattle.vx_values.specs.ValuesOf.{ints, AreRows};
 
@@ -19,7 +24,9 @@ use crate::node::Made;
 use crate::sizes::validity_bytes;
 use std::alloc::Global;
 use vx_base::{Cell, DType, Mask, Nullability, Refused, VortexError, VortexResult};
-use vx_values::{Decoded, Ints, Values, copy_validity, has_length, is_allowed, is_valid, keep};
+use vx_values::{
+    Decoded, Ints, Values, copy_validity, gathered_validity, has_length, is_allowed, is_valid, keep,
+};
 
 impl ArrayRef {
     /// A tree of integers, null where `valid` is false. Refuses LengthMismatch where the mask hasn't a bit a row, then
@@ -135,4 +142,22 @@ pub(crate) fn is_zero_beneath(values: &Ints, valid: &Option<Mask>) -> bool
         Some(mask) => values.is_zero_beneath(mask),
         None => true,
     }
+}
+
+// The rows of ranges of a plain tree, as a plain tree.
+pub(crate) fn gathered_primitive(
+    alloc: Global,
+    values: &Ints,
+    valid: &Option<Mask>,
+    nullability: Nullability,
+    ranges: &[(u64, u64)],
+) -> VortexResult<ArrayRef>
+    requires plain { IsPlain (primitive (ptype_of values.now) (wholes_of values.now) valid.now nullability) }
+    requires well { WellFormed (primitive (ptype_of values.now) (wholes_of values.now) valid.now nullability) }
+    requires parts { IsTrue (are_parts (length (wholes_of values.now)) ranges.now) }
+    ensures { Answers result (plain (column (types.primitive (ptype_of values.now) nullability) (gathered ranges.now (rows (primitive (ptype_of values.now) (wholes_of values.now) valid.now nullability))))) }
+{
+    let values = values.gather(alloc, ranges)?;
+    let valid = gathered_validity(alloc, valid, ranges)?;
+    Ok(ArrayRef::primitive_of(values, valid, nullability))
 }

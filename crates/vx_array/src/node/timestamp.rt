@@ -72,10 +72,7 @@ pub(crate) fn as_type(alloc: Global, integers: ArrayRef, dtype: &DType) -> Vorte
     ensures { Answers result (as_type (type_of dtype.now) integers) }
 {
     match dtype {
-        DType::Timestamp(kind, _) => match ArrayRef::timestamp(alloc, integers, kind.copy(alloc)?) {
-            Ok(tree) => Ok(tree),
-            Err(refused) => Err(refused.error),
-        },
+        DType::Timestamp(kind, _) => stamped(alloc, integers, kind),
         _ => Ok(integers),
     }
 }
@@ -90,4 +87,19 @@ pub(crate) fn copied_timestamp(
 {
     let storage = Box::new(alloc, storage)?;
     Ok(Node::Timestamp(storage, kind.copy(alloc)?))
+}
+
+// The integers as timestamps of a kind.
+pub(crate) fn stamped(
+    alloc: Global,
+    storage: ArrayRef,
+    kind: &TimestampType,
+) -> VortexResult<ArrayRef>
+    requires { timestamp_refusal storage ≡ None }
+    ensures { Answers result (timestamp storage kind.now) }
+{
+    match ArrayRef::timestamp(alloc, storage, kind.copy(alloc)?) {
+        Ok(tree) => Ok(tree),
+        Err(refused) => Err(refused.error),
+    }
 }

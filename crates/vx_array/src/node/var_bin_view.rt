@@ -3,17 +3,21 @@
 ghost use Rattle.std.specs.List.{list_all};
 ghost use Rattle.std.specs.Prelude.{◌≡◌, ◌<◌, ◌+◌, ◌-◌, ◌*◌, ◌^◌, IsTrue, None, length, map, min, slice_index_or, sum_by, true, [], if◌then◌else◌};
 ghost use Rattle.vx_array.specs.TreeOf.{tree_of};
-ghost use Rattle.vx_base.specs.Answers.{MakesSurely, OrMemory};
+ghost use Rattle.vx_base.specs.Answers.{Answers, MakesSurely, OrMemory};
 ghost use Rattle.vx_base.specs.CellValue.{cell_value};
+ghost use Rattle.vx_base.specs.Gathered.{gathered, are_parts};
 ghost use Rattle.vx_base.specs.PlainScalar.{fits};
 ghost use Rattle.vx_base.specs.PlainType.{is_bytes};
 ghost use Rattle.vx_base.specs.PlainValue.{bytes, null};
 ghost use Rattle.vx_base.specs.TypeOf.{type_of};
+ghost use Rattle.vx_model.specs.Column.{column};
 ghost use Rattle.vx_model.specs.Decoded.{zeroed_by, zero_beneath_by, is_empty};
+ghost use Rattle.vx_model.specs.Plain.{IsPlain, plain};
 ghost use Rattle.vx_model.specs.Refusals.{var_bin_view_refusal, validity_length, kept};
-ghost use Rattle.vx_model.specs.Rows.{is_valid_at, valid_rows};
+ghost use Rattle.vx_model.specs.Rows.{rows, is_valid_at, valid_rows};
 ghost use Rattle.vx_model.specs.Size.{long_bytes, validity_size};
 ghost use Rattle.vx_model.specs.Tree.{var_bin_view};
+ghost use Rattle.vx_model.specs.WellFormed.{WellFormed};
 ghost use Rattle.vx_values.specs.ValuesOf.{byte_rows, AreRows};
 
 use super::texts::fits;
@@ -23,7 +27,8 @@ use crate::sizes::validity_bytes;
 use std::alloc::Global;
 use vx_base::{ByteRows, Bytes, Cell, DType, Mask, Refused, VortexError, VortexResult};
 use vx_values::{
-    Decoded, Values, byte_rows, copy_validity, has_length, is_allowed, is_valid, keep,
+    Decoded, Values, byte_rows, copy_validity, gathered_validity, has_length, is_allowed, is_valid,
+    keep,
 };
 
 impl ArrayRef {
@@ -170,4 +175,23 @@ pub(crate) fn is_empty_beneath(values: &ByteRows, valid: &Option<Mask>) -> bool
         Some(mask) => byte_rows::is_zero_beneath(values, mask),
         None => true,
     }
+}
+
+// The rows of ranges of a plain tree, as a plain tree.
+pub(crate) fn gathered_view(
+    alloc: Global,
+    values: &ByteRows,
+    valid: &Option<Mask>,
+    dtype: &DType,
+    ranges: &[(u64, u64)],
+) -> VortexResult<ArrayRef>
+    requires plain { IsPlain (var_bin_view values.now valid.now (type_of dtype.now)) }
+    requires well { WellFormed (var_bin_view values.now valid.now (type_of dtype.now)) }
+    requires parts { IsTrue (are_parts (length values.now) ranges.now) }
+    ensures { Answers result (plain (column (type_of dtype.now) (gathered ranges.now (rows (var_bin_view values.now valid.now (type_of dtype.now)))))) }
+{
+    let dtype = dtype.copy(alloc)?;
+    let valid = gathered_validity(alloc, valid, ranges)?;
+    let values = byte_rows::gather(alloc, values, ranges)?;
+    Ok(ArrayRef::view_of(values, valid, dtype))
 }

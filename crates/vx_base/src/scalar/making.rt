@@ -1,7 +1,8 @@
 //! Scalars from a value and its type.
 
-ghost use Rattle.std.specs.Prelude.{◌≡◌, None};
-ghost use Rattle.vx_base.specs.Answers.{SurelyDecided, MakesSurely, unless};
+ghost use Rattle.std.specs.Prelude.{◌≡◌, None, true};
+ghost use Rattle.vx_base.specs.Answers.{Answers, SurelyDecided, MakesSurely, unless};
+ghost use Rattle.vx_base.specs.CellValue.{cell_value};
 ghost use Rattle.vx_base.specs.declared.error.VortexError.TheVariants.{MismatchedTypes, OutOfBounds, ValueTooLong};
 ghost use Rattle.vx_base.specs.Integers.{lies_in};
 ghost use Rattle.vx_base.specs.PlainScalar.{fits, scalar};
@@ -10,6 +11,7 @@ ghost use Rattle.vx_base.specs.PlainValue.{null, truth, int, bytes, is_short, ha
 ghost use Rattle.vx_base.specs.TypeOf.{type_of, value_of};
 
 use super::{Scalar, fits, has_short, is_held, is_short};
+use crate::cell::Cell;
 use crate::dtype::{DType, Nullability};
 use crate::error::{Refused, VortexError, VortexResult};
 use crate::items::Bytes;
@@ -17,6 +19,7 @@ use crate::ptype::PType;
 use crate::text::Text;
 use crate::timestamp::TimestampType;
 use crate::value::Value;
+use std::alloc::Global;
 
 impl Scalar {
     /// A type and a value of it. Refuses ValueTooLong where the value has 2^32 bytes or more, then MismatchedTypes where it
@@ -53,6 +56,16 @@ impl Scalar {
             dtype,
             value: Value::Null,
         })
+    }
+
+    /// The value in a cell, as one of a type that it fits.
+    pub fn of_cell(alloc: Global, dtype: &DType, cell: Cell<'_>) -> VortexResult<Scalar>
+        requires { fits (type_of dtype.now) (cell_value cell) ≡ true }
+        ensures { Answers result (scalar (type_of dtype.now) (cell_value cell.entry)) }
+    {
+        let dtype = dtype.copy(alloc)?;
+        let value = cell.to_value(alloc)?;
+        Ok(Scalar { dtype, value })
     }
 
     /// A truth value.

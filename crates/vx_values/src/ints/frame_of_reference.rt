@@ -122,7 +122,18 @@ fn summed_with<T: Integer, D: Integer>(reference: T, difference: D) -> T
     summed(reference, difference.to_bits())
 }
 
-// The sums of a reference and each difference.
+// The sums of a reference and each difference, written over others.
+fn write_sums<T: Integer, D: Integer>(reference: T, differences: &[D], items: &mut [T])
+    requires kind { D.kind ≡ unsigned_of T.kind }
+    requires length { length items.old ≡ length differences.now }
+    ensures { map T.whole items.new ≡ map (λ z. wrap T.kind (T.whole reference +ℤ z)) (map D.whole differences.now) }
+{
+    for row in 0..differences.len() {
+        items[row] = summed_with(reference, differences[row]);
+    }
+}
+
+// The same in a list.
 fn sums<T: Integer, D: Integer>(
     alloc: Global,
     reference: T,
@@ -131,10 +142,8 @@ fn sums<T: Integer, D: Integer>(
     requires { D.kind ≡ unsigned_of T.kind }
     ensures { OrMemory result (λ list. map T.whole list ≡ map (λ z. wrap T.kind (T.whole reference +ℤ z)) (map D.whole differences.now)) }
 {
-    let mut items = Vec::with_capacity(alloc, differences.len())?;
-    for row in 0..differences.len() {
-        items.push(summed_with(reference, differences[row]))?;
-    }
+    let mut items = vec![in alloc; T::zero(); differences.len()]?;
+    write_sums(reference, differences, items.as_mut_slice());
     Ok(IntList::from_vec(items))
 }
 

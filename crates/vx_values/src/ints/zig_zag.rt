@@ -1,6 +1,6 @@
 //! Integers as their zigzag, and back.
 
-ghost use Rattle.std.specs.Prelude.{◌≡◌, pos, IsTrue, true, map, not, unsigned_abs};
+ghost use Rattle.std.specs.Prelude.{◌≡◌, length, pos, IsTrue, true, map, not, unsigned_abs};
 ghost use Rattle.vx_base.specs.Answers.{OrMemory};
 ghost use Rattle.vx_base.specs.Integers.{is_signed, lies_in, signed_of, unsigned_of};
 ghost use Rattle.vx_base.specs.ZigZag.{unzigzag, zigzag};
@@ -63,16 +63,26 @@ fn zigzagged_item<T: Integer, W: Integer>(item: T) -> W
     W::from_low_bits(zigzag_of(item.to_whole()))
 }
 
-// The same of each item.
+// The same of each item, written over others.
+fn write_zigzags<T: Integer, W: Integer>(items: &[T], words: &mut [W])
+    requires kinds { W.kind ≡ unsigned_of T.kind }
+    requires signed { is_signed T.kind ≡ true }
+    requires length { length words.old ≡ length items.now }
+    ensures { map W.whole words.new ≡ map (λ z. pos (zigzag z)) (map T.whole items.now) }
+{
+    for row in 0..items.len() {
+        words[row] = zigzagged_item(items[row]);
+    }
+}
+
+// The same in a list.
 fn zigzagged<T: Integer, W: Integer>(alloc: Global, items: &[T]) -> VortexResult<IntList<W>>
     requires kinds { W.kind ≡ unsigned_of T.kind }
     requires signed { is_signed T.kind ≡ true }
     ensures { OrMemory result (λ words. map W.whole words ≡ map (λ z. pos (zigzag z)) (map T.whole items.now)) }
 {
-    let mut words = Vec::with_capacity(alloc, items.len())?;
-    for row in 0..items.len() {
-        words.push(zigzagged_item(items[row]))?;
-    }
+    let mut words = vec![in alloc; W::zero(); items.len()]?;
+    write_zigzags(items, words.as_mut_slice());
     Ok(IntList::from_vec(words))
 }
 
@@ -88,15 +98,25 @@ fn unzigzagged_item<W: Integer, T: Integer>(word: W) -> T
     T::from_low_bits(unzigzag(word.to_bits()).to_bits())
 }
 
-// The same of each word.
+// The same of each word, written over others.
+fn write_integers<W: Integer, T: Integer>(words: &[W], items: &mut [T])
+    requires kinds { T.kind ≡ signed_of W.kind }
+    requires unsigned { not (is_signed W.kind) ≡ true }
+    requires length { length items.old ≡ length words.now }
+    ensures { map T.whole items.new ≡ map (λ z. unzigzag (unsigned_abs z)) (map W.whole words.now) }
+{
+    for row in 0..words.len() {
+        items[row] = unzigzagged_item(words[row]);
+    }
+}
+
+// The same in a list.
 fn unzigzagged<W: Integer, T: Integer>(alloc: Global, words: &[W]) -> VortexResult<IntList<T>>
     requires kinds { T.kind ≡ signed_of W.kind }
     requires unsigned { not (is_signed W.kind) ≡ true }
     ensures { OrMemory result (λ list. map T.whole list ≡ map (λ z. unzigzag (unsigned_abs z)) (map W.whole words.now)) }
 {
-    let mut items = Vec::with_capacity(alloc, words.len())?;
-    for row in 0..words.len() {
-        items.push(unzigzagged_item(words[row]))?;
-    }
+    let mut items = vec![in alloc; T::zero(); words.len()]?;
+    write_integers(words, items.as_mut_slice());
     Ok(IntList::from_vec(items))
 }

@@ -1,5 +1,5 @@
 -- The parts are the plain trees of the columns that the scheme means.
-use Rattle.std.proofs.Common.{◌≡◌, List, ◌∙◌, ap, sym, subst}
+use Rattle.std.proofs.Common.{◌≡◌, List, ◌∙◌, sym, subst}
 use Rattle.vx_model.specs.Column.{column_of}
 use Rattle.vx_model.specs.Site.{Site}
 use Rattle.vx_model.specs.Tree.{Tree}
