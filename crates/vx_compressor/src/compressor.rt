@@ -26,7 +26,7 @@ use std::alloc::Global;
 use std::marker::{Brand, Model};
 use std::sync::ledger::{Blank, Ledger};
 use vx_array::ArrayRef;
-use vx_base::{DType, ExecutionCtx, Items, Refused, Steps, VortexError, VortexResult};
+use vx_base::{ExecutionCtx, Items, Refused, Steps, VortexError, VortexResult};
 use vx_scheme::{CompressorContext, Scheme, SchemeId};
 
 /// Schemes in the order in which they are judged.
@@ -141,9 +141,10 @@ fn column_tree<S: Scheme>(
 {
     let site = CompressorContext::new();
     let tree = counted::<Brand, S>(compressor, Blank::new(1), array, &site, ctx)?;
-    match array.dtype() {
-        DType::Timestamp(_, _) => site_or_storage(compressor, array, tree, &site, ctx),
-        _ => Ok(tree),
+    if array.dtype().is_timestamp() {
+        site_or_storage(compressor, array, tree, &site, ctx)
+    } else {
+        Ok(tree)
     }
 }
 
