@@ -1,11 +1,15 @@
 -- The tree of a column of timestamps: the one that its site makes, or that of its whole numbers.
-use Rattle.std.proofs.Common.{◌≡◌, ◌<◌, ◌≤◌, ◌^◌, ℕ, Bool, true, false, List, length, refl, sym, ◌∙◌, ap, subst, arith}
-use Rattle.std.specs.Prelude.{◌||◌, ◌&&◌, not, nat_lt, if◌then◌else◌, None}
+use Rattle.std.proofs.Common.{◌≡◌, ◌<◌, ◌≤◌, ◌^◌, ℕ, Bool, true, false, List, length, Option, Some, None, refl, sym, ◌∙◌, ap, subst, arith}
+use Rattle.std.specs.Prelude.{◌||◌, ◌&&◌, not, nat_lt, if◌then◌else◌, Err, IsTrue, ◌↔◌}
 use Rattle.std.specs.List.{list_all}
+use Rattle.vx_base.specs.Answers.{Makes, unless}
 use Rattle.vx_base.specs.declared.array_id.ArrayId.TheVariants as ids
+use Rattle.vx_base.specs.declared.error.Refused.{Refused}
+use Rattle.vx_base.specs.declared.error.VortexError.{VortexError}
+use Rattle.vx_base.specs.declared.error.VortexError.TheVariants.{NoMemory, MismatchedTypes}
 use Rattle.vx_base.specs.declared.ptype.PType.TheVariants.{I64}
 use Rattle.vx_base.specs.PlainScalar.{fits}
-use Rattle.vx_base.specs.PlainType.{PlainType, boolean, primitive, utf8, binary, is_timestamp, nullability_of}
+use Rattle.vx_base.specs.PlainType.{PlainType, boolean, primitive, utf8, binary, is_leaf, is_timestamp, nullability_of, same_type}
 use Rattle.vx_base.specs.PlainType as types
 use Rattle.vx_base.specs.Storable.{same, same_path, same_refl}
 use Rattle.vx_base.specs.Timestamps.{PlainTimestamp}
@@ -19,14 +23,28 @@ use Rattle.vx_model.specs.Rows.{rows}
 use Rattle.vx_model.specs.Site.{Site, fresh}
 use Rattle.vx_model.specs.Size.{size}
 use Rattle.vx_model.specs.Tree.{Tree, timestamp}
+use Rattle.vx_model.specs.TreeType.{tree_type}
+use Rattle.vx_model.specs.WellFormed.{WellFormed}
 use Rattle.vx_model.specs.TreeCode.{stored_tree}
 use Rattle.vx_model.proofs.LeafLemmas.{size-leaf}
+use Rattle.vx_model.proofs.MadeLemmas.{rows_fit}
 use Rattle.vx_model.proofs.PlainLemmas.{stamps_fit}
 use Rattle.vx_model.proofs.SizeLemmas.{small_plain}
 use Rattle.vx_compressor.specs.Cascade.{Setting, chosen, children_of, leaf_tree}
+use Rattle.vx_array.proofs.Flat.{flat_type}
+use Rattle.vx_compressor.specs.CascadeLaws.{IsLawful}
 use Rattle.vx_compressor.specs.Reach.{IsInReach}
+use Rattle.vx_compressor.proofs.CascadeLemmas.{leaf_tree-stands}
 use Rattle.vx_compressor.proofs.HeldLemmas.{column_of-is, plain-is}
 use Rattle.vx_compressor.proofs.LeafFormLemmas.{timestamp-admitted}
+
+-- a type but timestamps is a leaf
+pub leaf_type : (t : PlainType) → is_timestamp t ≡ false → is_leaf t ≡ true
+leaf_type (boolean n) e = refl
+leaf_type (primitive p n) e = refl
+leaf_type (utf8 n) e = refl
+leaf_type (binary n) e = refl
+leaf_type (types.timestamp k n) e = absurd cc
 
 -- ---- the whole numbers of timestamps
 
@@ -74,6 +92,7 @@ pub record IsOwnStorage (c : Column) (site : Site) (storage : Tree) : Type 0 whe
   pub whole : timestamp_refusal storage ≡ None
   pub reach : IsInReach (column_of storage) site.budget
   pub column : column_of storage ≡ storage_of c
+  pub fits : IsColumn (column_of storage)
 
 pub own_storage : (c : Column) (site : Site) (storage : Tree) (k : PlainTimestamp) → is_timestamp c.dtype ≡ true → IsColumn c → IsInReach c site.budget → timestamp storage k ≡ plain c → IsOwnStorage c site storage
 own_storage c site storage k stamps fit reach e =
@@ -85,6 +104,7 @@ own_storage c site storage k stamps fit reach e =
       whole = timestamp-admitted storage (nullability_of c.dtype) (ap (λ d. d.dtype) same);
       reach = subst (λ d. IsInReach d site.budget) (sym same) (record { few = reach.few; within = reach.within });
       column = same;
+      fits = subst IsColumn (sym same) own;
     }
 
 -- ---- which tree stands
@@ -152,10 +172,30 @@ module _ (leaves : Leaves) (c : Column) (site : Site) (made : Tree) (at_site : s
     site-plain p = of_storage storage k column ∙ plain-gives c made (timestamp (leaves (storage_of c) fresh) k) many p ∙ by_stamps k kind_is
 
     pub site-smaller : (other : Tree) → IsColumn c → (IsPlain made → ⊥) → other ≡ timestamp (leaves (column_of storage) site) k → (if nat_lt (size made) (size other) then made else other) ≡ cascade leaves c
-    site-smaller other fit no e =
+    site-smaller other fit unlike e =
         ap (λ t. if nat_lt (size made) (size t) then made else t) (e ∙ of_storage storage k column)
-        ∙ smaller-stays c made (timestamp (leaves (storage_of c) fresh) k) many (no_plain c made fit no)
+        ∙ smaller-stays c made (timestamp (leaves (storage_of c) fresh) k) many (no_plain c made fit unlike)
         ∙ by_stamps k kind_is
+
+-- what a site makes of whole numbers may stand beneath timestamps
+pub storage-admitted : (set : Setting) → IsLawful set → (storage tree : Tree) (site : Site) → WellFormed storage → IsInReach (column_of storage) site.budget → timestamp_refusal storage ≡ None → tree ≡ leaf_tree set (column_of storage) site → timestamp_refusal tree ≡ None
+storage-admitted set lawful storage tree site w reach whole made =
+    let column = ap column_of made ∙ (leaf_tree-stands set lawful (column_of storage) site (rows_fit storage w) (flat_type (tree_type storage)) reach).1 in
+    ap (λ d. unless (same_type d.dtype (primitive I64 (nullability_of d.dtype))) MismatchedTypes None) column ∙ whole
+
+-- where nothing is refused, memory was wanting
+pub no_memory : {T U : Type 0} (r : Option VortexError) (made : U) (inputs : T) (f : Refused T) → r ≡ None → Makes r made inputs (Err f) → f.error ≡ NoMemory
+no_memory None made inputs f e h = h.0
+no_memory (Some x) made inputs f e h = absurd cc
+
+-- a plain tree of a column is the column's plain tree
+pub plain-made : (set : Setting) → IsLawful set → (array made : Tree) (site : Site) → WellFormed array → IsInReach (column_of array) site.budget → made ≡ leaf_tree set (column_of array) site → IsPlain made → made ≡ plain (column_of array)
+plain-made set lawful array made site w reach is p =
+    p ∙ ap plain (ap column_of is ∙ (leaf_tree-stands set lawful (column_of array) site (rows_fit array w) (flat_type (tree_type array)) reach).1)
+
+-- what a test that fails doesn't hold of
+pub no_test : (b : Bool) (P : Type 0) → IsTrue b ↔ P → b ≡ false → P → ⊥
+no_test b P both e p = let t = both.1 p in absurd cc
 
 -- the tree of the whole numbers is far from the end of 128 bits
 pub small_stamps : (set : Setting) (d : Column) (site : Site) (k : PlainTimestamp) (other : Tree) → IsColumn d → IsInReach d site.budget → other ≡ timestamp (leaf_tree set d site) k → size other < 2 ^ 100

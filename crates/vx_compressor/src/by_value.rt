@@ -1,10 +1,11 @@
 //! The cases of a leaf column's tree that its values alone decide.
 
-ghost use Rattle.std.specs.Prelude.{◌≡◌};
+ghost use Rattle.std.specs.Prelude.{◌≡◌, ◌<◌, ◌^◌, length};
 ghost use Rattle.vx_base.specs.Answers.{Answers, OrMemory};
 ghost use Rattle.vx_model.specs.Column.{column_of};
 ghost use Rattle.vx_model.specs.Leaf.{smaller_or_plain};
 ghost use Rattle.vx_model.specs.Plain.{IsPlain};
+ghost use Rattle.vx_model.specs.Rows.{rows};
 ghost use Rattle.vx_scheme.specs.Contexts.{site_of};
 ghost use Rattle.vx_compressor.specs.ByValue.{IsByValue};
 
@@ -43,7 +44,8 @@ pub(crate) fn by_value(
 
 // The tree where it is smaller than the plain one, else a copy of the plain one.
 fn smaller_or_copy(alloc: Global, tree: ArrayRef, plain: &ArrayRef) -> VortexResult<ArrayRef>
-    requires { IsPlain plain.now }
+    requires plain { IsPlain plain.now }
+    requires few { length (rows plain.now) < 2 ^ 64 }
     ensures { Answers result (smaller_or_plain (column_of plain.now) tree) }
 {
     plain.known();
@@ -55,7 +57,8 @@ fn smaller_or_copy(alloc: Global, tree: ArrayRef, plain: &ArrayRef) -> VortexRes
 
 /// The tree where it is smaller than the plain one, else the plain one.
 pub(crate) fn smaller(tree: ArrayRef, plain: ArrayRef) -> ArrayRef
-    requires { IsPlain plain }
+    requires plain { IsPlain plain }
+    requires few { length (rows plain) < 2 ^ 64 }
     ensures { result ≡ smaller_or_plain (column_of plain) tree }
 {
     plain.known();

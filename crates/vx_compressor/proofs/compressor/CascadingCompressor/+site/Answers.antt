@@ -181,6 +181,25 @@ judge-returns-then-is_always-clause-answer g t c =
     ∙ best_found-step meaning child words here site l.best c.better-best.result xs l.scheme-index c.loop-scheme-item.result c.in_ok-score.score c.loop-scheme-test.true c.loop-scheme-item.is answer c.better-best.ensures
     ∙ l.invariant.best
 
+pub judge-deferred_score-requires : goal.judge-deferred_score-requires
+judge-deferred_score-requires g t c =
+    let meaning = g.S.Scheme.meaning in
+    let l = c.loop-scheme in
+    let here = column_of c.args.column.now.array in
+    let opts = options_of c.args.site.now in
+    let after = column_of l.column.array in
+    let same : after ≡ here = column-held l.column here opts l.invariant.holds in
+    let p = c.loop-scheme-item.result in
+    let ready_here : IsReady here opts (meaning p.0) = search rules in
+    let put_off_here : WasPutOff here (site_of c.args.site.now) (meaning p.0) p.1 = search rules in
+    let ready : IsReady after opts (meaning p.0) = subst (λ col. IsReady col opts (meaning p.0)) (sym same) ready_here in
+    let were : WasPutOff after (site_of c.args.site.now) (meaning p.0) p.1 = subst (λ col. WasPutOff col (site_of c.args.site.now) (meaning p.0) p.1) (sym same) put_off_here in
+    let holds : Holds l.column after opts = subst (λ col. Holds l.column col opts) (sym same) l.invariant.holds in
+    let askable : IsAskable after = subst IsAskable (sym same) c.requires.askable in
+    let reach : IsInReach after (site_of c.args.site.now).budget = subst (λ col. IsInReach col (site_of c.args.site.now).budget) (sym same) c.requires.reach in
+    let value : HasValue after = subst HasValue (sym same) c.requires.value in
+    search rules
+
 pub judge-loop-scheme-preserved : goal.judge-loop-scheme-preserved
 judge-loop-scheme-preserved g t c =
     let meaning = g.S.Scheme.meaning in
