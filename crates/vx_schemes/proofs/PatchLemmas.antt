@@ -159,13 +159,13 @@ same_first v (w ∷ ws) e =
     (λ i. (b.0 i || same_value w v) && list_all (null_or v) ws) ∙ ap (λ rest. same_value w v && rest) (same_first v ws b.1)
 
 -- where no row is null, the first value is shared, or none is
-pub shared-first : (vs : List PlainValue) (v : PlainValue) (same : Bool) → list_any is_null vs ≡ false → first_valid vs ≡ Some v → same ≡ each_null_or v vs → cond same (Some v) None ≡ shared_value vs
-shared-first [] v same n e each = absurd cc
-shared-first (w ∷ ws) v same n e each =
+pub shared-first : (vs : List PlainValue) (v : PlainValue) → list_any is_null vs ≡ false → first_valid vs ≡ Some v → cond (each_null_or v vs) (Some v) None ≡ shared_value vs
+shared-first [] v n e = absurd cc
+shared-first (w ∷ ws) v n e =
     let b = or_parts (is_null w) (list_any is_null ws) n in
     let is : Some w ≡ Some v = rw b.0 at e in
     let first : w ≡ v = cc in
-    subst (λ u. same ≡ each_null_or u (w ∷ ws) → cond same (Some u) None ≡ shared_value (w ∷ ws)) first (λ all. ap (λ s. cond s (Some w) None) (all ∙ whole b.0 b.1)) each
+    subst (λ u. cond (each_null_or u (w ∷ ws)) (Some u) None ≡ shared_value (w ∷ ws)) first (ap (λ s. cond s (Some w) None) (whole b.0 b.1))
   where
     whole : is_null w ≡ false → list_any is_null ws ≡ false → each_null_or w (w ∷ ws) ≡ list_all (λ u. same_value u w) ws
     whole f rest = (λ i. (f i || same_value w w) && list_all (null_or w) ws) ∙ (λ i. same_refl stored_value w w refl i && same_first w ws rest i)

@@ -1,11 +1,13 @@
 //! Patches in a short form.
 
-ghost use Rattle.std.specs.Prelude.{◌≡◌, option_map};
+ghost use Rattle.std.specs.Prelude.{◌≡◌, ◌<◌, if◌then◌else◌, length, option_map, false, Some, None};
 ghost use Rattle.vx_base.specs.Answers.{Answers, OrMemory};
 ghost use Rattle.vx_base.specs.CellValue.{cell_value};
+ghost use Rattle.vx_base.specs.PlainValue.{is_null};
 ghost use Rattle.vx_model.specs.Column.{column_of};
+ghost use Rattle.vx_model.specs.Leaf.{each_null_or};
 ghost use Rattle.vx_model.specs.Plain.{IsPlain};
-ghost use Rattle.vx_model.specs.Rows.{rows};
+ghost use Rattle.vx_model.specs.Rows.{rows, row_at};
 ghost use Rattle.vx_schemes.specs.Patches.Compressed.{index_type, narrowed, shared_value, constant_or_plain, compressed_patches, PatchAlike};
 
 use crate::whole::whole_tree;
@@ -58,8 +60,22 @@ fn narrowed(alloc: Global, patches: &Patches) -> VortexResult<ArrayRef>
     whole_tree(indices.in_unsigned(alloc, ptype)?, Nullability::NonNullable)
 }
 
-// The value that every row has, where there are rows and no two differ: null in it where all are null.
+// The value of a row that isn't null, where each row is null or has it.
 #[tactic(auto, using(vx_array::proofs::Flat::flats))]
+fn repeated(plain: &ArrayRef, row: u64) -> Option<Cell<'_>>
+    requires plain { IsPlain plain.now }
+    requires in_range { row < length (rows plain.now) }
+    requires value { is_null (row_at (rows plain.now) row) ≡ false }
+    ensures { option_map cell_value result ≡ if each_null_or (row_at (rows plain.now) row) (rows plain.now) then Some (row_at (rows plain.now) row) else None }
+{
+    if plain.repeats(row) {
+        Some(plain.cell_at(row))
+    } else {
+        None
+    }
+}
+
+// The value that every row has, where there are rows and no two differ: null in it where all are null.
 fn shared_value(plain: &ArrayRef) -> Option<Cell<'_>>
     requires { IsPlain plain.now }
     ensures { option_map cell_value result ≡ shared_value (rows plain.now) }
@@ -70,10 +86,10 @@ fn shared_value(plain: &ArrayRef) -> Option<Cell<'_>>
     let Some(row) = plain.first_valid() else {
         return Some(Cell::Null);
     };
-    if plain.validity().is_some() || !plain.repeats(row) {
+    if plain.validity().is_some() {
         return None;
     }
-    Some(plain.cell_at(row))
+    repeated(plain, row)
 }
 
 // The values as one scalar where all are equal, else plain.
