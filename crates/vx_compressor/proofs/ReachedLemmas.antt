@@ -1,16 +1,14 @@
 -- Every site of which the tree of a column may come is bounded.
-use Rattle.std.proofs.Common.{◌≡◌, ◌<◌, ◌-◌, ℕ, zero, suc, Bool, true, false, cond, not, ◌||◌, List, [], ◌∷◌, ◌++◌, length, map, filter, take, drop, All, refl, sym, ◌∙◌, ap, subst, arith, length-append}
+use Rattle.std.proofs.Common.{◌≡◌, ◌<◌, ℕ, Bool, true, false, cond, not, ◌||◌, List, [], ◌∷◌, ◌++◌, map, filter, All, refl, sym, ◌∙◌, ap, subst, arith, length-append}
 use Rattle.std.specs.Prelude.{Contains, slice_index_or}
 use Rattle.std.specs.List.{AllByRecursion, list_all, list_any}
-use Rattle.std.proofs.lemmas.Bool.{cond_both, and_parts, and_from}
+use Rattle.std.proofs.lemmas.Bool.{and_parts, and_from}
 use Rattle.std.proofs.lemmas.List.{map-append}
 use Rattle.std.proofs.lemmas.List.Elements.{All-from_recursion}
-use Rattle.std.proofs.lemmas.List.Folds.{list_all-append, list_any-append}
-use Rattle.vx_base.specs.Gathered.{gathered}
-use Rattle.vx_base.specs.Masks.{rows_between}
+use Rattle.std.proofs.lemmas.List.Folds.{list_any-append}
 use Rattle.vx_base.specs.PlainScalar.{fits}
 use Rattle.vx_base.specs.PlainType.{PlainType}
-use Rattle.vx_model.specs.Column.{Column, IsColumn, column}
+use Rattle.vx_model.specs.Column.{Column, IsColumn}
 use Rattle.vx_model.specs.Extents.{row_limit}
 use Rattle.vx_model.specs.Site.{Site, down}
 use Rattle.vx_model.proofs.CountLemmas.{rows-few}
@@ -24,7 +22,6 @@ use Rattle.vx_compressor.specs.Cascade.{Setting, is_eligible, eligible}
 use Rattle.vx_compressor.specs.CascadeLaws.{IsLawful, IsWithin}
 use Rattle.vx_compressor.specs.Distinct.{are_distinct}
 use Rattle.vx_compressor.specs.Reached.{IsReached, begun, by_storage, by_sample, by_part, IsBounded, SitesAreBounded}
-use Rattle.vx_compressor.specs.Sampling.{sample, is_short, slices}
 use Rattle.vx_compressor.proofs.EligibleLemmas.{all_both, all_filter}
 use Rattle.vx_compressor.proofs.SampleSizes.{sample-column, sample-fewer}
 

@@ -1,5 +1,5 @@
 -- The tree of a column of timestamps: the one that its site makes, or that of its whole numbers.
-use Rattle.std.proofs.Common.{◌≡◌, ◌<◌, ◌≤◌, ◌^◌, ℕ, Bool, true, false, List, length, Option, Some, None, refl, sym, ◌∙◌, ap, subst, arith}
+use Rattle.std.proofs.Common.{◌≡◌, ◌<◌, ◌^◌, Bool, true, false, Option, Some, None, refl, sym, ◌∙◌, ap, subst, arith}
 use Rattle.std.specs.Prelude.{◌||◌, ◌&&◌, not, nat_lt, if◌then◌else◌, Err, IsTrue, ◌↔◌}
 use Rattle.std.specs.List.{list_all}
 use Rattle.vx_base.specs.Answers.{Makes, unless}
@@ -15,11 +15,9 @@ use Rattle.vx_base.specs.Storable.{same, same_path, same_refl}
 use Rattle.vx_base.specs.Timestamps.{PlainTimestamp}
 use Rattle.vx_model.specs.Cascade.{Leaves, cascade, cascade_of, is_one_value, is_better, site_or_storage}
 use Rattle.vx_model.specs.Column.{Column, IsColumn, column, column_of}
-use Rattle.vx_model.specs.Leaf.{leaf}
 use Rattle.vx_model.specs.Nodes.{encoding}
 use Rattle.vx_model.specs.Plain.{plain, plain_of, IsPlain}
 use Rattle.vx_model.specs.Refusals.{timestamp_refusal}
-use Rattle.vx_model.specs.Rows.{rows}
 use Rattle.vx_model.specs.Site.{Site, fresh}
 use Rattle.vx_model.specs.Size.{size}
 use Rattle.vx_model.specs.Tree.{Tree, timestamp}

@@ -1,4 +1,4 @@
-use Rattle.std.proofs.Common.{◌≡◌, sym, length}
+use Rattle.std.proofs.Common.{◌≡◌, length}
 use Rattle.vx_base.specs.PlainScalar.{scalar}
 use Rattle.vx_model.specs.Rows.{rows, row_at}
 use Rattle.vx_model.specs.Tree.{constant}

@@ -1,5 +1,4 @@
-use Rattle.std.proofs.Common.{◌≡◌, ◌∙◌, sym, ap, subst, false, length}
-use Rattle.vx_base.specs.Answers.{Answers}
+use Rattle.std.proofs.Common.{◌≡◌, ◌∙◌, sym, ap, false, length}
 use Rattle.vx_model.specs.Rows.{rows}
 use Rattle.vx_compressor.specs.Sampling.{slices, is_short}
 use Rattle.vx_compressor.proofs.OneValueTrees.{answers_along}

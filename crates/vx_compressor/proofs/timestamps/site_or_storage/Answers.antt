@@ -1,8 +1,7 @@
-use Rattle.std.proofs.Common.{◌≡◌, ◌∙◌, sym, ap, subst, rules}
+use Rattle.std.proofs.Common.{◌≡◌, ◌∙◌, sym, ap, rules}
 use Rattle.vx_model.specs.Column.{column_of}
 use Rattle.vx_model.specs.Nodes.{encoding}
 use Rattle.vx_model.specs.Plain.{plain, IsPlain}
-use Rattle.vx_model.specs.Size.{size}
 use Rattle.vx_model.specs.Tree.{timestamp}
 use Rattle.vx_model.proofs.MadeLemmas.{rows_fit}
 use Rattle.vx_scheme.specs.Contexts.{site_of}

@@ -1,4 +1,3 @@
-use Rattle.std.proofs.Common.{◌≡◌}
 use Rattle.vx_scheme.specs.Contexts.{site_of}
 use Rattle.vx_compressor.specs.Cascade.{setting}
 use Rattle.vx_compressor.proofs.CascadeLemmas.{lawful-map}
