@@ -1,14 +1,19 @@
 -- What the values of a plain tree decide.
-use Rattle.std.proofs.Common.{◌≡◌, ◌≢◌, ◌∙◌, true, false, length, Option, Some, None, sym, subst, arith}
+use Rattle.std.proofs.Common.{◌≡◌, ◌≢◌, ◌<◌, ◌≤◌, ◌^◌, ◌∙◌, true, false, length, Option, Some, None, sym, ap, subst, arith}
+use Rattle.std.proofs.lemmas.Bool.{cond-false, le-ltb}
 use Rattle.vx_base.specs.PlainScalar.{scalar}
 use Rattle.vx_base.specs.PlainValue.{PlainValue, null}
 use Rattle.vx_model.specs.Column.{Column, column_of}
 use Rattle.vx_model.specs.Leaf.{first_valid, each_null_or, one_value_tree, smaller_or_plain}
-use Rattle.vx_model.specs.Plain.{IsPlain}
+use Rattle.vx_model.specs.Plain.{plain, IsPlain}
 use Rattle.vx_model.specs.Rows.{rows}
 use Rattle.vx_model.specs.Site.{Site}
+use Rattle.vx_model.specs.Size.{size, nbytes}
 use Rattle.vx_model.specs.Tree.{Tree, constant}
 use Rattle.vx_model.specs.TreeType.{tree_type}
+use Rattle.vx_model.specs.WellFormed.{WellFormed}
+use Rattle.vx_model.proofs.MadeLemmas.{rows_fit}
+use Rattle.vx_model.proofs.SizeLemmas.{small_plain}
 use Rattle.vx_model.proofs.OneValueLemmas.{first_valid-some}
 use Rattle.vx_compressor.specs.ByValue.{IsByValue, IsOpen}
 use Rattle.vx_compressor.proofs.LeafCases.{length-first_valid, leaf-empty, leaf-nulls, leaf-sampled, leaf-one, leaf-many}
@@ -45,3 +50,13 @@ decided-here v tree c site h is = subst (IsByValue c site) is h
 
 pub open-here : (v : Option Tree) (c : Column) (site : Site) → IsByValue c site v → v ≡ None → IsOpen c site
 open-here v c site h is = subst (IsByValue c site) is h
+
+-- ---- by the bytes
+
+-- a tree that has no fewer bytes than the plain one doesn't stand
+pub not_smaller : (t tree : Tree) → WellFormed t → length (rows t) < 2 ^ 64 → IsPlain t → nbytes t ≤ nbytes tree → t ≡ smaller_or_plain (column_of t) tree
+not_smaller t tree w few p more =
+    let own : size t ≡ size (plain (column_of t)) = ap size p in
+    let small = small_plain (column_of t) (rows_fit t w) few in
+    let least : size (plain (column_of t)) ≤ size tree = omega (arith, own, small, more) in
+    p ∙ sym (cond-false _ _ _ (le-ltb (size tree) (size (plain (column_of t))) least))

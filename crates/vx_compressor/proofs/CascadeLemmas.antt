@@ -1,20 +1,25 @@
 -- The laws of compression, for every setting of lawful schemes, by induction on the budget.
-use Rattle.std.proofs.Common.{◌≡◌, ◌<◌, ◌≤◌, ℕ, zero, suc, ◌+◌, Bool, true, false, List, [], ◌∷◌, map, length, Option, Some, None, option_map, All, IfSome, refl, sym, ◌∙◌, ap, subst, arith}
-use Rattle.std.specs.Prelude.{◌==◌}
-use Rattle.std.specs.List.{AllByRecursion}
-use Rattle.std.proofs.lemmas.Bool.{cond-true, eqb-false}
+use Rattle.std.proofs.Common.{◌≡◌, ◌<◌, ◌≤◌, ℕ, zero, suc, ◌+◌, Bool, true, false, List, [], ◌∷◌, map, length, Option, Some, None, option_map, All, IfSome, refl, sym, ap, subst, arith}
+use Rattle.std.specs.Prelude.{◌==◌, ◌||◌}
+use Rattle.std.specs.List.{AllByRecursion, list_all}
+use Rattle.std.proofs.lemmas.Bool.{cond-true, cond_both, eqb-false, or_left}
 use Rattle.std.proofs.lemmas.List.Elements.{All-from_recursion, recursion_from_All}
-use Rattle.vx_base.specs.PlainType.{PlainType, primitive, is_leaf}
-use Rattle.vx_model.specs.Cascade.{Leaves, cascade}
-use Rattle.vx_model.specs.Column.{Column, column_of, IsColumn}
+use Rattle.vx_base.specs.declared.ptype.PType.TheVariants.{I64}
+use Rattle.vx_base.specs.PlainScalar.{fits}
+use Rattle.vx_base.specs.PlainType.{PlainType, boolean, primitive, utf8, binary, is_leaf, is_timestamp, is_flat}
+use Rattle.vx_base.specs.PlainType as types
+use Rattle.vx_base.specs.PlainValue.{PlainValue}
+use Rattle.vx_model.specs.Cascade.{Leaves, cascade, cascade_of, is_one_value, is_better}
+use Rattle.vx_model.specs.Column.{Column, column, column_of, IsColumn}
 use Rattle.vx_model.specs.Extents.{row_limit}
 use Rattle.vx_model.specs.Laws.{NeverLarger, ByTheColumnAlone}
 use Rattle.vx_model.specs.Leaf.{Chooses, leaf}
 use Rattle.vx_model.specs.Site.{Site, fresh, down, max_cascade}
-use Rattle.vx_model.specs.Tree.{Tree}
+use Rattle.vx_model.specs.Tree.{Tree, timestamp}
 use Rattle.vx_model.specs.WellFormed.{WellFormed}
 use Rattle.vx_model.proofs.CountLemmas.{rows-few}
-use Rattle.vx_model.proofs.LeafLemmas.{leaf-cases, cascade-leaf, never_larger}
+use Rattle.vx_model.proofs.LeafLemmas.{leaf-cases, never_larger}
+use Rattle.vx_model.proofs.PlainLemmas.{stamps_fit}
 use Rattle.vx_scheme.specs.Asked.{IsAsked}
 use Rattle.vx_scheme.specs.Lawful.{Lawful, IsPart}
 use Rattle.vx_scheme.specs.Meaning.{Meaning, PlainSplit, kept, finished, parts}
@@ -22,7 +27,7 @@ use Rattle.vx_compressor.specs.Cascade.{Setting, part_trees, made_tree, trial, c
 use Rattle.vx_compressor.specs.CascadeLaws.{IsLawful, IsWithin, KeepsRowsAndType, AgainTheSame}
 use Rattle.vx_compressor.specs.Reach.{IsInReach, most_part_rows}
 use Rattle.vx_compressor.proofs.EligibleLemmas.{eligible_take, all_both, all_filter, choice_holds}
-use Rattle.vx_compressor.proofs.LeafFormLemmas.{StandsFor, plain-stands, nulls-stand, one-stands}
+use Rattle.vx_compressor.proofs.LeafFormLemmas.{StandsFor, plain-stands, nulls-stand, one-stands, stamped-stands}
 
 -- ---- how parts become trees
 
@@ -86,7 +91,7 @@ choice_may_win child set c site lawful =
 -- a column that stands at a site with this budget
 record IsHere (budget : ℕ) (c : Column) : Type 0 where
   column : IsColumn c
-  leaf : is_leaf c.dtype ≡ true
+  flat : is_flat c.dtype ≡ true
   reach : IsInReach c budget
 
 asked_here : (m : Meaning) (c : Column) (budget : ℕ) → IsHere budget c → 0 < length c.values → m.takes c.dtype ≡ true → IsAsked m c
@@ -111,31 +116,44 @@ module _ (child : Leaves) (budget : ℕ) (keeps : Keeps child budget) (set : Set
           let full = eqb-false _ _ e in
           leaf-cases (λ t. StandsFor t c) (chosen child set) c site (plain-stands c here.column)
           (nulls-stand c here.column)
-          (λ v is less. one-stands c v here.column here.leaf is)
+          (λ v is less. one-stands c v here.column here.flat is)
           (λ t is less. chosen-stands (omega arith) t is)
 
 -- ---- by induction on the budget
 
 here_below : (budget : ℕ) (c : Column) → suc budget ≤ max_cascade → IsChild (suc budget) c → IsHere budget c
-here_below budget c within own = let few = own.few in record { column = own.column; leaf = own.leaf; reach = record { few = omega (arith, few, within); within = omega (arith, within) } }
+here_below budget c within own = let few = own.few in record { column = own.column; flat = or_left (is_leaf c.dtype) (is_timestamp c.dtype) own.leaf; reach = record { few = omega (arith, few, within); within = omega (arith, within) } }
 
 pub child_tree-keeps : (set : Setting) → IsLawful set → (budget : ℕ) → budget ≤ max_cascade → Keeps (child_tree set budget) budget
 child_tree-keeps set lawful zero within c site own = plain-stands c own.column
 child_tree-keeps set lawful (suc budget) within c site own =
     site-stands (child_tree set budget) budget (child_tree-keeps set lawful budget (omega (arith, within))) set lawful c site (here_below budget c within own)
 
+-- a leaf column, or one of timestamps, at a site
+pub leaf_tree-stands : (set : Setting) → IsLawful set → (c : Column) (site : Site) → IsColumn c → is_flat c.dtype ≡ true → IsInReach c site.budget → StandsFor (leaf_tree set c site) c
+leaf_tree-stands set lawful c site fits flat reach =
+    site-stands (child_tree set site.budget) site.budget (child_tree-keeps set lawful site.budget reach.within) set lawful c site (record { column = fits; flat = flat; reach = reach })
+
 -- ---- the tree of a column
 
-leaf_types : (t : PlainType) → is_leaf t ≡ true
-leaf_types (primitive p n) = refl
+module _ (set : Setting) (lawful : IsLawful set) where
+  at_fresh : (t : PlainType) (vs : List PlainValue) → is_flat t ≡ true → list_all (fits t) vs ≡ true → length vs ≤ row_limit → StandsFor (leaf_tree set (column t vs) fresh) (column t vs)
+  at_fresh t vs flat fit few = leaf_tree-stands set lawful (column t vs) fresh fit flat (record { few = omega (arith, few); within = omega arith })
+
+  column-stands : (t : PlainType) (vs : List PlainValue) → list_all (fits t) vs ≡ true → length vs ≤ row_limit → StandsFor (cascade_of (leaf_tree set) t vs) (column t vs)
+  column-stands (boolean n) vs fit few = at_fresh (boolean n) vs refl fit few
+  column-stands (primitive p n) vs fit few = at_fresh (primitive p n) vs refl fit few
+  column-stands (utf8 n) vs fit few = at_fresh (utf8 n) vs refl fit few
+  column-stands (binary n) vs fit few = at_fresh (binary n) vs refl fit few
+  column-stands (types.timestamp k n) vs fit few =
+      let own = column (types.timestamp k n) vs in
+      let storage = at_fresh (primitive I64 n) vs refl (stamps_fit k n vs fit) few in
+      cond_both (is_one_value (leaf_tree set own fresh) || is_better own (leaf_tree set own fresh) (timestamp (leaf_tree set (column (primitive I64 n) vs) fresh) k)) _ _ (λ t. StandsFor t own)
+      (λ site. at_fresh (types.timestamp k n) vs refl fit few)
+      (λ other. stamped-stands (leaf_tree set (column (primitive I64 n) vs) fresh) k n vs storage)
 
 pub cascade-column : (set : Setting) → IsLawful set → (c : Column) → IsWithin c → column_of (cascade (leaf_tree set) c) ≡ c
-cascade-column set lawful c within =
-    let few = rows-few c.dtype c.values row_limit within.counts_fit in
-    let reach : IsInReach c max_cascade = record { few = omega (arith, few); within = omega arith } in
-    let here : IsHere max_cascade c = record { column = within.column; leaf = leaf_types c.dtype; reach = reach } in
-    ap column_of (cascade-leaf (leaf_tree set) c)
-    ∙ (site-stands (child_tree set max_cascade) max_cascade (child_tree-keeps set lawful max_cascade (omega arith)) set lawful c fresh here).1
+cascade-column set lawful c within = (column-stands set lawful c.dtype c.values within.column (rows-few c.dtype c.values row_limit within.counts_fit)).1
 
 pub keeps_rows_and_type : (set : Setting) → IsLawful set → KeepsRowsAndType set
 keeps_rows_and_type set lawful c within = let same = cascade-column set lawful c within in (ap (λ c. c.values) same, ap (λ c. c.dtype) same)

@@ -1,22 +1,32 @@
 -- Trees that stand for a column, among them those that its values alone decide.
-use Rattle.std.proofs.Common.{◌≡◌, ◌≢◌, ◌∙◌, Bool, true, false, List, [], ◌∷◌, length, Option, None, Some, cond, refl, sym}
+use Rattle.std.proofs.Common.{◌≡◌, ◌≢◌, ◌∙◌, Bool, true, false, List, [], ◌∷◌, length, Option, None, Some, cond, refl, sym, ap}
 use Rattle.std.specs.Prelude.{if◌then◌else◌, option_and_then}
 use Rattle.std.specs.List.{list_all, list_any}
 use Rattle.std.proofs.lemmas.Bool.{cond_both, and_parts, or_left}
 use Rattle.std.proofs.lemmas.List.{length-replicate}
 use Rattle.vx_base.specs.PlainScalar.{fits, scalar}
-use Rattle.vx_base.specs.PlainType.{PlainType, is_leaf, is_nullable}
+use Rattle.vx_base.specs.Answers.{unless}
+use Rattle.vx_base.specs.declared.dtype.Nullability.{Nullability}
+use Rattle.vx_base.specs.declared.error.VortexError.TheVariants.{MismatchedTypes}
+use Rattle.vx_base.specs.declared.ptype.PType.TheVariants.{I64}
+use Rattle.vx_base.specs.Storable.{same_refl}
+use Rattle.vx_base.specs.Timestamps.{PlainTimestamp}
+use Rattle.vx_base.specs.PlainType.{PlainType, primitive, is_flat, is_nullable, nullability_of, stored_type}
+use Rattle.vx_base.specs.PlainType as types
 use Rattle.vx_base.proofs.NullLemmas.{null-fitted}
 use Rattle.vx_base.specs.PlainValue.{PlainValue, null, is_null}
 use Rattle.vx_model.specs.Column.{Column, IsColumn, column, column_of}
 use Rattle.vx_model.specs.Leaf.{first_valid, each_null_or, one_value, one_value_tree}
 use Rattle.vx_model.specs.Plain.{plain, valid_bits}
-use Rattle.vx_model.specs.Tree.{Tree, constant, masked}
+use Rattle.vx_model.specs.Refusals.{timestamp_refusal}
+use Rattle.vx_model.specs.Tree.{Tree, constant, masked, timestamp}
+use Rattle.vx_model.specs.TreeType.{tree_type}
 use Rattle.vx_model.specs.WellFormed.{WellFormed}
 use Rattle.vx_model.proofs.MadeLemmas.{constant_made, masked_made}
 use Rattle.vx_model.proofs.NullLemmas.{any_null-replicate}
 use Rattle.vx_model.proofs.OneValueLemmas.{first_valid-valid, one_value-some, replicate-nulls, rows-one_value_tree, type-one_value_tree}
 use Rattle.vx_model.proofs.PlainLemmas.{column_of-plain, length-valid_bits, plain_well_formed}
+use Rattle.vx_model.proofs.TimestampLemmas.{timestamp_accepted}
 use Rattle.vx_compressor.proofs.OneValueTrees.{first_fits_in}
 
 -- a well-formed tree of the column
@@ -24,7 +34,7 @@ abbrev pub StandsFor : Tree → Column → Type 0
 StandsFor t c = WellFormed t × (column_of t ≡ c)
 
 pub plain-stands : (c : Column) → IsColumn c → StandsFor (plain c) c
-plain-stands c fits = (plain_well_formed c fits, column_of-plain c)
+plain-stands c fits = (plain_well_formed c fits, column_of-plain c fits)
 
 -- ---- nulls alone
 
@@ -51,13 +61,28 @@ first_of vs v = of_first (first_valid vs)
     of_first None e = absurd cc
     of_first (Some w) e = of_each w (each_null_or w vs) e
 
-pub one-stands : (c : Column) (v : PlainValue) → IsColumn c → is_leaf c.dtype ≡ true → one_value c.values ≡ Some v → StandsFor (one_value_tree c v) c
-one-stands c v fit leaf one =
+pub one-stands : (c : Column) (v : PlainValue) → IsColumn c → is_flat c.dtype ≡ true → one_value c.values ≡ Some v → StandsFor (one_value_tree c v) c
+one-stands c v fit flat one =
     let first = first_of c.values v one in
     let fitting = first_fits_in c.dtype c.values v first fit in
     let alone : WellFormed (constant (scalar c.dtype v) (length c.values)) = constant_made (scalar c.dtype v) (length c.values) fitting in
     let well : WellFormed (one_value_tree c v) =
     cond_both (list_any is_null c.values) (masked (constant (scalar c.dtype v) (length c.values)) (valid_bits c.values)) (constant (scalar c.dtype v) (length c.values)) WellFormed
-    (λ some. masked_made (constant (scalar c.dtype v) (length c.values)) (valid_bits c.values) leaf (null-fitted c.dtype c.values fit some) (length-valid_bits c.values ∙ sym (length-replicate (length c.values) v)) (any_null-replicate (length c.values) v (first_valid-valid c.values v first)) alone)
+    (λ some. masked_made (constant (scalar c.dtype v) (length c.values)) (valid_bits c.values) flat (null-fitted c.dtype c.values fit some) (length-valid_bits c.values ∙ sym (length-replicate (length c.values) v)) (any_null-replicate (length c.values) v (first_valid-valid c.values v first)) alone)
     (λ none. alone) in
     (well, (λ i. column (type-one_value_tree c v i) (rows-one_value_tree c v (one_value-some c.values v one) i)))
+
+-- ---- timestamps
+
+pub timestamp-admitted : (storage : Tree) (n : Nullability) → tree_type storage ≡ primitive I64 n → timestamp_refusal storage ≡ None
+timestamp-admitted storage n typed =
+    ap (λ b. unless b MismatchedTypes None)
+    (same_refl stored_type (tree_type storage) (primitive I64 (nullability_of (tree_type storage))) (typed ∙ ap (λ t. primitive I64 (nullability_of t)) (sym typed)))
+
+-- whole numbers of 64 signed bits stand for timestamps
+pub stamped-stands : (storage : Tree) (k : PlainTimestamp) (n : Nullability) (vs : List PlainValue) → StandsFor storage (column (primitive I64 n) vs) → StandsFor (timestamp storage k) (column (types.timestamp k n) vs)
+stamped-stands storage k n vs h =
+    let typed : tree_type storage ≡ primitive I64 n = ap (λ c. c.dtype) h.1 in (
+      timestamp_accepted storage k (timestamp-admitted storage n typed) h.0,
+      λ i. column (types.timestamp k (nullability_of (typed i))) (h.1 i).values,
+    )

@@ -16,4 +16,5 @@ pub mod SampleSizes
 pub mod SamplingLemmas
 pub mod ScoreLemmas
 pub mod StandardFacts
+pub mod TimestampTrees
 pub mod TrialLemmas

@@ -1,28 +1,28 @@
--- Trees of nulls alone, and of one value behind a node's validity.
-use Rattle.std.proofs.Common.{◌≡◌, ◌≢◌, ◌∙◌, ℤ, Bool, List, [], ◌∷◌, length, map, true, false, cond, Some, None, refl, sym, ap, subst}
-use Rattle.std.specs.Prelude.{Result, ◌==◌, replicate}
-use Rattle.std.specs.List.{list_all, list_any}
-use Rattle.std.proofs.lemmas.List.{length-replicate, length-map}
-use Rattle.std.proofs.lemmas.Bool.{and_parts, eq-eqb}
+-- Trees of nulls alone, and of one value behind the validity of rows.
+use Rattle.std.proofs.Common.{◌≡◌, ◌≢◌, ◌<◌, ◌∙◌, ℕ, Bool, List, [], ◌∷◌, length, true, false, cond, Some, None, refl, sym, ap, subst, arith}
+use Rattle.std.specs.Prelude.{Result, ◌==◌, not, replicate, position, option_map, nat_lt}
+use Rattle.std.specs.List.{list_all, list_any, position_or_len}
+use Rattle.std.proofs.lemmas.List.{length-replicate}
+use Rattle.std.proofs.lemmas.Bool.{and_parts, cond_both, cond-true, cond-false, eq-eqb, ltb-true}
 use Rattle.vx_base.specs.declared.error.VortexError.{VortexError}
-use Rattle.vx_base.specs.declared.ptype.PType.{PType}
-use Rattle.vx_base.specs.declared.dtype.Nullability.{Nullability}
 use Rattle.vx_base.specs.Answers.{Answers}
 use Rattle.vx_base.specs.PlainScalar.{fits, scalar}
-use Rattle.vx_base.specs.PlainType.{PlainType, is_nullable, allows_null}
-use Rattle.vx_base.specs.PlainType as types
+use Rattle.vx_base.specs.PlainType.{PlainType, is_flat, is_nullable}
 use Rattle.vx_base.proofs.NullLemmas.{by_null, null-fitted}
-use Rattle.vx_base.specs.PlainValue.{PlainValue, int, is_null}
-use Rattle.vx_model.specs.Tree.{Tree, Validity, primitive, constant}
+use Rattle.vx_base.specs.PlainValue.{PlainValue, is_null}
+use Rattle.vx_model.specs.Plain.{valid_bits, validity}
+use Rattle.vx_model.specs.Refusals.{masked_refusal}
+use Rattle.vx_model.specs.Tree.{Tree, Validity, constant}
 use Rattle.vx_model.specs.Column.{column_of}
 use Rattle.vx_model.specs.Leaf.{first_valid, one_value_tree}
-use Rattle.vx_model.specs.Rows.{rows}
+use Rattle.vx_model.specs.Rows.{rows, row_at}
 use Rattle.vx_model.specs.TreeType.{tree_type}
 use Rattle.vx_model.specs.WellFormed.{WellFormed}
-use Rattle.vx_model.proofs.DecodeLemmas.{bits_masked, no_null-map-int}
 use Rattle.vx_model.proofs.MadeLemmas.{rows_fit}
-use Rattle.vx_model.proofs.NullLemmas.{any_null-primitive, any_null-replicate}
-use Rattle.vx_model.proofs.RowLemmas.{length-primitive}
+use Rattle.vx_model.proofs.NullLemmas.{any_null-replicate}
+use Rattle.vx_model.proofs.OneValueLemmas.{first_valid-position, first_valid-valid}
+use Rattle.vx_model.proofs.PlainLemmas.{length-valid_bits}
+use Rattle.vx_array.proofs.Flat.{flat_type}
 use Rattle.vx_compressor.specs.Behind.{behind, behind_refusal}
 
 pub answers_along : {A : Type 0} (result : Result A VortexError) (x y : A) → x ≡ y → Answers result x → Answers result y
@@ -58,28 +58,51 @@ first_fits t v w e = first_fits_in (tree_type t) (rows t) v e (rows_fit t w)
 
 pub ruleset fitting = (nulls_nullable, first_fits)
 
--- ---- one value behind a node's validity
+-- ---- one value behind the validity of a tree's rows
 
-module _ (p : PType) (xs : List ℤ) (n : Nullability) (z : ℤ) where
-  pub behind_admitted : (valid : Validity) → WellFormed (primitive p xs valid n) → behind_refusal valid (constant (scalar (types.primitive p n) (int z)) (length (rows (primitive p xs valid n)))) ≡ None
-  behind_admitted None w = refl
-  behind_admitted (Some bits) w =
-      let len = length (rows (primitive p xs (Some bits) n)) in
-      let nullable : allows_null n ≡ true = ap allows_null w.0.validity.1 in
-      let lengths : (length bits == length (replicate len (int z))) ≡ true = eq-eqb _ _ (w.0.validity.0 ∙ sym (length-primitive p xs (Some bits) n w) ∙ sym (length-replicate len (int z))) in
-      rw (nullable, lengths, any_null-replicate len (int z) refl) refl
-
-  pub behind-one : (valid : Validity) → WellFormed (primitive p xs valid n) → behind valid (constant (scalar (types.primitive p n) (int z)) (length (rows (primitive p xs valid n)))) ≡ one_value_tree (column_of (primitive p xs valid n)) (int z)
-  behind-one None w = rw (any_null-primitive p xs None n w) refl
-  behind-one (Some bits) w = rw (any_null-primitive p xs (Some bits) n w, bits_masked bits (map int xs) (w.0.validity.0 ∙ sym (length-map xs int)) (no_null-map-int xs)) refl
-
--- the same of a tree that is such a node
-pub record IsBehind (valid : Validity) (child t : Tree) (z : ℤ) : Type 0 where
+pub record IsBehind (valid : Validity) (child t : Tree) (v : PlainValue) : Type 0 where
   pub admitted : behind_refusal valid child ≡ None
-  pub one : behind valid child ≡ one_value_tree (column_of t) (int z)
+  pub one : behind valid child ≡ one_value_tree (column_of t) v
 
-pub behind_of : (t child : Tree) (p : PType) (xs : List ℤ) (valid : Validity) (n : Nullability) (z : ℤ) → WellFormed t → t ≡ primitive p xs valid n → child ≡ constant (scalar (tree_type t) (int z)) (length (rows t)) → IsBehind valid child t z
-behind_of t child p xs valid n z w e f = subst (λ s. WellFormed s → child ≡ constant (scalar (tree_type s) (int z)) (length (rows s)) → IsBehind valid child s z) (sym e) at_node w f
+module _ (t : Tree) (v : PlainValue) (w : WellFormed t) (some : is_null v ≡ false) where
+  abbrev every : Tree
+  every = constant (scalar (tree_type t) v) (length (rows t))
+
+  -- where some row is null, so is the type
+  admitted-some : list_any is_null (rows t) ≡ true → masked_refusal every (valid_bits (rows t)) ≡ None
+  admitted-some null =
+      let flat : is_flat (tree_type t) ≡ true = flat_type (tree_type t) in
+      let nullable : is_nullable (tree_type t) ≡ true = null-fitted (tree_type t) (rows t) (rows_fit t w) null in
+      let lengths : (length (valid_bits (rows t)) == length (replicate (length (rows t)) v)) ≡ true = eq-eqb _ _ (length-valid_bits (rows t) ∙ sym (length-replicate (length (rows t)) v)) in
+      rw (flat, nullable, lengths, any_null-replicate (length (rows t)) v some) refl
+
+  behind-rows : IsBehind (validity (rows t)) every t v
+  behind-rows = cond_both (list_any is_null (rows t)) (Some (valid_bits (rows t))) None (λ valid. IsBehind valid every t v)
+      (λ null. record { admitted = admitted-some null; one = sym (cond-true _ _ _ null) })
+      (λ none. record { admitted = refl; one = sym (cond-false _ _ _ none) })
+
+pub behind_of : (t child : Tree) (valid : Validity) (v : PlainValue) → WellFormed t → is_null v ≡ false → valid ≡ validity (rows t) → child ≡ constant (scalar (tree_type t) v) (length (rows t)) → IsBehind valid child t v
+behind_of t child valid v w some e f = subst (λ u. IsBehind u child t v) (sym e) (subst (λ x. IsBehind (validity (rows t)) x t v) (sym f) (behind-rows t v w some))
+
+-- ---- the first valid row
+
+-- it is none where every row is null, else one of the rows
+pub record IsFirst (vs : List PlainValue) (row : ℕ) : Type 0 where
+  pub in_range : row < length vs
+  pub first : first_valid vs ≡ Some (row_at vs row)
+  pub some : is_null (row_at vs row) ≡ false
+
+pub first-none : (vs : List PlainValue) → None ≡ position (λ v. not (is_null v)) vs → first_valid vs ≡ None
+first-none vs e = first_valid-position vs ∙ ap (option_map (row_at vs)) (sym e)
+
+pub first-some : (vs : List PlainValue) (row : ℕ) → Some row ≡ position (λ v. not (is_null v)) vs → IsFirst vs row
+first-some vs row e =
+    let first = first_valid-position vs ∙ ap (option_map (row_at vs)) (sym e) in
+    record { in_range = place (nat_lt at (length vs)) refl e; first = first; some = first_valid-valid vs (row_at vs row) first }
   where
-    at_node : WellFormed (primitive p xs valid n) → child ≡ constant (scalar (types.primitive p n) (int z)) (length (rows (primitive p xs valid n))) → IsBehind valid child (primitive p xs valid n) z
-    at_node w f = record { admitted = rw f (behind_admitted p xs n z valid w); one = rw f (behind-one p xs n z valid w) }
+    at : ℕ
+    at = position_or_len (λ v. not (is_null v)) vs
+
+    place : (b : Bool) → nat_lt at (length vs) ≡ b → Some row ≡ cond b (Some at) None → row < length vs
+    place true l is = let same : row ≡ at = cc in let less = ltb-true at (length vs) l in omega (arith, same, less)
+    place false l is = absurd cc

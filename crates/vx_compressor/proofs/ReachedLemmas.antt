@@ -1,19 +1,18 @@
 -- Every site of which the tree of a column may come is bounded.
-use Rattle.std.proofs.Common.{◌≡◌, ◌<◌, ◌-◌, ℕ, zero, suc, Bool, true, false, cond, not, ◌||◌, List, [], ◌∷◌, ◌++◌, length, map, filter, take, drop, All, refl, sym, ◌∙◌, ap, subst, arith, length-append}
+use Rattle.std.proofs.Common.{◌≡◌, ◌<◌, ℕ, Bool, true, false, cond, not, ◌||◌, List, [], ◌∷◌, ◌++◌, map, filter, All, refl, sym, ◌∙◌, ap, subst, arith, length-append}
 use Rattle.std.specs.Prelude.{Contains, slice_index_or}
 use Rattle.std.specs.List.{AllByRecursion, list_all, list_any}
-use Rattle.std.proofs.lemmas.Bool.{cond_both, and_parts, and_from}
+use Rattle.std.proofs.lemmas.Bool.{and_parts, and_from}
 use Rattle.std.proofs.lemmas.List.{map-append}
 use Rattle.std.proofs.lemmas.List.Elements.{All-from_recursion}
-use Rattle.std.proofs.lemmas.List.Folds.{list_all-append, list_any-append}
-use Rattle.vx_base.specs.Gathered.{gathered}
-use Rattle.vx_base.specs.Masks.{rows_between}
+use Rattle.std.proofs.lemmas.List.Folds.{list_any-append}
 use Rattle.vx_base.specs.PlainScalar.{fits}
 use Rattle.vx_base.specs.PlainType.{PlainType}
-use Rattle.vx_model.specs.Column.{Column, IsColumn, column}
+use Rattle.vx_model.specs.Column.{Column, IsColumn}
 use Rattle.vx_model.specs.Extents.{row_limit}
 use Rattle.vx_model.specs.Site.{Site, down}
 use Rattle.vx_model.proofs.CountLemmas.{rows-few}
+use Rattle.vx_model.proofs.PlainLemmas.{stamps_fit}
 use Rattle.vx_scheme.specs.Asked.{IsAsked}
 use Rattle.vx_scheme.specs.Excluded.{History, excluded}
 use Rattle.vx_scheme.specs.Lawful.{Lawful, IsPart}
@@ -22,10 +21,9 @@ use Rattle.vx_scheme.specs.Names.{same_name}
 use Rattle.vx_compressor.specs.Cascade.{Setting, is_eligible, eligible}
 use Rattle.vx_compressor.specs.CascadeLaws.{IsLawful, IsWithin}
 use Rattle.vx_compressor.specs.Distinct.{are_distinct}
-use Rattle.vx_compressor.specs.Reached.{IsReached, begun, by_sample, by_part, IsBounded, SitesAreBounded}
-use Rattle.vx_compressor.specs.Sampling.{sample, is_short, slices}
+use Rattle.vx_compressor.specs.Reached.{IsReached, begun, by_storage, by_sample, by_part, IsBounded, SitesAreBounded}
 use Rattle.vx_compressor.proofs.EligibleLemmas.{all_both, all_filter}
-use Rattle.vx_compressor.proofs.SampleSizes.{sample-fewer}
+use Rattle.vx_compressor.proofs.SampleSizes.{sample-column, sample-fewer}
 
 -- ---- one more name
 
@@ -83,25 +81,6 @@ all_may_stand schemes t history lawful =
 one_of : {X : Type 0} (P : X → Type 0) (xs : List X) (x : X) → All P xs → Contains xs x → P x
 one_of P xs x all has = subst P has.2 (all has.0 x has.1)
 
--- ---- samples fit their type
-
-all-take : {A : Type 0} (p : A → Bool) (n : ℕ) (xs : List A) → list_all p xs ≡ true → list_all p (take n xs) ≡ true
-all-take p zero xs h = refl
-all-take p (suc n) [] h = refl
-all-take p (suc n) (x ∷ xs) h = let both = and_parts (p x) (list_all p xs) h in and_from _ _ both.0 (all-take p n xs both.1)
-
-all-drop : {A : Type 0} (p : A → Bool) (n : ℕ) (xs : List A) → list_all p xs ≡ true → list_all p (drop n xs) ≡ true
-all-drop p zero xs h = h
-all-drop p (suc n) [] h = refl
-all-drop p (suc n) (x ∷ xs) h = all-drop p n xs (and_parts (p x) (list_all p xs) h).1
-
-all-gathered : {A : Type 0} (p : A → Bool) (ranges : List (ℕ × ℕ)) (xs : List A) → list_all p xs ≡ true → list_all p (gathered ranges xs) ≡ true
-all-gathered p [] xs h = refl
-all-gathered p (r ∷ rs) xs h = list_all-append p (rows_between xs r.0 r.1) (gathered rs xs) ∙ and_from _ _ (all-take p (r.1 - r.0) (drop r.0 xs) (all-drop p r.0 xs h)) (all-gathered p rs xs h)
-
-sample-column : (sampled : Bool) (words : List ℕ) (c : Column) → IsColumn c → IsColumn (sample sampled words c)
-sample-column sampled words c h = cond_both (sampled || is_short (length c.values)) c (column c.dtype (gathered (slices (length c.values) words) c.values)) IsColumn (λ e. h) (λ e. all-gathered (fits c.dtype) (slices (length c.values) words) c.values h)
-
 -- ---- by what reaches a site
 
 record IsSound (d : Column) (site : Site) : Type 0 where
@@ -127,6 +106,9 @@ of_part m d part site number may bounded some is =
 module _ (set : Setting) (lawful : IsLawful set) (c : Column) (within : IsWithin c) where
   sound : (d : Column) (site : Site) → IsReached set c d site → IsSound d site
   sound d site begun = let few = rows-few c.dtype c.values row_limit within.counts_fit in record { column = within.column; bounded = record { rows = omega (arith, few); names = refl; levels = refl } }
+  sound d site (by_storage k n is) =
+      let few = rows-few c.dtype c.values row_limit within.counts_fit in
+      record { column = stamps_fit k n c.values (subst (λ t. list_all (fits t) c.values ≡ true) is within.column); bounded = record { rows = omega (arith, few); names = refl; levels = refl } }
   sound d site (by_sample e at reached) =
       let own = sound e at reached in
       let fewer = sample-fewer at.sampled set.words e in

@@ -1,24 +1,21 @@
 -- How many rows a sample has, and how few bytes a plain tree.
-use Rattle.std.proofs.Common.{◌≡◌, ◌<◌, ◌≤◌, ◌+◌, ◌*◌, ◌^◌, ℕ, zero, suc, Bool, true, false, List, [], ◌∷◌, map, length, Option, Some, None, refl, ◌∙◌, ap, sym, subst, arith, length-append, length-drop}
-use Rattle.std.specs.List.{list_any, range_with_len}
+use Rattle.std.proofs.Common.{◌≡◌, ◌<◌, ◌≤◌, ◌+◌, ◌*◌, ◌^◌, ℕ, zero, suc, Bool, true, false, List, [], ◌∷◌, map, length, Option, refl, ◌∙◌, ap, sym, subst, arith, length-append, length-drop}
+use Rattle.std.specs.Prelude.{◌||◌}
+use Rattle.std.specs.List.{range_with_len}
 use Rattle.std.proofs.lemmas.Bool.{cond_both, leb-false}
-use Rattle.std.proofs.lemmas.List.{length-map, length-take}
-use Rattle.std.proofs.Math.Nat.{mul-le-mul}
-use Rattle.vx_base.specs.declared.ptype.PType.{PType}
-use Rattle.vx_base.specs.declared.ptype.PType.TheVariants.{U8, U16, U32, U64, I8, I16, I32, I64}
+use Rattle.std.proofs.lemmas.List.{length-take}
 use Rattle.vx_base.specs.Gathered.{gathered}
-use Rattle.vx_base.specs.Integers.{bytes_of}
 use Rattle.vx_base.specs.Masks.{rows_between}
-use Rattle.vx_base.specs.PlainType.{PlainType, primitive}
-use Rattle.vx_base.specs.PlainValue.{PlainValue, is_null, whole_or_zero}
+use Rattle.vx_base.specs.PlainScalar.{fits}
 use Rattle.vx_model.specs.Cascade.{Leaves}
-use Rattle.vx_model.specs.Column.{Column, column, column_of}
+use Rattle.vx_model.specs.Column.{Column, IsColumn, column, column_of}
 use Rattle.vx_model.specs.Site.{Site}
 use Rattle.vx_model.specs.Tree.{Tree}
-use Rattle.vx_model.specs.Plain.{plain, plain_of, valid_bits, validity}
+use Rattle.vx_model.specs.Plain.{plain}
 use Rattle.vx_model.specs.Rows.{below}
-use Rattle.vx_model.specs.Size.{size, validity_size, bit_bytes}
-use Rattle.vx_model.proofs.PlainLemmas.{length-valid_bits}
+use Rattle.vx_model.specs.Size.{size}
+use Rattle.vx_model.proofs.GatheredLemmas.{all-gathered}
+use Rattle.vx_model.proofs.SizeLemmas.{size-plain_of-le}
 use Rattle.vx_scheme.specs.Asked.{IsSiteTree}
 use Rattle.vx_scheme.specs.Contexts.{sample_site}
 use Rattle.vx_scheme.specs.Meaning.{Meaning}
@@ -66,6 +63,9 @@ sampled_rows xs words e =
     let fewer : 64 * slice_count (length xs) < length xs = leb-false _ _ e in
     (omega (arith, all, least.some), omega (arith, all, fewer))
 
+pub sample-column : (sampled : Bool) (words : List ℕ) (c : Column) → IsColumn c → IsColumn (sample sampled words c)
+sample-column sampled words c h = cond_both (sampled || is_short (length c.values)) c (column c.dtype (gathered (slices (length c.values) words) c.values)) IsColumn (λ e. h) (λ e. all-gathered (fits c.dtype) (slices (length c.values) words) c.values h)
+
 pub sample_askable : (sampled : Bool) (words : List ℕ) (c : Column) → IsAskable c → IsAskable (sample sampled words c)
 sample_askable true words c askable = askable
 sample_askable false words c askable =
@@ -73,7 +73,7 @@ sample_askable false words c askable =
     (λ e. cond_both (is_short (length c.values)) ((0, length c.values) ∷ []) (below (slice_of (length c.values) words) (slice_count (length c.values))) (λ ranges. IsAskable (column c.dtype (gathered ranges c.values))) (λ t. absurd cc) (λ f. long e))
   where
     long : is_short (length c.values) ≡ false → IsAskable (column c.dtype (gathered (below (slice_of (length c.values) words) (slice_count (length c.values))) c.values))
-    long e = let rows = sampled_rows c.values words e in record { some = rows.0; few = omega (arith, rows.1, askable.few) }
+    long e = let rows = sampled_rows c.values words e in record { column = all-gathered (fits c.dtype) (below (slice_of (length c.values) words) (slice_count (length c.values))) c.values askable.column; some = rows.0; few = omega (arith, rows.1, askable.few) }
 
 pub sample-fewer : (sampled : Bool) (words : List ℕ) (c : Column) → length (sample sampled words c).values ≤ length c.values
 sample-fewer true words c = omega arith
@@ -87,55 +87,38 @@ sample-dtype false words c = cond_both (is_short (length c.values)) c (column c.
 
 -- ---- bytes
 
-bytes_of-le : (p : PType) → bytes_of p ≤ 8
-bytes_of-le U8 = omega arith
-bytes_of-le U16 = omega arith
-bytes_of-le U32 = omega arith
-bytes_of-le U64 = omega arith
-bytes_of-le I8 = omega arith
-bytes_of-le I16 = omega arith
-bytes_of-le I32 = omega arith
-bytes_of-le I64 = omega arith
-
-validity_size-le : (vs : List PlainValue) → validity_size (validity vs) ≤ bit_bytes (length vs)
-validity_size-le vs =
-    cond_both (list_any is_null vs) (Some (valid_bits vs)) None (λ valid. validity_size valid ≤ bit_bytes (length vs))
-    (λ some. rw (length-valid_bits vs) (omega arith)) (λ none. omega arith)
-
-size-plain_of-le : (t : PlainType) (vs : List PlainValue) → size (plain_of t vs) ≤ length vs * 8 + bit_bytes (length vs)
-size-plain_of-le (primitive p n) vs =
-    let each : length vs * bytes_of p ≤ length vs * 8 = mul-le-mul (omega arith) (bytes_of-le p) in
-    rw (length-map vs whole_or_zero) (omega (arith, validity_size-le vs))
-
 -- the plain tree of a column that schemes are asked about is small
 pub size-askable : (c : Column) → IsAskable c → size (plain c) < 2 ^ 64
-size-askable c askable = let most = size-plain_of-le c.dtype c.values in omega (arith, askable.few)
+size-askable c askable = let most = size-plain_of-le c.dtype c.values askable.column in omega (arith, askable.few)
 
 -- ---- what may be asked of a sample's plain tree, and the score of what is made of it
 
 module _ (part : Tree) (c : Column) (sampled : Bool) (words : List ℕ) (e : part ≡ plain (sample sampled words c)) where
-  column-sampled : column_of part ≡ sample sampled words c
-  column-sampled = column_of-is part (sample sampled words c) e
+  sampled-fits : IsAskable c → IsColumn (sample sampled words c)
+  sampled-fits askable = sample-column sampled words c askable.column
+
+  column-sampled : IsAskable c → column_of part ≡ sample sampled words c
+  column-sampled askable = column_of-is part (sample sampled words c) (sampled-fits askable) e
 
   askable-sampled : IsAskable c → IsAskable (column_of part)
-  askable-sampled askable = subst IsAskable (sym column-sampled) (sample_askable sampled words c askable)
+  askable-sampled askable = subst IsAskable (sym (column-sampled askable)) (sample_askable sampled words c askable)
 
   pub site_tree-sampled : IsAskable c → IsSiteTree part
-  site_tree-sampled askable = let own = askable-sampled askable in record { plain = plain-is part (sample sampled words c) e; some = own.some; few = own.few }
+  site_tree-sampled askable = let own = askable-sampled askable in record { plain = plain-is part (sample sampled words c) (sampled-fits askable) e; some = own.some; few = own.few }
 
-  pub reach-sampled : (budget : ℕ) → IsInReach c budget → IsInReach (column_of part) budget
-  reach-sampled budget reach =
+  pub reach-sampled : IsAskable c → (budget : ℕ) → IsInReach c budget → IsInReach (column_of part) budget
+  reach-sampled askable budget reach =
       let fewer = sample-fewer sampled words c in
       let few = reach.few in
-      subst (λ s. IsInReach s budget) (sym column-sampled) (record { few = omega (arith, fewer, few); within = reach.within })
+      subst (λ s. IsInReach s budget) (sym (column-sampled askable)) (record { few = omega (arith, fewer, few); within = reach.within })
 
-  pub ready-sampled : (opts : GenerateStatsOptions) (m : Meaning) → IsReady c opts m → IsReady (column_of part) opts m
-  ready-sampled opts m ready = record { taken = ap m.takes (ap (λ s. s.dtype) column-sampled ∙ sample-dtype sampled words c) ∙ ready.taken; included = ready.included }
+  pub ready-sampled : IsAskable c → (opts : GenerateStatsOptions) (m : Meaning) → IsReady c opts m → IsReady (column_of part) opts m
+  ready-sampled askable opts m ready = record { taken = ap m.takes (ap (λ s. s.dtype) (column-sampled askable) ∙ sample-dtype sampled words c) ∙ ready.taken; included = ready.included }
 
   pub size-sampled : IsAskable c → size part < 2 ^ 64
   size-sampled askable = rw e (size-askable (sample sampled words c) (sample_askable sampled words c askable))
 
-  pub score-sampled : (child : Leaves) (m : Meaning) (site : Site) (tree part' : Tree) (r : Option Score) → tree ≡ trial child m (column_of part) (sample_site site) → part' ≡ part → r ≡ size_score (size part') (size tree)
+  pub score-sampled : IsAskable c → (child : Leaves) (m : Meaning) (site : Site) (tree part' : Tree) (r : Option Score) → tree ≡ trial child m (column_of part) (sample_site site) → part' ≡ part → r ≡ size_score (size part') (size tree)
       → r ≡ sample_score child m (sample sampled words c) site
-  score-sampled child m site tree part' r made same scored =
-      scored ∙ (λ i. size_score (size ((same ∙ e) i)) (size ((made ∙ ap (λ s. trial child m s (sample_site site)) column-sampled) i)))
+  score-sampled askable child m site tree part' r made same scored =
+      scored ∙ (λ i. size_score (size ((same ∙ e) i)) (size ((made ∙ ap (λ s. trial child m s (sample_site site)) (column-sampled askable)) i)))

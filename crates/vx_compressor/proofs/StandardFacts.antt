@@ -1,17 +1,22 @@
 -- Worked values, counted by hand, so that a wrong rule in the definitions does not check.
-use Rattle.std.specs.Prelude.{◌≡◌, ◌<◌, ℕ, true, false, List, [], ◌∷◌, map, replicate, take, drop, Option, Some, None, option_map, pos, refl}
+use Rattle.std.specs.Prelude.{◌≡◌, ◌<◌, ℕ, true, false, List, [], ◌∷◌, map, replicate, take, drop, Option, Some, None, option_map, pos, refl, codes, Bool}
 use Rattle.std.proofs.Common.{arith}
 use Rattle.vx_base.specs.declared.error.VortexError.TheVariants.{DuplicateScheme}
-use Rattle.vx_base.specs.declared.ptype.PType.TheVariants.{U8}
+use Rattle.vx_base.specs.declared.ptype.PType.TheVariants.{U8, I64}
 use Rattle.vx_base.specs.declared.dtype.Nullability.TheVariants.{NonNullable}
+use Rattle.vx_base.specs.declared.timestamp.TimeUnit.TheVariants.{Seconds}
+use Rattle.vx_base.specs.PlainType.{PlainType, is_integer, is_timestamp}
 use Rattle.vx_base.specs.PlainType as types
 use Rattle.vx_base.specs.PlainScalar.{scalar}
 use Rattle.vx_base.specs.PlainValue.{int}
+use Rattle.vx_base.specs.PlainValue as values
+use Rattle.vx_base.specs.Timestamps.{PlainTimestamp, kind}
+use Rattle.vx_model.specs.Cascade.{cascade}
 use Rattle.vx_model.specs.Column.{Column, column}
 use Rattle.vx_model.specs.Plain.{plain}
 use Rattle.vx_model.specs.Rows.{below}
 use Rattle.vx_model.specs.Site.{fresh, down}
-use Rattle.vx_model.specs.Tree.{Tree, constant}
+use Rattle.vx_model.specs.Tree.{Tree, primitive, var_bin_view, timestamp, constant}
 use Rattle.vx_scheme.specs.Asked.{most_rows}
 use Rattle.vx_scheme.specs.Contexts.{leaf_site}
 use Rattle.vx_scheme.specs.Excluded.{root_name}
@@ -237,6 +242,40 @@ pub children : (compressed_child (among []) sevens (leaf_site fresh) (0 ∷ []) 
     × (compressed_child (among (by_part 0 without_first ∷ [])) (plain six) fresh (0 ∷ []) 0 ≡ plain six)
     × (compressed_child (among (by_part 0 without_first ∷ [])) (plain six) fresh (1 ∷ []) 0 ≡ plain (bytes (2 ∷ 3 ∷ 4 ∷ 5 ∷ 6 ∷ [])))
 children = (refl, refl, refl, refl)
+
+-- ---- texts and timestamps
+
+abbrev texts : List (List ℕ) → Column
+texts vs = column (types.utf8 NonNullable) (map values.bytes vs)
+
+-- two equal texts are a constant of 3 bytes; two that differ take 16 bytes each, and go by the schemes
+pub of_texts : (leaf_tree (among []) (texts (codes "ab" ∷ codes "ab" ∷ [])) fresh ≡ constant (scalar (types.utf8 NonNullable) (values.bytes (codes "ab"))) 2)
+    × (leaf_tree (among []) (texts (codes "ab" ∷ codes "b" ∷ [])) fresh ≡ var_bin_view (codes "ab" ∷ codes "b" ∷ []) None (types.utf8 NonNullable))
+    × (leaf_tree (among (by_part 0 (λ c. fives 1) ∷ [])) (texts (codes "ab" ∷ codes "b" ∷ [])) fresh ≡ plain (fives 1))
+of_texts = (refl, refl, refl)
+
+abbrev seconds : PlainTimestamp
+seconds = kind Seconds None
+
+abbrev stamps : List ℕ → Column
+stamps ns = column (types.timestamp seconds NonNullable) (map (λ n. int (pos n)) ns)
+
+-- the plain tree of whole numbers of 64 bits
+abbrev wholes : List ℕ → Tree
+wholes ns = primitive I64 (map pos ns) None NonNullable
+
+-- one that makes a tree of 2 bytes of the columns of some types
+abbrev two_bytes_of : (PlainType → Bool) → Meaning
+two_bytes_of takes = record (telling (0 ∷ []) (Verdict AlwaysUse) Skip (finished (of_bytes 2))) { takes = takes }
+
+-- equal timestamps are a constant of their own type; others are what their whole numbers become, unless a scheme for timestamps
+-- makes less of them
+pub of_stamps : (cascade (leaf_tree (among [])) (stamps (5 ∷ 5 ∷ [])) ≡ constant (scalar (types.timestamp seconds NonNullable) (int (pos 5))) 2)
+    × (cascade (leaf_tree (among [])) (stamps (5 ∷ 6 ∷ [])) ≡ timestamp (wholes (5 ∷ 6 ∷ [])) seconds)
+    × (cascade (leaf_tree (among (two_bytes_of is_integer ∷ []))) (stamps (5 ∷ 6 ∷ [])) ≡ timestamp (of_bytes 2) seconds)
+    × (cascade (leaf_tree (among (two_bytes_of is_timestamp ∷ []))) (stamps (5 ∷ 6 ∷ [])) ≡ of_bytes 2)
+    × (cascade (leaf_tree (among (two_bytes_of (λ t. true) ∷ []))) (stamps (5 ∷ 6 ∷ [])) ≡ timestamp (of_bytes 2) seconds)
+of_stamps = (refl, refl, refl, refl, refl)
 
 -- ---- rows
 

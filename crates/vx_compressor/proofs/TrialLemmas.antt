@@ -4,7 +4,7 @@ use Rattle.std.specs.Prelude.{◌==◌}
 use Rattle.std.specs.List.{AllByRecursion}
 use Rattle.std.proofs.lemmas.Bool.{eqb-true, eqb-false}
 use Rattle.std.proofs.lemmas.List.{drop_more}
-use Rattle.std.proofs.lemmas.List.Elements.{All-from_recursion}
+use Rattle.std.proofs.lemmas.List.Elements.{All-from_recursion, recursion_from_All}
 use Rattle.vx_base.specs.Answers.{Answers}
 use Rattle.vx_base.specs.declared.error.VortexError.{VortexError}
 use Rattle.vx_model.specs.Cascade.{Leaves}
@@ -15,22 +15,19 @@ use Rattle.vx_model.specs.Tree.{Tree}
 use Rattle.vx_model.specs.TreeType.{tree_type}
 use Rattle.vx_model.specs.WellFormed.{WellFormed}
 use Rattle.vx_model.proofs.MadeLemmas.{rows_fit}
-use Rattle.vx_model.proofs.PlainLemmas.{column_of-plain, plain_is_plain}
+use Rattle.vx_model.proofs.PlainLemmas.{plain_is_plain}
 use Rattle.vx_scheme.specs.Asked.{HasParts, FitParts, IsAsked, IsSiteTree}
-use Rattle.vx_scheme.specs.Lawful.{Lawful}
+use Rattle.vx_scheme.specs.Lawful.{Lawful, IsPart}
 use Rattle.vx_scheme.specs.Meaning.{Meaning, PlainSplit, kept, finished, parts, parts_of, split_of}
 use Rattle.vx_scheme.specs.declared.split.Split.TheVariants as splits
+use Rattle.vx_scheme.proofs.PartLemmas.{parts-plain}
 use Rattle.vx_compressor.specs.Cascade.{Setting, setting, part_trees, made_tree, trial, site_tree, child_tree, children_of, leaf_tree}
 use Rattle.vx_compressor.specs.Reach.{IsInReach, IsPartInReach}
 use Rattle.vx_compressor.proofs.CascadeLemmas.{Keeps, IsChild, are_children, part_trees-columns, child_tree-keeps, lawful-map}
 
-columns-plain : (cs : List Column) → map column_of (map plain cs) ≡ cs
-columns-plain [] = refl
-columns-plain (c ∷ cs) = λ i. column_of-plain c i ∷ columns-plain cs i
-
-all_plain : (cs : List Column) → AllByRecursion IsPlain (map plain cs)
-all_plain [] = tt
-all_plain (c ∷ cs) = (plain_is_plain c, all_plain cs)
+all_plain : (c : Column) (cs : List Column) → AllByRecursion (IsPart c) cs → AllByRecursion IsPlain (map plain cs)
+all_plain c [] h = tt
+all_plain c (part ∷ cs) h = (plain_is_plain part h.0.column, all_plain c cs h.1)
 
 module _ (child : Leaves) (m : Meaning) (c : Column) (site : Site) where
   pub trial-kept : splits.Kept ≡ split_of (m.splits c site) → plain c ≡ trial child m c site
@@ -56,14 +53,15 @@ record ArePartsOf (ps : List Tree) (made : PlainSplit) : Type 0 where
   columns : made ≡ parts (map column_of ps)
   plain : All IsPlain ps
 
-are_parts_of : (ps : List Tree) (made : PlainSplit) → splits.Parts ps ≡ split_of made → ArePartsOf ps made
-are_parts_of ps kept e = absurd cc
-are_parts_of ps (finished tree) e = absurd cc
-are_parts_of ps (parts columns) e =
+are_parts_of : (c : Column) (ps : List Tree) (made : PlainSplit) → ((columns : List Column) → made ≡ parts columns → All (IsPart c) columns) → splits.Parts ps ≡ split_of made → ArePartsOf ps made
+are_parts_of c ps kept small e = absurd cc
+are_parts_of c ps (finished tree) small e = absurd cc
+are_parts_of c ps (parts columns) small e =
     let same : ps ≡ map plain columns = cc in
+    let own = small columns refl in
     record {
-      columns = ap parts (sym (columns-plain columns) ∙ ap (map column_of) (sym same));
-      plain = subst (All IsPlain) (sym same) (All-from_recursion IsPlain (map plain columns) (all_plain columns));
+      columns = ap parts (sym (parts-plain c columns own) ∙ ap (map column_of) (sym same));
+      plain = subst (All IsPlain) (sym same) (All-from_recursion IsPlain (map plain columns) (all_plain c columns (recursion_from_All (IsPart c) columns own)));
     }
 
 parts_in_reach : (budget : ℕ) (ps : List Tree) → AllByRecursion (IsChild budget) (map column_of ps) → budget ≤ max_cascade → AllByRecursion (λ part. IsPartInReach (column_of part) budget) ps
@@ -80,7 +78,7 @@ pub record PartsMade (child : Leaves) (budget : ℕ) (m : Meaning) (c : Column) 
 
 parts_made_by : (child : Leaves) (budget : ℕ) → Keeps child budget → (m : Meaning) → Lawful m → (c : Column) (site : Site) → IsAsked m c → IsInReach c budget → (ps : List Tree) → splits.Parts ps ≡ split_of (m.splits c site) → PartsMade child budget m c site ps
 parts_made_by child budget keeps m lawful c site asked reach ps made =
-    let are = are_parts_of ps (m.splits c site) made in
+    let are = are_parts_of c ps (m.splits c site) (λ columns e. lawful.small_parts c site columns asked e) made in
     let small = are_children c budget reach (map column_of ps) (lawful.small_parts c site (map column_of ps) asked are.columns) in
     record {
       plain = are.plain;

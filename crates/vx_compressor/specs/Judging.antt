@@ -1,7 +1,7 @@
 -- What the two passes over the schemes of a site have found, and what they rest on.
 use Rattle.std.specs.Prelude.{◌≡◌, ◌<◌, ◌≤◌, ℕ, true, List, [], ◌∷◌, map, length, Option, option_map}
 use Rattle.vx_model.specs.Cascade.{Leaves}
-use Rattle.vx_model.specs.Column.{Column}
+use Rattle.vx_model.specs.Column.{Column, IsColumn}
 use Rattle.vx_model.specs.Plain.{plain}
 use Rattle.vx_model.specs.Site.{Site}
 use Rattle.vx_scheme.specs.Asked.{most_rows}
@@ -15,13 +15,15 @@ use Rattle.vx_stats.specs.declared.options.GenerateStatsOptions.{GenerateStatsOp
 use Rattle.vx_compressor.specs.declared.choice.Score.{Score}
 use Rattle.vx_compressor.specs.Cascade.{verdict_score, deferred_score}
 
--- a bundle holds the plain tree of a column, and these options
+-- a bundle holds the plain tree of a column whose values fit its type, and these options
 pub record Holds (b : Bundle) (c : Column) (opts : GenerateStatsOptions) : Type 0 where
+  pub column : IsColumn c
   pub array : b.array ≡ plain c
   pub options : b.options ≡ opts
 
--- a column that schemes may split: it has rows, but not too many
+-- a column that schemes may split: its values fit its type, and it has rows, but not too many
 pub record IsAskable (c : Column) : Type 0 where
+  pub column : IsColumn c
   pub some : 0 < length c.values
   pub few : length c.values ≤ most_rows
 

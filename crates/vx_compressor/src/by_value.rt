@@ -1,14 +1,15 @@
 //! The cases of a leaf column's tree that its values alone decide.
 
-ghost use Rattle.std.specs.Prelude.{◌≡◌};
+ghost use Rattle.std.specs.Prelude.{◌≡◌, ◌<◌, ◌^◌, length};
 ghost use Rattle.vx_base.specs.Answers.{Answers, OrMemory};
 ghost use Rattle.vx_model.specs.Column.{column_of};
 ghost use Rattle.vx_model.specs.Leaf.{smaller_or_plain};
 ghost use Rattle.vx_model.specs.Plain.{IsPlain};
+ghost use Rattle.vx_model.specs.Rows.{rows};
 ghost use Rattle.vx_scheme.specs.Contexts.{site_of};
 ghost use Rattle.vx_compressor.specs.ByValue.{IsByValue};
 
-use crate::constant::{Shared, null_tree, shared_of, whole_tree};
+use crate::constant::{Shared, null_tree, shared_of, value_tree};
 use std::alloc::Global;
 use vx_array::ArrayRef;
 use vx_base::VortexResult;
@@ -30,11 +31,11 @@ pub(crate) fn by_value(
     }
     match shared_of(plain) {
         Shared::Nothing => Ok(Some(null_tree(alloc, plain)?)),
-        Shared::One(whole) => {
+        Shared::One(row) => {
             if site.is_sample() {
                 return Ok(None);
             }
-            let tree = whole_tree(alloc, plain, whole)?;
+            let tree = value_tree(alloc, plain, row)?;
             Ok(Some(smaller_or_copy(alloc, tree, plain)?))
         }
         Shared::Many => Ok(None),
@@ -43,9 +44,11 @@ pub(crate) fn by_value(
 
 // The tree where it is smaller than the plain one, else a copy of the plain one.
 fn smaller_or_copy(alloc: Global, tree: ArrayRef, plain: &ArrayRef) -> VortexResult<ArrayRef>
-    requires { IsPlain plain.now }
+    requires plain { IsPlain plain.now }
+    requires few { length (rows plain.now) < 2 ^ 64 }
     ensures { Answers result (smaller_or_plain (column_of plain.now) tree) }
 {
+    plain.known();
     if plain.nbytes() <= tree.nbytes() {
         return plain.copy(alloc);
     }
@@ -54,9 +57,11 @@ fn smaller_or_copy(alloc: Global, tree: ArrayRef, plain: &ArrayRef) -> VortexRes
 
 /// The tree where it is smaller than the plain one, else the plain one.
 pub(crate) fn smaller(tree: ArrayRef, plain: ArrayRef) -> ArrayRef
-    requires { IsPlain plain }
+    requires plain { IsPlain plain }
+    requires few { length (rows plain) < 2 ^ 64 }
     ensures { result ≡ smaller_or_plain (column_of plain) tree }
 {
+    plain.known();
     if tree.nbytes() < plain.nbytes() {
         tree
     } else {

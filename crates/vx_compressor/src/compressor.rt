@@ -5,8 +5,10 @@ ghost use Rattle.vx_base.specs.Answers.{Answers, Decided, Makes};
 ghost use Rattle.vx_base.specs.PlainType.{is_leaf};
 ghost use Rattle.vx_model.specs.Cascade.{cascade};
 ghost use Rattle.vx_model.specs.Column.{column_of};
+ghost use Rattle.vx_model.specs.Plain.{IsPlain};
 ghost use Rattle.vx_model.specs.Refusals.{compress_refusal};
 ghost use Rattle.vx_model.specs.Rows.{rows};
+ghost use Rattle.vx_model.specs.Site.{max_cascade};
 ghost use Rattle.vx_model.specs.TreeType.{tree_type};
 ghost use Rattle.vx_scheme.specs.Contexts.{site_of};
 ghost use Rattle.vx_scheme.specs.Excluded.{excluded};
@@ -19,6 +21,7 @@ use crate::bans::{Ban, bans_of};
 use crate::by_value::by_value;
 use crate::distinct::have_own_names;
 use crate::excluded::is_excluded;
+use crate::timestamps::site_or_storage;
 use std::alloc::Global;
 use std::marker::{Brand, Model};
 use std::sync::ledger::{Blank, Ledger};
@@ -98,8 +101,7 @@ impl<S: Scheme> CascadingCompressor<S> {
             return Err(VortexError::TooManyRows);
         }
         array.known();
-        let site = CompressorContext::new();
-        counted::<Brand, S>(self, Blank::new(1), array, &site, ctx)
+        column_tree(self, array, ctx)
     }
 
     /// The tree of a child of a site, in place of its parent's scheme: a copy of the child where no scheme may follow the
@@ -127,6 +129,25 @@ impl<S: Scheme> CascadingCompressor<S> {
     }
 }
 
+// The tree of the array's column, by its type.
+fn column_tree<S: Scheme>(
+    compressor: &CascadingCompressor<S>,
+    array: &ArrayRef,
+    ctx: &mut ExecutionCtx,
+) -> VortexResult<ArrayRef>
+    requires { IsInReach (column_of array.now) max_cascade }
+    ensures answer { Answers result (cascade (leaf_tree (setting S.meaning compressor.now ctx.old)) (column_of array.now)) }
+    ensures ctx { ctx.new ≡ ctx.old }
+{
+    let site = CompressorContext::new();
+    let tree = counted::<Brand, S>(compressor, Blank::new(1), array, &site, ctx)?;
+    if array.dtype().is_timestamp() {
+        site_or_storage(compressor, array, tree, &site, ctx)
+    } else {
+        Ok(tree)
+    }
+}
+
 // The tree of the array's column at a site, with a count of its own. A plain array is copied only where its values alone
 // don't decide.
 fn counted<L: Ledger, S: Scheme>(
@@ -143,6 +164,7 @@ fn counted<L: Ledger, S: Scheme>(
     ensures answer { Answers result (leaf_tree (setting S.meaning compressor.now ctx.old) (column_of array.now) (site_of site.now)) }
     ensures ctx { ctx.new ≡ ctx.old }
 {
+    array.known();
     let plain = if array.is_plain() {
         if let Some(tree) = by_value(ctx.alloc(), array, site)? {
             return Ok(tree);
@@ -151,6 +173,25 @@ fn counted<L: Ledger, S: Scheme>(
     } else {
         array.canonical(ctx.alloc())?
     };
+    plain_counted::<L, S>(compressor, blank, plain, site, ctx)
+}
+
+/// The tree of a plain tree's column at a site, with a count of its own.
+pub(crate) fn plain_counted<L: Ledger, S: Scheme>(
+    compressor: &CascadingCompressor<S>,
+    blank: Blank,
+    plain: ArrayRef,
+    site: &CompressorContext,
+    ctx: &mut ExecutionCtx,
+) -> VortexResult<ArrayRef>
+    requires plain { IsPlain plain }
+    requires reach { IsInReach (column_of plain) (site_of site.now).budget }
+    requires name { blank.name ≡ L.name }
+    requires parts { blank.parts ≡ L.parts }
+    requires some { 0 < L.parts }
+    ensures answer { Answers result (leaf_tree (setting S.meaning compressor.now ctx.old) (column_of plain) (site_of site.now)) }
+    ensures ctx { ctx.new ≡ ctx.old }
+{
     let words = ctx.words().copy(ctx.alloc())?;
     let mut steps = Steps::<L>::new(blank);
     compressor.site_tree(words.as_slice(), plain, site, ctx, &mut steps)

@@ -15,6 +15,7 @@ mod laws;
 mod plain_sample;
 mod sampling;
 mod site;
+mod timestamps;
 mod trials;
 
 pub use choice::{Score, best_is_choice};

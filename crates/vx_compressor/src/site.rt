@@ -40,6 +40,7 @@ impl<S: Scheme> CascadingCompressor<S> {
         ensures answer { Answers result (leaf_tree (setting S.meaning self.now words.now) (column_of canonical) (site_of site.now)) }
         ensures ctx { ctx.new ≡ ctx.old }
     {
+        canonical.known();
         match by_value(ctx.alloc(), &canonical, site)? {
             Some(tree) => Ok(tree),
             None => self.best_tree(words, canonical, site, ctx, steps),

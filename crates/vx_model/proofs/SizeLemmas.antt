@@ -54,21 +54,21 @@ sum-long_bytes-le (bs ∷ items) h =
     let later = sum-long_bytes-le items b.1 in
     rw (sum_by-cons long_bytes bs items) (omega arith)
 
--- and no more than 2^33
+-- and no more than 16 more than the longest value
 size-views-le : (t : PlainType) → is_bytes t ≡ true → (vs : List PlainValue) → list_all (fits t) vs ≡ true
-    → 16 * length (map bytes_or_empty vs) + sum_by long_bytes (map bytes_or_empty vs) + validity_size (validity vs) ≤ length vs * 2 ^ 33 + bit_bytes (length vs)
+    → 16 * length (map bytes_or_empty vs) + sum_by long_bytes (map bytes_or_empty vs) + validity_size (validity vs) ≤ length vs * (2 ^ 32 + 16) + bit_bytes (length vs)
 size-views-le t i vs h =
     let longs = sum-long_bytes-le (map bytes_or_empty vs) (short_items t i vs h) in
     let same = length-map vs bytes_or_empty in
     let bits = validity_size-le vs in
     omega (arith, longs, same, bits)
 
-size-wholes-le : (p : PType) (vs : List PlainValue) → length (map whole_or_zero vs) * bytes_of p + validity_size (validity vs) ≤ length vs * 2 ^ 33 + bit_bytes (length vs)
+size-wholes-le : (p : PType) (vs : List PlainValue) → length (map whole_or_zero vs) * bytes_of p + validity_size (validity vs) ≤ length vs * (2 ^ 32 + 16) + bit_bytes (length vs)
 size-wholes-le p vs =
     let each : length vs * bytes_of p ≤ length vs * 8 = mul-le-mul (omega arith) (bytes_of-range p).1 in
     rw (length-map vs whole_or_zero) (omega (arith, validity_size-le vs))
 
-size-plain_of-le : (t : PlainType) (vs : List PlainValue) → list_all (fits t) vs ≡ true → size (plain_of t vs) ≤ length vs * 2 ^ 33 + bit_bytes (length vs)
+pub size-plain_of-le : (t : PlainType) (vs : List PlainValue) → list_all (fits t) vs ≡ true → size (plain_of t vs) ≤ length vs * (2 ^ 32 + 16) + bit_bytes (length vs)
 size-plain_of-le (boolean n) vs h = rw (length-map vs truth_or_false) (omega (arith, validity_size-le vs))
 size-plain_of-le (primitive p n) vs h = size-wholes-le p vs
 size-plain_of-le (utf8 n) vs h = size-views-le (utf8 n) refl vs h

@@ -1,11 +1,8 @@
-use Rattle.std.proofs.Common.{◌≡◌, ◌∙◌, sym, ap, length, arith, rules}
-use Rattle.std.specs.Prelude.{◌≢◌, FitsSigned}
-use Rattle.std.specs.Int.{w128}
-use Rattle.std.proofs.lemmas.Int.{to_z-of_z}
-use Rattle.vx_base.specs.PlainValue.{int}
+use Rattle.std.proofs.Common.{◌∙◌, sym, ap, length, arith}
+use Rattle.std.specs.Prelude.{◌≢◌}
 use Rattle.vx_model.specs.Column.{column_of}
-use Rattle.vx_model.specs.Leaf.{one_value_tree, smaller_or_plain}
-use Rattle.vx_model.specs.Rows.{rows}
+use Rattle.vx_model.specs.Leaf.{smaller_or_plain}
+use Rattle.vx_model.specs.Rows.{rows, row_at}
 use Rattle.vx_scheme.specs.Contexts.{site_of}
 use Rattle.vx_compressor.proofs.ByValueLemmas.{decided-empty, decided-nulls, decided-one, open-sampled, open-many}
 use Rattle.vx_compressor.proofs.by_value.by_value.Goals as goal
@@ -20,15 +17,14 @@ returns-in_ok-null_tree-in-Nothing c =
 
 pub returns-then-is_sample : goal.returns-then-is_sample
 returns-then-is_sample c =
-    open-sampled c.args.plain.now (site_of c.args.site.now) (int c.in-One.whole) c.in-One.ensures.0 (sym c.is_sample.ensures ∙ c.if-is_sample.true)
+    let t = c.args.plain.now in
+    open-sampled t (site_of c.args.site.now) (row_at (rows t) c.in-One.row) c.in-One.ensures.1 (sym c.is_sample.ensures ∙ c.if-is_sample.true)
 
 pub returns-in_ok-smaller_or_copy-in-One : goal.returns-in_ok-smaller_or_copy-in-One
 returns-in_ok-smaller_or_copy-in-One c =
     let t = c.args.plain.now in
-    let whole = c.in-One.whole in
-    let fits : FitsSigned w128 whole = search rules in
-    let tree : c.in_ok-tree-in-One.tree ≡ one_value_tree (column_of t) (int whole) = rw (to_z-of_z w128 whole fits) at c.in_ok-tree-in-One.ensures in
-    decided-one t (site_of c.args.site.now) (int whole) c.in-One.ensures.0 c.in_ok-smaller_or_copy-in-One.field-0 (sym c.is_sample.ensures ∙ c.if-is_sample.false) c.in-One.ensures.1 (c.in_ok-smaller_or_copy-in-One.ensures ∙ ap (smaller_or_plain (column_of t)) tree)
+    decided-one t (site_of c.args.site.now) (row_at (rows t) c.in-One.row) c.in-One.ensures.1 c.in_ok-smaller_or_copy-in-One.field-0 (sym c.is_sample.ensures ∙ c.if-is_sample.false) c.in-One.ensures.2
+    (c.in_ok-smaller_or_copy-in-One.ensures ∙ ap (smaller_or_plain (column_of t)) c.in_ok-tree-in-One.ensures)
 
 pub returns-in-Many : goal.returns-in-Many
 returns-in-Many c = open-many c.args.plain.now (site_of c.args.site.now) _ c.in-Many.ensures.1 c.in-Many.ensures.2

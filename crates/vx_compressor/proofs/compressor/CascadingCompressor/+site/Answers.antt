@@ -6,11 +6,12 @@ use Rattle.std.proofs.lemmas.Iterator.Consumers.{YieldsList-turn}
 use Rattle.std.proofs.lemmas.List.{length_push}
 use Rattle.vx_base.specs.Answers.{Answers}
 use Rattle.vx_base.specs.TypeOf.{type_of}
-use Rattle.vx_model.specs.Column.{column_of}
+use Rattle.vx_model.specs.Column.{IsColumn, column_of}
 use Rattle.vx_model.specs.Leaf.{smaller_or_plain, chosen_or_plain}
 use Rattle.vx_model.specs.Plain.{plain, IsPlain}
 use Rattle.vx_model.specs.Site.{down}
 use Rattle.vx_model.specs.Size.{size}
+use Rattle.vx_model.proofs.MadeLemmas.{rows_fit}
 use Rattle.vx_scheme.specs.Asked.{HasValue, IsSiteTree, FitParts}
 use Rattle.vx_scheme.specs.Contexts.{site_of, options_of}
 use Rattle.vx_scheme.specs.Meaning.{split_of}
@@ -28,7 +29,7 @@ use Rattle.vx_compressor.proofs.HeldLemmas.{column_of-is, plain-is, column-held,
 use Rattle.vx_compressor.proofs.JudgingLemmas.{best_found-step, best_found-always, choice_later, choice_at_once}
 use Rattle.vx_compressor.proofs.LimitLemmas.{few_in_reach}
 use Rattle.vx_compressor.proofs.OneValueTrees.{answers_along}
-use Rattle.vx_compressor.proofs.SampleSizes.{site_tree-sampled, ready-sampled, reach-sampled, size-sampled, score-sampled}
+use Rattle.vx_compressor.proofs.SampleSizes.{sample-column, site_tree-sampled, ready-sampled, reach-sampled, size-sampled, score-sampled}
 use Rattle.vx_compressor.proofs.TrialLemmas.{trial-kept, trial-finished, parts_made, joined_answer, part_trees-step, child_tree-none, child_tree-some, reach-below}
 use Rattle.vx_compressor.proofs.compressor.CascadingCompressor.+site.Goals as goal
 
@@ -39,7 +40,7 @@ site_tree-best_tree-requires g t c =
     let own = column_of c.args.canonical in
     let here = open-here c.in_ok-tree.field-0 own (site_of c.args.site.now) c.in_ok-tree.ensures c.in-None.is in
     let value : HasValue own = here.value in
-    let askable : IsAskable own = record { some = here.some; few = few_in_reach own (site_of c.args.site.now).budget c.requires.reach } in
+    let askable : IsAskable own = record { column = rows_fit c.args.canonical c.known.ensures; some = here.some; few = few_in_reach own (site_of c.args.site.now).budget c.requires.reach } in
     search rules
 
 pub site_tree-returns-in-Some-clause-answer : goal.site_tree-returns-in-Some-clause-answer
@@ -72,6 +73,7 @@ best_tree-choose-requires g t c =
     merged_ready meaning (map meaning c.args.self.now) here (site_of c.args.site.now).history (type_of c.dtype.result.now) c.merged_options-options.result opts
     c.in_ok-schemes.schemes c.as_slice.result.now c.as_slice-2.result.now
     c.in_ok-schemes.ensures typed c.as_slice.ensures c.as_slice-2.ensures c.with_merged_stats_options-site.ensures.options c.merged_options-options.ensures.all in
+    let fits : IsColumn here = subst IsColumn (sym same) c.requires.askable.column in
     let array : c.new-column.result.array ≡ plain here = ap (λ b. b.array) c.new-column.ensures ∙ c.requires.plain ∙ ap plain (sym same) in
     let askable : IsAskable here = subst IsAskable (sym same) c.requires.askable in
     let value : HasValue here = subst HasValue (sym same) c.requires.value in
@@ -113,7 +115,7 @@ best_tree-returns-clause-answer g t c =
     let m = meaning c.in-Some.scheme in
     let site = site_of c.with_merged_stats_options-site.result in
     let child = children_of set site in
-    let left = column_of-is c.into_array-2.result here (c.into_array-2.ensures.array ∙ c.in_ok-tree.ensures.column.array ∙ c.in_ok-best.ensures.holds.array) in
+    let left = column_of-is c.into_array-2.result here c.in_ok-best.ensures.holds.column (c.into_array-2.ensures.array ∙ c.in_ok-tree.ensures.column.array ∙ c.in_ok-best.ensures.holds.array) in
     let made : c.in_ok-tree.tree ≡ trial child m here site = c.in_ok-tree.ensures.answer ∙ ap (λ col. trial child m col site) (column-held c.choose.new.column here opts c.in_ok-best.ensures.holds) in
     let is : Some m ≡ choice child set here site = sym (ap (option_map meaning) c.in-Some.is) ∙ c.in_ok-best.ensures.answer in
     c.smaller.ensures ∙ (λ i. smaller_or_plain (left i) (made i))
@@ -179,6 +181,25 @@ judge-returns-then-is_always-clause-answer g t c =
     ∙ best_found-step meaning child words here site l.best c.better-best.result xs l.scheme-index c.loop-scheme-item.result c.in_ok-score.score c.loop-scheme-test.true c.loop-scheme-item.is answer c.better-best.ensures
     ∙ l.invariant.best
 
+pub judge-deferred_score-requires : goal.judge-deferred_score-requires
+judge-deferred_score-requires g t c =
+    let meaning = g.S.Scheme.meaning in
+    let l = c.loop-scheme in
+    let here = column_of c.args.column.now.array in
+    let opts = options_of c.args.site.now in
+    let after = column_of l.column.array in
+    let same : after ≡ here = column-held l.column here opts l.invariant.holds in
+    let p = c.loop-scheme-item.result in
+    let ready_here : IsReady here opts (meaning p.0) = search rules in
+    let put_off_here : WasPutOff here (site_of c.args.site.now) (meaning p.0) p.1 = search rules in
+    let ready : IsReady after opts (meaning p.0) = subst (λ col. IsReady col opts (meaning p.0)) (sym same) ready_here in
+    let were : WasPutOff after (site_of c.args.site.now) (meaning p.0) p.1 = subst (λ col. WasPutOff col (site_of c.args.site.now) (meaning p.0) p.1) (sym same) put_off_here in
+    let holds : Holds l.column after opts = subst (λ col. Holds l.column col opts) (sym same) l.invariant.holds in
+    let askable : IsAskable after = subst IsAskable (sym same) c.requires.askable in
+    let reach : IsInReach after (site_of c.args.site.now).budget = subst (λ col. IsInReach col (site_of c.args.site.now).budget) (sym same) c.requires.reach in
+    let value : HasValue after = subst HasValue (sym same) c.requires.value in
+    search rules
+
 pub judge-loop-scheme-preserved : goal.judge-loop-scheme-preserved
 judge-loop-scheme-preserved g t c =
     let meaning = g.S.Scheme.meaning in
@@ -212,7 +233,7 @@ deferred_score-returns-in-Sample-clause-answer g t c =
 -- ---- sample_score
 
 pub sample_score-new-column-requires : goal.sample_score-new-column-requires
-sample_score-new-column-requires g t c = plain-is c.in_ok-part.part (sample c.is_sample.result c.args.words.now (column_of c.args.whole.now)) c.in_ok-part.ensures
+sample_score-new-column-requires g t c = plain-is c.in_ok-part.part (sample c.is_sample.result c.args.words.now (column_of c.args.whole.now)) (sample-column c.is_sample.result c.args.words.now (column_of c.args.whole.now) c.requires.askable.column) c.in_ok-part.ensures
 
 pub sample_score-trial-requires : goal.sample_score-trial-requires
 sample_score-trial-requires g t c =
@@ -225,8 +246,8 @@ sample_score-trial-requires g t c =
     let opts = ap (λ b. b.options) c.new-column.ensures ∙ c.merged_stats_options.ensures in
     let budget : c.with_sampling-site.result.budget ≡ c.args.site.now.budget = ap (λ s. s.budget) c.with_sampling-site.ensures.site in
     let column : IsSiteTree part = site_tree-sampled part here site.sampled words e c.requires.askable in
-    let ready : IsReady (column_of part) c.new-column.result.options m = subst (λ o. IsReady (column_of part) o m) (sym opts) (ready-sampled part here site.sampled words e _ m c.requires.ready) in
-    let reach : IsInReach (column_of part) c.with_sampling-site.result.budget = subst (IsInReach (column_of part)) (sym budget) (reach-sampled part here site.sampled words e site.budget c.requires.reach) in
+    let ready : IsReady (column_of part) c.new-column.result.options m = subst (λ o. IsReady (column_of part) o m) (sym opts) (ready-sampled part here site.sampled words e c.requires.askable _ m c.requires.ready) in
+    let reach : IsInReach (column_of part) c.with_sampling-site.result.budget = subst (IsInReach (column_of part)) (sym budget) (reach-sampled part here site.sampled words e c.requires.askable site.budget c.requires.reach) in
     search rules
 
 pub sample_score-size_score-requires : goal.sample_score-size_score-requires
@@ -248,7 +269,7 @@ sample_score-returns-clause-answer g t c =
     ap (λ b. b.array) c.new-column.ensures ∙ c.in_ok-part.ensures ∙ ap (λ s. plain (sample s words here)) c.is_sample.ensures in
     let m = g.S.Scheme.meaning c.args.scheme.now in
     let made = c.in_ok-tree.ensures.answer ∙ ap (λ s. trial (children_of set s) m (column_of c.new-column.result.array) s) c.with_sampling-site.ensures.site in
-    score-sampled c.new-column.result.array here site.sampled words e (children_of set site) m site c.in_ok-tree.tree c.array-before.result.now c.size_score.result made (c.array-before.ensures.array ∙ c.in_ok-tree.ensures.column.array) c.size_score.ensures
+    score-sampled c.new-column.result.array here site.sampled words e c.requires.askable (children_of set site) m site c.in_ok-tree.tree c.array-before.result.now c.size_score.result made (c.array-before.ensures.array ∙ c.in_ok-tree.ensures.column.array) c.size_score.ensures
 
 -- ---- trial
 

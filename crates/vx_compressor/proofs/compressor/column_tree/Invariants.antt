@@ -1,4 +1,4 @@
-use Rattle.vx_compressor.proofs.compressor.CascadingCompressor.compress.Given as goal
+use Rattle.vx_compressor.proofs.compressor.column_tree.Given as goal
 
 abbrev pub ghosts-counted : goal.ghosts-counted
 ghosts-counted g a = record { name = a.blank.name; parts = a.blank.parts }
