@@ -2,7 +2,7 @@
 use Rattle.std.specs.Prelude.{◌≡◌, ◌≤◌, true, false, List, [], ◌∷◌, length, map, All, Option, Some, None, slice_get, codes, refl}
 use Rattle.std.proofs.Common.{arith, subst, ◌∙◌}
 use Rattle.std.proofs.lemmas.List.Elements.{All-from_recursion, recursion_from_All}
-use Rattle.vx_base.specs.PlainType.{PlainType, primitive, is_leaf}
+use Rattle.vx_base.specs.PlainType.{is_leaf}
 use Rattle.vx_model.specs.Column.{Column, IsColumn, column_of}
 use Rattle.vx_model.specs.Plain.{plain}
 use Rattle.vx_model.specs.Tree.{Tree}
@@ -21,7 +21,7 @@ tree_or_plain c (Some t) = t
 abbrev pub whole_meaning : CompressionEstimate → Meaning
 whole_meaning estimate = record {
   name = codes "test.whole";
-  takes = λ dtype. true;
+  takes = is_leaf;
   children = 1;
   options = record { count_distinct_values = false };
   produces = λ id. false;
@@ -33,22 +33,19 @@ whole_meaning estimate = record {
   joined = λ c site trees. tree_or_plain c (slice_get trees 0);
 }
 
-leaf_type : (t : PlainType) → is_leaf t ≡ true
-leaf_type (primitive p n) = refl
-
 first_well : (c : Column) (trees : List Tree) → All WellFormed trees → map column_of trees ≡ c ∷ [] → WellFormed (tree_or_plain c (slice_get trees 0)) × (column_of (tree_or_plain c (slice_get trees 0)) ≡ c)
 first_well c [] well e = absurd cc
 first_well c (t ∷ ts) well e = ((recursion_from_All WellFormed (t ∷ ts) well).0, cc)
 
-one_part : (c : Column) (columns : List Column) → IsColumn c → c ∷ [] ≡ columns → (length columns ≤ 1) × All (IsPart c) columns
-one_part c columns fits e =
+one_part : (c : Column) (columns : List Column) → IsColumn c → is_leaf c.dtype ≡ true → c ∷ [] ≡ columns → (length columns ≤ 1) × All (IsPart c) columns
+one_part c columns fits leaf e =
     subst (λ cs. (length cs ≤ 1) × All (IsPart c) cs) e
-    (omega arith, All-from_recursion (IsPart c) (c ∷ []) (record { column = fits; leaf = leaf_type c.dtype; rows = omega arith }, tt))
+    (omega arith, All-from_recursion (IsPart c) (c ∷ []) (record { column = fits; leaf = leaf; rows = omega arith }, tt))
 
 pub whole_lawful : (estimate : CompressionEstimate) → Lawful (whole_meaning estimate)
 whole_lawful estimate = record {
   finished_well = λ c site tree asked e. absurd cc;
   joined_well = λ c site columns trees asked e well fit. first_well c trees well (fit ∙ cc);
-  few_parts = λ c site columns asked e. (one_part c columns asked.column cc).0;
-  small_parts = λ c site columns asked e. (one_part c columns asked.column cc).1;
+  few_parts = λ c site columns asked e. (one_part c columns asked.column asked.taken cc).0;
+  small_parts = λ c site columns asked e. (one_part c columns asked.column asked.taken cc).1;
 }

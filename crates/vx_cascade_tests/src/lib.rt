@@ -18,4 +18,6 @@ mod span_frame;
 #[cfg(test)]
 mod there_and_back;
 #[cfg(test)]
+mod timestamps;
+#[cfg(test)]
 mod whole;

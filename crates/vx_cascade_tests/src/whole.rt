@@ -1,4 +1,4 @@
-//! A scheme of a caller's own, which is always judged: its one part is the column itself.
+//! A scheme of a caller's own, which is always judged of leaf columns: its one part is the column itself.
 
 use std::alloc::Global;
 use std::sync::ledger::Ledger;
@@ -9,7 +9,7 @@ use vx_scheme::{
     DescendantRules, EstimateVerdict, GenerateStatsOptions, Scheme, Split,
 };
 
-// A scheme that tells this of every column. Its tree is the column's own, so it never is smaller.
+// A scheme that tells this of every leaf column. Its tree is the column's own, so it never is smaller.
 #[derive(Clone, Copy, Debug)]
 pub(crate) struct Whole {
     pub(crate) estimate: CompressionEstimate,
@@ -31,8 +31,8 @@ impl Scheme for Whole {
         "test.whole"
     }
 
-    fn matches(&self, _dtype: &DType) -> bool {
-        true
+    fn matches(&self, dtype: &DType) -> bool {
+        dtype.is_leaf()
     }
 
     fn produced_encodings(&self) -> IdSet {
