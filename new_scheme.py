@@ -17,8 +17,12 @@ KINDS = {
     "part": ("SpanFrame", "span_frame", "example.int.frame", "compressor_with_frames", "FoR", 1000),
 }
 
-# Of the other scheme, and of both.
-LEFT_OUT = {"finishing": ("SpanFrame", "span_frame"), "part": ("QuickPacking", "quick_packing", "QuickLemmas")}
+# Of the other schemes, and of all.
+TEXTS = ("JoinedTexts", "joined_texts")
+LEFT_OUT = {
+    "finishing": ("SpanFrame", "span_frame", *TEXTS),
+    "part": ("QuickPacking", "quick_packing", "QuickLemmas", *TEXTS),
+}
 
 TEST = """//! Tests of `{type}`, with ample memory.
 #![tactic(auto)]

@@ -6,6 +6,8 @@ mod children;
 #[cfg(test)]
 mod comparing;
 #[cfg(test)]
+mod joined_texts;
+#[cfg(test)]
 mod own_schemes;
 #[cfg(test)]
 mod quick_packing;

@@ -1,3 +1,4 @@
+pub mod JoinedTextsFacts
 pub mod QuickLemmas
 pub mod QuickPackingFacts
 pub mod SpanFrameFacts

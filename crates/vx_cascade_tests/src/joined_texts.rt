@@ -1,0 +1,91 @@
+//! What becomes of texts where they may be joined, with ample memory.
+
+use crate::comparing::{Form, by_both};
+use std::alloc::Global;
+use std::test::Fail;
+use vx_array::ArrayRef;
+use vx_base::ArrayId::{BitPacked, VarBin, VarBinView};
+use vx_base::Nullability::{NonNullable, Nullable};
+use vx_base::{ByteRows, Bytes, DType, Mask, VortexResult};
+use vx_examples::{JoinedTexts, compressor_with_texts};
+use vx_fixtures::{accepted, byte_rows};
+use vx_scheme::Scheme;
+
+// Two letters, others for each of 1,024 rows.
+fn pair(alloc: Global, row: u16) -> VortexResult<Bytes> {
+    let letters = [48 + (row / 32 % 32) as u8, 48 + (row % 32) as u8];
+    Ok(Bytes::from_vec(Vec::from_slice(alloc, letters.as_slice())?))
+}
+
+// 1,023 texts of two letters, all unlike.
+fn pairs(alloc: Global) -> VortexResult<ByteRows> {
+    let mut rows = Vec::new(alloc);
+    for row in 0..1023_u16 {
+        rows.push(pair(alloc, row)?)?;
+    }
+    Ok(ByteRows::from_vec(rows))
+}
+
+// Bits that are false in every fourth of so many rows.
+fn three_of_four(alloc: Global) -> VortexResult<Mask> {
+    let mut bits = Vec::new(alloc);
+    for row in 0..1023_u16 {
+        bits.push(row % 4 < 3)?;
+    }
+    Ok(Mask::from_bits(bits))
+}
+
+// The form of texts by the shipped schemes, and with joined texts.
+fn texts_by_both(
+    alloc: Global,
+    rows: ByteRows,
+    valid: Option<Mask>,
+    dtype: DType,
+) -> VortexResult<(Form, Form)> {
+    let array = accepted(ArrayRef::var_bin_view(rows, valid, dtype))?;
+    by_both(alloc, &compressor_with_texts(alloc)?, &array)
+}
+
+// 1,024 offsets up to 2,046 are one block of 11 bits each, 1,408 bytes, and 2,046 bytes stand below; plain each text
+// takes 16. Of 768 valid rows the offsets end at 1,536, which takes 11 bits too, and there are 128 bytes of validity.
+#[test]
+fn offsets_are_packed(rt: HostRuntime) -> Result<(), Fail> {
+    let all = texts_by_both(
+        rt.alloc(),
+        pairs(rt.alloc())?,
+        None,
+        DType::utf8(NonNullable),
+    )?;
+    assert!(rt; all == ((VarBinView, 16368, None), (VarBin, 3454, Some(BitPacked))));
+    let valid = Some(three_of_four(rt.alloc())?);
+    let some = texts_by_both(rt.alloc(), pairs(rt.alloc())?, valid, DType::utf8(Nullable))?;
+    assert!(rt; some == ((VarBinView, 16496, None), (VarBin, 3072, Some(BitPacked))));
+    Ok(())
+}
+
+// Four offsets of 8 bytes and 36 bytes are more than three times 16. Binaries aren't taken, however short.
+#[test]
+fn no_tree_is_larger_than_the_plain_one(rt: HostRuntime) -> Result<(), Fail> {
+    let twelves = byte_rows(
+        rt.alloc(),
+        &[b"twelve bytes", b"two and more", b"as many here"],
+    )?;
+    let texts = texts_by_both(rt.alloc(), twelves, None, DType::utf8(NonNullable))?;
+    assert!(rt; texts == ((VarBinView, 48, None), (VarBinView, 48, None)));
+    let binaries = texts_by_both(
+        rt.alloc(),
+        pairs(rt.alloc())?,
+        None,
+        DType::binary(NonNullable),
+    )?;
+    assert!(rt; binaries == ((VarBinView, 16368, None), (VarBinView, 16368, None)));
+    Ok(())
+}
+
+#[test]
+fn joined_texts_have_no_rules(rt: HostRuntime) -> Result<(), Fail> {
+    assert!(rt; JoinedTexts.matches(&DType::utf8(Nullable)) && JoinedTexts.num_children() == 1);
+    assert!(rt; JoinedTexts.descendant_exclusions(rt.alloc())?.len() == 0);
+    assert!(rt; JoinedTexts.ancestor_exclusions(rt.alloc())?.len() == 0);
+    Ok(())
+}
