@@ -135,7 +135,7 @@ fn a_dictionary_of_texts_is_made_plain(rt: HostRuntime) -> Result<(), Fail> {
 }
 
 // "ab", null, "" and "c" in turn, as a plain tree.
-fn four(alloc: Global) -> Result<ArrayRef, Fail> {
+fn four(alloc: Global) -> VortexResult<ArrayRef> {
     let rows = byte_rows(alloc, &[b"ab", b"", b"", b"c"])?;
     let valid = Some(bits(alloc, &[true, false, true, true])?);
     accepted(ArrayRef::var_bin_view(rows, valid, DType::utf8(Nullable)))

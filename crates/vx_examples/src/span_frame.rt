@@ -3,7 +3,7 @@
 ghost use Rattle.std.specs.Prelude.{◌≡◌, true, IsTrue};
 ghost use Rattle.vx_base.specs.Answers.{Answers};
 ghost use Rattle.vx_base.specs.Integers.{lies_in};
-ghost use Rattle.vx_base.specs.PlainType.{integer_of};
+ghost use Rattle.vx_base.specs.PlainType.{is_integer, integer_of};
 ghost use Rattle.vx_model.specs.Column.{column_of};
 ghost use Rattle.vx_model.specs.Plain.{IsPlain};
 ghost use Rattle.vx_model.specs.Rows.{rows};
@@ -41,6 +41,7 @@ pub fn laws_of_span_frames()
 // The differences from the least value, as the one part.
 fn parts(alloc: Global, array: &ArrayRef, least: i128) -> VortexResult<Split>
     requires plain { IsPlain array.now }
+    requires integer { IsTrue (is_integer (tree_type array.now)) }
     requires held { IsTrue (lies_in (integer_of (tree_type array.now)) least) }
     requires least { least ≡ least_in (integer_of (tree_type array.now)) (rows array.now) }
     ensures { Answers result (split_of (part_where true (above_least (column_of array.now)))) }
@@ -51,6 +52,7 @@ fn parts(alloc: Global, array: &ArrayRef, least: i128) -> VortexResult<Split>
 // The part's tree under the least value.
 fn joined(alloc: Global, array: &ArrayRef, least: i128, trees: Arrays) -> VortexResult<ArrayRef>
     requires plain { IsPlain array.now }
+    requires integer { IsTrue (is_integer (tree_type array.now)) }
     requires held { IsTrue (lies_in (integer_of (tree_type array.now)) least) }
     requires least { least ≡ least_in (integer_of (tree_type array.now)) (rows array.now) }
     requires trees { FitParts (part_where true (above_least (column_of array.now))) trees }

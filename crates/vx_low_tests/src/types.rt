@@ -77,11 +77,11 @@ fn a_value_of_another_type_is_refused(rt: HostRuntime) -> Result<(), Fail> {
 }
 
 #[test]
-fn a_text_becomes_nullable_by_a_cast(rt: HostRuntime) -> Result<(), Fail> {
-    let a = Scalar::of_cell(rt.alloc(), &DType::utf8(NonNullable), Cell::Bytes(b"a"))?;
-    let cast = a.cast(rt.alloc(), &DType::utf8(Nullable))?;
+fn bytes_become_nullable_by_a_cast(rt: HostRuntime) -> Result<(), Fail> {
+    let a = Scalar::of_cell(rt.alloc(), &DType::binary(NonNullable), Cell::Bytes(b"a"))?;
+    let cast = a.cast(rt.alloc(), &DType::binary(Nullable))?;
     assert!(rt; cast.value() == a.value() && cast != a);
-    let none = Scalar::default_value(rt.alloc(), &DType::binary(NonNullable))?;
+    let none = Scalar::default_value(rt.alloc(), &DType::utf8(NonNullable))?;
     assert_eq!(rt; none.json(rt.alloc())?.as_str(), "\"\"");
     Ok(())
 }
