@@ -5,7 +5,7 @@ use std::test::Fail;
 use vx_array::ArrayRef;
 use vx_base::Nullability::{NonNullable, Nullable};
 use vx_base::PType::{U8, U16};
-use vx_base::{ByteRows, Bytes, Cell, DType, VortexError, VortexResult};
+use vx_base::{ByteRows, Bytes, Cell, DType, Refused, VortexError, VortexResult};
 use vx_fixtures::{accepted, bits, flat, with_nulls};
 
 // Bytes of a slice.
@@ -54,8 +54,9 @@ fn only_binaries_are_any_bytes(rt: HostRuntime) -> Result<(), Fail> {
     let Err(refused) = ArrayRef::var_bin_view(rows, None, DType::utf8(NonNullable)) else {
         return Err(Fail::from("bytes that are no text"));
     };
-    assert!(rt; matches!(refused.error, VortexError::MismatchedTypes));
-    let (rows, valid, _) = refused.inputs;
+    let Refused { error, inputs } = refused;
+    assert!(rt; matches!(error, VortexError::MismatchedTypes));
+    let (rows, valid, _dtype) = inputs;
     let tree = accepted(ArrayRef::var_bin_view(rows, valid, DType::binary(NonNullable)))?;
     assert!(rt; is_row(&tree, 0, Some(b"\xff")));
     Ok(())
@@ -148,15 +149,5 @@ fn ranges_of_plain_texts_are_plain(rt: HostRuntime) -> Result<(), Fail> {
     let some = tree.gather(rt.alloc(), &[(2, 4), (0, 1)])?;
     assert!(rt; some.is_plain() && some.len() == 3 && some.nbytes() == 48);
     assert!(rt; is_row(&some, 1, Some(b"c")) && is_row(&some, 2, Some(b"ab")));
-    Ok(())
-}
-
-#[test]
-fn plain_texts_are_joined_over_their_offsets(rt: HostRuntime) -> Result<(), Fail> {
-    let tree = four(rt.alloc())?;
-    let offsets = tree.row_offsets(rt.alloc())?;
-    assert!(rt; offsets.len() == 5 && offsets.nbytes() == 40);
-    let joined = tree.joined_over(rt.alloc(), offsets)?;
-    assert!(rt; joined.nbytes() == 44 && is_row(&joined, 3, Some(b"c")));
     Ok(())
 }

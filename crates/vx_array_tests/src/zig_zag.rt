@@ -17,7 +17,13 @@ fn are_zigzags(
 ) -> VortexResult<bool> {
     let tree = accepted(ArrayRef::zig_zag(alloc, flat(alloc, unsigned, NonNullable, words)?))?;
     let plain = tree.canonical(alloc)?;
-    Ok(has_wholes(&tree, numbers) && has_wholes(&plain, numbers) && plain.dtype().ptype() == signed)
+    let own_type = plain.dtype();
+    Ok(
+        has_wholes(&tree, numbers)
+            && has_wholes(&plain, numbers)
+            && own_type.is_integer()
+            && own_type.ptype() == signed,
+    )
 }
 
 #[test]
