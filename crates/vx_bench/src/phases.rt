@@ -42,11 +42,15 @@ fn document_of(alloc: Global, bytes: Vec<u8>) -> Result<Document> {
     }
 }
 
-/// How many distinct values the statistics tell that dictionaries are judged by.
+/// How many distinct values the statistics tell that dictionaries are judged by. Of a column that isn't one of integers
+/// no statistics are made, and they tell none.
 fn distinct_values(alloc: Global, array: &ArrayRef) -> Result<u32> {
+    if !array.dtype().is_integer() {
+        return Ok(0);
+    }
     let words = Words::from_vec(vec![in alloc; 0]?);
-    if words.len() == 0 || !array.dtype().is_integer() {
-        bail!("no integers");
+    if words.len() == 0 {
+        bail!("no sample word");
     }
     let opts = GenerateStatsOptions {
         count_distinct_values: true,
