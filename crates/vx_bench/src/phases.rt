@@ -67,7 +67,7 @@ fn compressed(alloc: Global, document: Document) -> Result<ArrayRef> {
     }
     let mut ctx = ExecutionCtx::new(alloc, words);
     let compressor = BtrBlocksCompressor::<NoScheme>::shipped(alloc)?;
-    Ok(compressor.compress(&array, &mut ctx)?)
+    Ok(compressor.compress_owned(array, &mut ctx)?)
 }
 
 /// The length of the listing.

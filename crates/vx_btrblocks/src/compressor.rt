@@ -55,4 +55,15 @@ impl<X: Scheme> BtrBlocksCompressor<X> {
     {
         self.0.compress(array, ctx)
     }
+
+    /// The same tree of an array that is given up, also where that is refused. A plain one moves to its site and isn't
+    /// copied first. Refuses TooManyRows exactly where an extent of the array passes 2^31 rows, and NoMemory. The context
+    /// stays as it was.
+    pub fn compress_owned(&self, array: ArrayRef, ctx: &mut ExecutionCtx) -> VortexResult<ArrayRef>
+        ensures answer { Decided (compress_refusal array) (λ tree. tree ≡ cascade (leaf_tree (setting (any_meaning X.meaning) self.now.0 ctx.old)) (column_of array)) result }
+        ensures kept { IfOk result (λ tree. column_of tree ≡ column_of array) }
+        ensures ctx { ctx.new ≡ ctx.old }
+    {
+        self.0.compress_owned(array, ctx)
+    }
 }

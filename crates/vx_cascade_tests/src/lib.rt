@@ -10,6 +10,8 @@ mod joined_texts;
 #[cfg(test)]
 mod own_schemes;
 #[cfg(test)]
+mod owned;
+#[cfg(test)]
 mod quick_packing;
 #[cfg(test)]
 mod sampling;

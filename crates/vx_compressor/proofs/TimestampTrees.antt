@@ -18,7 +18,7 @@ use Rattle.vx_model.specs.Column.{Column, IsColumn, column, column_of}
 use Rattle.vx_model.specs.Nodes.{encoding}
 use Rattle.vx_model.specs.Plain.{plain, plain_of, IsPlain}
 use Rattle.vx_model.specs.Refusals.{timestamp_refusal}
-use Rattle.vx_model.specs.Site.{Site, fresh}
+use Rattle.vx_model.specs.Site.{Site, fresh, max_cascade}
 use Rattle.vx_model.specs.Size.{size}
 use Rattle.vx_model.specs.Tree.{Tree, timestamp}
 use Rattle.vx_model.specs.TreeType.{tree_type}
@@ -186,10 +186,23 @@ pub no_memory : {T U : Type 0} (r : Option VortexError) (made : U) (inputs : T) 
 no_memory None made inputs f e h = h.0
 no_memory (Some x) made inputs f e h = absurd cc
 
--- a plain tree of a column is the column's plain tree
-pub plain-made : (set : Setting) → IsLawful set → (array made : Tree) (site : Site) → WellFormed array → IsInReach (column_of array) site.budget → made ≡ leaf_tree set (column_of array) site → IsPlain made → made ≡ plain (column_of array)
-plain-made set lawful array made site w reach is p =
-    p ∙ ap plain (ap column_of is ∙ (leaf_tree-stands set lawful (column_of array) site (rows_fit array w) (flat_type (tree_type array)) reach).1)
+-- ---- by the tree that the fresh site makes
+
+-- it stands for the column, so its own column says all that counts
+pub record IsOfSite (set : Setting) (array made : Tree) (site : Site) : Type 0 where
+  pub column : column_of made ≡ column_of array
+  pub reach : IsInReach (column_of made) site.budget
+  pub own : made ≡ leaf_tree set (column_of made) site
+
+pub made_of : (set : Setting) → IsLawful set → (array made : Tree) (site : Site) → site ≡ fresh → WellFormed array → IsInReach (column_of array) max_cascade → made ≡ leaf_tree set (column_of array) site → IsOfSite set array made site
+made_of set lawful array made site at_fresh w reach is =
+    let here : IsInReach (column_of array) site.budget = subst (λ s. IsInReach (column_of array) s.budget) (sym at_fresh) reach in
+    let column : column_of made ≡ column_of array = ap column_of is ∙ (leaf_tree-stands set lawful (column_of array) site (rows_fit array w) (flat_type (tree_type array)) here).1 in
+    record {
+      column = column;
+      reach = subst (λ c. IsInReach c site.budget) (sym column) here;
+      own = is ∙ ap (λ c. leaf_tree set c site) (sym column);
+    }
 
 -- what a test that fails doesn't hold of
 pub no_test : (b : Bool) (P : Type 0) → IsTrue b ↔ P → b ≡ false → P → ⊥

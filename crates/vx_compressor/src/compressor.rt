@@ -8,7 +8,7 @@ ghost use Rattle.vx_model.specs.Column.{column_of};
 ghost use Rattle.vx_model.specs.Plain.{IsPlain};
 ghost use Rattle.vx_model.specs.Refusals.{compress_refusal};
 ghost use Rattle.vx_model.specs.Rows.{rows};
-ghost use Rattle.vx_model.specs.Site.{max_cascade};
+ghost use Rattle.vx_model.specs.Site.{fresh, max_cascade};
 ghost use Rattle.vx_model.specs.TreeType.{tree_type};
 ghost use Rattle.vx_scheme.specs.Contexts.{site_of};
 ghost use Rattle.vx_scheme.specs.Excluded.{excluded};
@@ -104,6 +104,21 @@ impl<S: Scheme> CascadingCompressor<S> {
         column_tree(self, array, ctx)
     }
 
+    /// The same tree of an array that is given up, also where that is refused. A plain one moves to its site and isn't
+    /// copied first. Refuses TooManyRows exactly where an extent of the array passes 2^31 rows, and NoMemory. The context
+    /// stays as it was.
+    pub fn compress_owned(&self, array: ArrayRef, ctx: &mut ExecutionCtx) -> VortexResult<ArrayRef>
+        ensures answer { Decided (compress_refusal array) (λ tree. tree ≡ cascade (leaf_tree (setting S.meaning self.now ctx.old)) (column_of array)) result }
+        ensures kept { IfOk result (λ tree. column_of tree ≡ column_of array) }
+        ensures ctx { ctx.new ≡ ctx.old }
+    {
+        if !array.is_plain() || !array.extents_fit() {
+            return self.compress(&array, ctx);
+        }
+        array.known();
+        owned_tree(self, array, ctx)
+    }
+
     /// The tree of a child of a site, in place of its parent's scheme: a copy of the child where no scheme may follow the
     /// parent, else the tree of its type and rows one level below. The child has a leaf type, and at most
     /// 2^31 + 1 + 1,024 * (`MAX_CASCADE` + 1 - budget) rows, by the parent's budget. Refuses NoMemory alone. The context
@@ -129,7 +144,7 @@ impl<S: Scheme> CascadingCompressor<S> {
     }
 }
 
-// The tree of the array's column, by its type.
+// The tree of the array's column.
 fn column_tree<S: Scheme>(
     compressor: &CascadingCompressor<S>,
     array: &ArrayRef,
@@ -139,12 +154,46 @@ fn column_tree<S: Scheme>(
     ensures answer { Answers result (cascade (leaf_tree (setting S.meaning compressor.now ctx.old)) (column_of array.now)) }
     ensures ctx { ctx.new ≡ ctx.old }
 {
+    array.known();
     let site = CompressorContext::new();
     let tree = counted::<Brand, S>(compressor, Blank::new(1), array, &site, ctx)?;
-    if array.dtype().is_timestamp() {
-        site_or_storage(compressor, array, tree, &site, ctx)
+    by_type(compressor, tree, &site, ctx)
+}
+
+// The tree of a plain tree's column. The plain tree moves to the fresh site.
+fn owned_tree<S: Scheme>(
+    compressor: &CascadingCompressor<S>,
+    plain: ArrayRef,
+    ctx: &mut ExecutionCtx,
+) -> VortexResult<ArrayRef>
+    requires plain { IsPlain plain }
+    requires reach { IsInReach (column_of plain) max_cascade }
+    ensures answer { Answers result (cascade (leaf_tree (setting S.meaning compressor.now ctx.old)) (column_of plain)) }
+    ensures ctx { ctx.new ≡ ctx.old }
+{
+    plain.known();
+    let site = CompressorContext::new();
+    let tree = plain_counted::<Brand, S>(compressor, Blank::new(1), plain, &site, ctx)?;
+    by_type(compressor, tree, &site, ctx)
+}
+
+// The tree of a column, by the one that its fresh site makes: the same, but where timestamps have a smaller one.
+fn by_type<S: Scheme>(
+    compressor: &CascadingCompressor<S>,
+    made: ArrayRef,
+    site: &CompressorContext,
+    ctx: &mut ExecutionCtx,
+) -> VortexResult<ArrayRef>
+    requires fresh { site_of site.now ≡ fresh }
+    requires reach { IsInReach (column_of made) (site_of site.now).budget }
+    requires made { made ≡ leaf_tree (setting S.meaning compressor.now ctx.old) (column_of made) (site_of site.now) }
+    ensures answer { Answers result (cascade (leaf_tree (setting S.meaning compressor.now ctx.old)) (column_of made)) }
+    ensures ctx { ctx.new ≡ ctx.old }
+{
+    if made.dtype().is_timestamp() {
+        site_or_storage(compressor, made, site, ctx)
     } else {
-        Ok(tree)
+        Ok(made)
     }
 }
 

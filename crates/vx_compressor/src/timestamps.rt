@@ -22,23 +22,22 @@ use vx_array::ArrayRef;
 use vx_base::{ArrayId, ExecutionCtx, TimestampType, VortexResult};
 use vx_scheme::{CompressorContext, Scheme};
 
-/// The tree that the fresh site makes of timestamps, where it is a constant, masked or not, or a scheme's and smaller
-/// than the other: the tree of the whole numbers, as timestamps. Else that one.
+/// The tree that the fresh site made of timestamps, where it is a constant, masked or not, or a scheme's and smaller
+/// than the other: the tree of the whole numbers, as timestamps. Else that one. A plain tree gives up its whole numbers.
 pub(crate) fn site_or_storage<S: Scheme>(
     compressor: &CascadingCompressor<S>,
-    array: &ArrayRef,
     made: ArrayRef,
     site: &CompressorContext,
     ctx: &mut ExecutionCtx,
 ) -> VortexResult<ArrayRef>
-    requires stamps { is_timestamp (tree_type array.now) ≡ true }
+    requires stamps { is_timestamp (tree_type made) ≡ true }
     requires fresh { site_of site.now ≡ fresh }
-    requires reach { IsInReach (column_of array.now) (site_of site.now).budget }
-    requires made { made ≡ leaf_tree (setting S.meaning compressor.now ctx.old) (column_of array.now) (site_of site.now) }
-    ensures answer { Answers result (cascade (leaf_tree (setting S.meaning compressor.now ctx.old)) (column_of array.now)) }
+    requires reach { IsInReach (column_of made) (site_of site.now).budget }
+    requires made { made ≡ leaf_tree (setting S.meaning compressor.now ctx.old) (column_of made) (site_of site.now) }
+    ensures answer { Answers result (cascade (leaf_tree (setting S.meaning compressor.now ctx.old)) (column_of made)) }
     ensures ctx { ctx.new ≡ ctx.old }
 {
-    array.known();
+    made.known();
     if is_one_value(&made) {
         return Ok(made);
     }
@@ -46,7 +45,7 @@ pub(crate) fn site_or_storage<S: Scheme>(
         let (storage, kind) = made.into_storage();
         return storage_tree(compressor, storage, kind, site, ctx);
     }
-    let (storage, kind) = array.canonical(ctx.alloc())?.into_storage();
+    let (storage, kind) = made.canonical(ctx.alloc())?.into_storage();
     let other = storage_tree(compressor, storage, kind, site, ctx)?;
     Ok(smaller_of(made, other))
 }

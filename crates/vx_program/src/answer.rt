@@ -108,16 +108,17 @@ fn refuse_document(alloc: Global, error: VortexError) -> Result<Reply, AllocErro
 fn reply_over(
     alloc: Global,
     compressor: &BtrBlocksCompressor<NoScheme>,
-    array: &ArrayRef,
+    array: ArrayRef,
     ctx: &mut ExecutionCtx,
 ) -> Result<Reply, AllocError>
     requires shipped { map (any_meaning no_meaning) compressor.now.0 ≡ shipped_schemes }
-    requires plain { IsPlain array.now }
-    ensures { IfOk result (λ r. (r.status, cow_str_bytes r.text) ≡ of_column ctx.old (column_of array.now)) }
+    requires plain { IsPlain array }
+    ensures { IfOk result (λ r. (r.status, cow_str_bytes r.text) ≡ of_column ctx.old (column_of array)) }
 {
     array.known();
-    match compressor.compress(array, ctx) {
-        Ok(tree) => report(alloc, array.nbytes(), tree),
+    let plain = array.nbytes();
+    match compressor.compress_owned(array, ctx) {
+        Ok(tree) => report(alloc, plain, tree),
         Err(error) => refuse_document(alloc, error),
     }
 }
@@ -125,11 +126,11 @@ fn reply_over(
 // The same over a compressor of its own.
 fn reply_to_array(
     alloc: Global,
-    array: &ArrayRef,
+    array: ArrayRef,
     ctx: &mut ExecutionCtx,
 ) -> Result<Reply, AllocError>
-    requires { IsPlain array.now }
-    ensures { IfOk result (λ r. (r.status, cow_str_bytes r.text) ≡ of_column ctx.old (column_of array.now)) }
+    requires { IsPlain array }
+    ensures { IfOk result (λ r. (r.status, cow_str_bytes r.text) ≡ of_column ctx.old (column_of array)) }
 {
     match BtrBlocksCompressor::shipped(alloc) {
         Ok(compressor) => reply_over(alloc, &compressor, array, ctx),
@@ -146,7 +147,7 @@ fn reply_to_document(alloc: Global, document: Document) -> Result<Reply, AllocEr
 {
     let Document { array, words } = document;
     let mut ctx = ExecutionCtx::new(alloc, words);
-    reply_to_array(alloc, &array, &mut ctx)
+    reply_to_array(alloc, array, &mut ctx)
 }
 
 // The reply of the built form to these bytes.

@@ -6,48 +6,39 @@ use Rattle.vx_model.specs.Tree.{timestamp}
 use Rattle.vx_model.proofs.MadeLemmas.{rows_fit}
 use Rattle.vx_scheme.specs.Contexts.{site_of}
 use Rattle.vx_compressor.specs.Cascade.{setting, leaf_tree}
-use Rattle.vx_compressor.proofs.CascadeLemmas.{lawful-map}
 use Rattle.vx_compressor.proofs.OneValueTrees.{answers_along}
-use Rattle.vx_compressor.proofs.TimestampTrees.{root-stamps, plain-made, own_storage, site-one, site-plain, site-smaller, small_stamps, no_test}
+use Rattle.vx_compressor.proofs.TimestampTrees.{root-stamps, own_storage, site-one, site-plain, site-smaller, small_stamps, no_test}
 use Rattle.vx_compressor.proofs.timestamps.site_or_storage.Goals as goal
 
 pub returns-then-is_one_value-clause-answer : goal.returns-then-is_one_value-clause-answer
 returns-then-is_one_value-clause-answer g c =
     let leaves = leaf_tree (setting g.S.Scheme.meaning c.args.compressor.now c.args.ctx.now) in
-    site-one leaves (column_of c.args.array.now) (site_of c.args.site.now) c.args.made c.requires.fresh c.requires.made c.requires.stamps (sym c.is_one_value.ensures ∙ c.if-is_one_value.true)
+    site-one leaves (column_of c.args.made) (site_of c.args.site.now) c.args.made c.requires.fresh c.requires.made c.requires.stamps (sym c.is_one_value.ensures ∙ c.if-is_one_value.true)
 
 -- ---- the plain tree of the site
 
 pub into_storage-storage-requires : goal.into_storage-storage-requires
 into_storage-storage-requires g c =
-    let meaning = g.S.Scheme.meaning in
-    let set = setting meaning c.args.compressor.now c.args.ctx.now in
-    let plain_one : IsPlain c.args.made = search rules in
-    let own = plain-made set (lawful-map meaning g.met.S.Scheme.lawful c.args.compressor.now) c.args.array.now c.args.made (site_of c.args.site.now) c.known.ensures c.requires.reach c.requires.made plain_one in
-    ap encoding own ∙ root-stamps (column_of c.args.array.now) c.requires.stamps
+    let own : IsPlain c.args.made = search rules in
+    ap encoding own ∙ root-stamps (column_of c.args.made) c.requires.stamps
 
 pub storage_tree-requires-clause-reach : goal.storage_tree-requires-clause-reach
 storage_tree-requires-clause-reach g c =
-    let meaning = g.S.Scheme.meaning in
-    let set = setting meaning c.args.compressor.now c.args.ctx.now in
-    let here = column_of c.args.array.now in
+    let here = column_of c.args.made in
     let site = site_of c.args.site.now in
-    let plain_one : IsPlain c.args.made = search rules in
-    let own = plain-made set (lawful-map meaning g.met.S.Scheme.lawful c.args.compressor.now) c.args.array.now c.args.made site c.known.ensures c.requires.reach c.requires.made plain_one in
+    let own : IsPlain c.args.made = search rules in
     let parts = c.into_storage-storage in
-    (own_storage here site parts.result.0 parts.result.1 c.requires.stamps (rows_fit c.args.array.now c.known.ensures) c.requires.reach (parts.ensures ∙ own)).reach
+    (own_storage here site parts.result.0 parts.result.1 c.requires.stamps (rows_fit c.args.made c.known.ensures) c.requires.reach (parts.ensures ∙ own)).reach
 
 pub returns-then-is_plain-clause-answer : goal.returns-then-is_plain-clause-answer
 returns-then-is_plain-clause-answer g c =
-    let meaning = g.S.Scheme.meaning in
-    let set = setting meaning c.args.compressor.now c.args.ctx.now in
-    let here = column_of c.args.array.now in
+    let set = setting g.S.Scheme.meaning c.args.compressor.now c.args.ctx.now in
+    let here = column_of c.args.made in
     let site = site_of c.args.site.now in
-    let plain_one : IsPlain c.args.made = search rules in
-    let own = plain-made set (lawful-map meaning g.met.S.Scheme.lawful c.args.compressor.now) c.args.array.now c.args.made site c.known.ensures c.requires.reach c.requires.made plain_one in
+    let own : IsPlain c.args.made = search rules in
     let parts = c.into_storage-storage in
     let beneath : timestamp parts.result.0 parts.result.1 ≡ plain here = parts.ensures ∙ own in
-    let storage = own_storage here site parts.result.0 parts.result.1 c.requires.stamps (rows_fit c.args.array.now c.known.ensures) c.requires.reach beneath in
+    let storage = own_storage here site parts.result.0 parts.result.1 c.requires.stamps (rows_fit c.args.made c.known.ensures) c.requires.reach beneath in
     answers_along c.storage_tree.result _ _
     (site-plain (leaf_tree set) here site c.args.made c.requires.fresh c.requires.made c.requires.stamps parts.result.0 parts.result.1 beneath storage.column (sym c.is_one_value.ensures ∙ c.if-is_one_value.false) own)
     c.storage_tree.ensures.answer
@@ -57,30 +48,30 @@ returns-then-is_plain-clause-answer g c =
 pub storage_tree-requires-2-clause-plain : goal.storage_tree-requires-2-clause-plain
 storage_tree-requires-2-clause-plain g c =
     let parts = c.into_storage-storage-2 in
-    (own_storage (column_of c.args.array.now) (site_of c.args.site.now) parts.result.0 parts.result.1 c.requires.stamps (rows_fit c.args.array.now c.known.ensures) c.requires.reach (parts.ensures ∙ c.in_ok-canonical.ensures)).plain
+    (own_storage (column_of c.args.made) (site_of c.args.site.now) parts.result.0 parts.result.1 c.requires.stamps (rows_fit c.args.made c.known.ensures) c.requires.reach (parts.ensures ∙ c.in_ok-canonical.ensures)).plain
 
 pub storage_tree-requires-2-clause-reach : goal.storage_tree-requires-2-clause-reach
 storage_tree-requires-2-clause-reach g c =
     let parts = c.into_storage-storage-2 in
-    (own_storage (column_of c.args.array.now) (site_of c.args.site.now) parts.result.0 parts.result.1 c.requires.stamps (rows_fit c.args.array.now c.known.ensures) c.requires.reach (parts.ensures ∙ c.in_ok-canonical.ensures)).reach
+    (own_storage (column_of c.args.made) (site_of c.args.site.now) parts.result.0 parts.result.1 c.requires.stamps (rows_fit c.args.made c.known.ensures) c.requires.reach (parts.ensures ∙ c.in_ok-canonical.ensures)).reach
 
 pub smaller_of-requires : goal.smaller_of-requires
 smaller_of-requires g c =
     let set = setting g.S.Scheme.meaning c.args.compressor.now c.args.ctx.now in
-    let here = column_of c.args.array.now in
+    let here = column_of c.args.made in
     let site = site_of c.args.site.now in
     let parts = c.into_storage-storage-2 in
-    let storage = own_storage here site parts.result.0 parts.result.1 c.requires.stamps (rows_fit c.args.array.now c.known.ensures) c.requires.reach (parts.ensures ∙ c.in_ok-canonical.ensures) in
+    let storage = own_storage here site parts.result.0 parts.result.1 c.requires.stamps (rows_fit c.args.made c.known.ensures) c.requires.reach (parts.ensures ∙ c.in_ok-canonical.ensures) in
     small_stamps set (column_of parts.result.0) site parts.result.1 c.in_ok-other.other storage.fits storage.reach c.in_ok-other.ensures.answer
 
 pub returns-clause-answer : goal.returns-clause-answer
 returns-clause-answer g c =
     let set = setting g.S.Scheme.meaning c.args.compressor.now c.args.ctx.now in
-    let here = column_of c.args.array.now in
+    let here = column_of c.args.made in
     let site = site_of c.args.site.now in
     let parts = c.into_storage-storage-2 in
     let beneath : timestamp parts.result.0 parts.result.1 ≡ plain here = parts.ensures ∙ c.in_ok-canonical.ensures in
-    let fit = rows_fit c.args.array.now c.known.ensures in
+    let fit = rows_fit c.args.made c.known.ensures in
     let storage = own_storage here site parts.result.0 parts.result.1 c.requires.stamps fit c.requires.reach beneath in
     c.smaller_of.ensures
     ∙ site-smaller (leaf_tree set) here site c.args.made c.requires.fresh c.requires.made c.requires.stamps parts.result.0 parts.result.1 beneath storage.column (sym c.is_one_value.ensures ∙ c.if-is_one_value.false)

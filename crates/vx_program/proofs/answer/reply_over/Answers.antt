@@ -9,7 +9,7 @@ report-requires c = size-compressed _ _ _ c.requires.plain c.known.ensures (rw c
 pub returns-in-Ok : goal.returns-in-Ok
 returns-in-Ok c =
     let answer = rw c.requires.shipped at c.in-Ok.ensures.answer in
-    let whole = reply_compressed _ _ _ c.requires.plain c.known.ensures answer _ c.nbytes.ensures in
+    let whole = reply_compressed _ _ _ c.requires.plain c.known.ensures answer _ c.nbytes-plain.ensures in
     IfOk-weaker c.report.result _ _ (λ r e. e ∙ whole) c.report.ensures
 
 pub returns-in-Err : goal.returns-in-Err

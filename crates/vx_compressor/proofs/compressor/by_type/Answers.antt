@@ -1,0 +1,15 @@
+use Rattle.std.proofs.Common.{◌≡◌, ◌∙◌, sym, ap, false}
+use Rattle.vx_base.specs.PlainType.{is_timestamp}
+use Rattle.vx_model.specs.Column.{column_of}
+use Rattle.vx_model.specs.TreeType.{tree_type}
+use Rattle.vx_model.proofs.LeafLemmas.{cascade-leaf}
+use Rattle.vx_compressor.specs.Cascade.{setting, leaf_tree}
+use Rattle.vx_compressor.proofs.TimestampTrees.{leaf_type}
+use Rattle.vx_compressor.proofs.compressor.by_type.Goals as goal
+
+pub returns-else-is_timestamp-clause-answer : goal.returns-else-is_timestamp-clause-answer
+returns-else-is_timestamp-clause-answer g c =
+    let leaves = leaf_tree (setting g.S.Scheme.meaning c.args.compressor.now c.args.ctx.now) in
+    let here = column_of c.args.made in
+    let other : is_timestamp (tree_type c.args.made) ≡ false = ap is_timestamp (sym c.dtype.ensures) ∙ sym c.is_timestamp.ensures ∙ c.if-is_timestamp.false in
+    c.requires.made ∙ ap (leaves here) c.requires.fresh ∙ sym (cascade-leaf leaves here (leaf_type here.dtype other))
