@@ -56,6 +56,7 @@ is_leaf (utf8 n) = true
 is_leaf (binary n) = true
 is_leaf (timestamp k n) = false
 
+-- points in time
 abbrev pub is_timestamp : PlainType → Bool
 is_timestamp (timestamp k n) = true
 is_timestamp _ = false
@@ -69,6 +70,7 @@ abbrev pub is_integer : PlainType → Bool
 is_integer (primitive p n) = true
 is_integer _ = false
 
+-- the values of the type are texts
 abbrev pub is_text : PlainType → Bool
 is_text (utf8 n) = true
 is_text _ = false
@@ -134,9 +136,11 @@ stored_ptype = stored_by ptype_number ptype_at ptype_at-number
 abbrev pub stored_nullability : Storable Nullability
 stored_nullability = stored_by nullability_number nullability_at nullability_at-number
 
+-- an integer type and its nullability, as a pair
 abbrev pub stored_primitive : Storable (PType × Nullability)
 stored_primitive = stored× stored_ptype stored_nullability
 
+-- a kind of timestamps and its nullability, as a pair
 abbrev pub stored_timestamp : Storable (PlainTimestamp × Nullability)
 stored_timestamp = stored× stored_kind stored_nullability
 
@@ -147,6 +151,7 @@ to (utf8 n) = gcons (gnum 2) (stored_nullability.to n)
 to (binary n) = gcons (gnum 3) (stored_nullability.to n)
 to (timestamp k n) = gcons (gnum 4) (stored_timestamp.to (k, n))
 
+-- the type that a number and what is behind it are stored for
 abbrev pub type_at : ℕ → Gv → PlainType
 type_at tag inside =
     cond (tag == 0) (boolean (stored_nullability.from inside)) (cond (tag == 1) (let p = stored_primitive.from inside in primitive p.0 p.1)

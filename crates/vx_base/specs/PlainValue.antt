@@ -52,6 +52,7 @@ to (truth b) = gcons (gnum 1) (stored_bool.to b)
 to (int z) = gcons (gnum 2) (stored_ℤ.to z)
 to (bytes bs) = gcons (gnum 3) (stored_bytes.to bs)
 
+-- the value that a number and what is behind it are stored for
 abbrev pub value_at : ℕ → Gv → PlainValue
 value_at tag inside = cond (tag == 0) null (cond (tag == 1) (truth (stored_bool.from inside)) (cond (tag == 2) (int (stored_ℤ.from inside)) (bytes (stored_bytes.from inside))))
 

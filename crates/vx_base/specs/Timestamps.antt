@@ -5,10 +5,12 @@ use Rattle.vx_base.specs.declared.timestamp.TimeUnit.{TimeUnit}
 use Rattle.vx_base.specs.declared.timestamp.TimeUnit.TheVariants.{Nanoseconds, Microseconds, Milliseconds, Seconds, Days}
 use Rattle.vx_base.specs.Storable.{Storable, code_of, stored_by, stored×, stored_option, stored_bytes}
 
+-- a unit, and the name of a zone where there is one
 pub record PlainTimestamp : Type 0 where
   pub unit : TimeUnit
   pub zone : Option (List ℕ)
 
+-- the kind of this unit and zone
 abbrev pub kind : TimeUnit → Option (List ℕ) → PlainTimestamp
 kind u z = record { unit = u; zone = z }
 
@@ -25,6 +27,7 @@ abbrev pub divides : TimeUnit → Bool
 divides u = is_some (divisor_of u)
 
 -- ---- how the logic stores a kind
+-- the number that a unit is stored as
 abbrev pub unit_number : TimeUnit → ℕ
 unit_number Nanoseconds = 0
 unit_number Microseconds = 1
@@ -32,6 +35,7 @@ unit_number Milliseconds = 2
 unit_number Seconds = 3
 unit_number Days = 4
 
+-- the unit that a number is stored for
 abbrev pub unit_at : ℕ → TimeUnit
 unit_at n = cond (n == 0) Nanoseconds (cond (n == 1) Microseconds (cond (n == 2) Milliseconds (cond (n == 3) Seconds Days)))
 
@@ -42,9 +46,11 @@ unit_at-number Milliseconds = refl
 unit_at-number Seconds = refl
 unit_at-number Days = refl
 
+-- a unit and a zone, as a pair
 abbrev pub stored_parts : Storable (TimeUnit × Option (List ℕ))
 stored_parts = stored× (stored_by unit_number unit_at unit_at-number) (stored_option stored_bytes)
 
+-- a kind is stored as its unit and its zone
 abbrev pub stored_kind : Storable PlainTimestamp
 stored_kind =
     record {
@@ -53,5 +59,6 @@ stored_kind =
       back = λ k i. let p = stored_parts.back (k.unit, k.zone) i in kind p.0 p.1;
     }
 
+-- from this code equality of kinds is decided
 abbrev pub kind_code : Coded PlainTimestamp
 kind_code = code_of stored_kind

@@ -23,6 +23,7 @@ ptype_text I16 = codes "i16"
 ptype_text I32 = codes "i32"
 ptype_text I64 = codes "i64"
 
+-- the text of a unit
 abbrev pub unit_text : TimeUnit → List ℕ
 unit_text Nanoseconds = codes "ns"
 unit_text Microseconds = codes "us"

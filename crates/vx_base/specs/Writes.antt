@@ -13,10 +13,12 @@ use Rattle.vx_base.specs.PlainScalar.{PlainScalar, stored_scalar}
 abbrev pub bytes_writes : List ℕ → HashWrites
 bytes_writes bs = fed.u64 (length bs) ++ bs ∷ []
 
+-- whether there is a zone, and its bytes
 abbrev pub zone_writes : Option (List ℕ) → HashWrites
 zone_writes None = fed.u8 0
 zone_writes (Some zone) = fed.u8 1 ++ bytes_writes zone
 
+-- the unit and the zone
 abbrev pub kind_writes : PlainTimestamp → HashWrites
 kind_writes k = fed.u8 (unit_number k.unit) ++ zone_writes k.zone
 

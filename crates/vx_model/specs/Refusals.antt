@@ -45,10 +45,12 @@ texts_refusal t vs valid =
     unless (list_all is_short vs) ValueTooLong
     (unless (validity_allowed valid (nullability_of t) && list_all (fits t) (valid_rows (kept valid) (map bytes vs))) MismatchedTypes None)
 
+-- why rows of bytes are no view
 abbrev pub var_bin_view_refusal : List (List ℕ) → Validity → PlainType → Option VortexError
 var_bin_view_refusal vs valid t =
     unless (is_bytes t) MismatchedTypes (unless (validity_length valid (length vs)) LengthMismatch (texts_refusal t vs valid))
 
+-- why offsets and bytes are no texts or binaries
 abbrev pub var_bin_refusal : Tree → List ℕ → Validity → PlainType → Option VortexError
 var_bin_refusal offsets bs valid t =
     unless (is_integer (tree_type offsets) && not (is_nullable (tree_type offsets)) && is_bytes t) MismatchedTypes
@@ -56,6 +58,7 @@ var_bin_refusal offsets bs valid t =
     (unless (are_offsets (length bs) (rows offsets)) OutOfBounds
     (texts_refusal t (cut_at (rows offsets) bs) valid)))
 
+-- why whole numbers are no timestamps
 abbrev pub timestamp_refusal : Tree → Option VortexError
 timestamp_refusal storage = unless (same_type (tree_type storage) (types.primitive I64 (nullability_of (tree_type storage)))) MismatchedTypes None
 

@@ -47,6 +47,7 @@ abbrev pub are_offsets : ℕ → List PlainValue → Bool
 are_offsets len offsets =
     list_all (lies_between 0 (len + 1)) offsets && (offset_at offsets 0 == 0) && (offset_at offsets (length offsets - 1) == len) && never_falls offsets
 
+-- texts or binaries cut from bytes by offsets
 pub record IsVarBin (offsets : Tree) (bs : List ℕ) (valid : Validity) (t : PlainType) : Type 0 where
   pub offsets_type : IsTrue (is_integer (tree_type offsets))
   pub not_null : is_nullable (tree_type offsets) ≡ false
@@ -54,6 +55,7 @@ pub record IsVarBin (offsets : Tree) (bs : List ℕ) (valid : Validity) (t : Pla
   pub ends : IsTrue (are_offsets (length bs) (rows offsets))
   pub values : IsView (cut_at (rows offsets) bs) valid t
 
+-- the storage has whole numbers of 64 signed bits
 pub record IsTimestamp (storage : Tree) : Type 0 where
   pub storage_type : tree_type storage ≡ types.primitive I64 (nullability_of (tree_type storage))
 
