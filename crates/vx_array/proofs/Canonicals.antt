@@ -9,9 +9,9 @@ use Rattle.vx_base.specs.declared.dtype.Nullability.{Nullability}
 use Rattle.vx_base.specs.Answers.{unless}
 use Rattle.vx_base.specs.Defaults.{default_of, or_default}
 use Rattle.vx_base.specs.PlainScalar.{fits}
-use Rattle.vx_base.specs.PlainType.{PlainType, is_bytes, is_timestamp, nullability_of, stored_type}
+use Rattle.vx_base.specs.PlainType.{PlainType, is_flat, is_bytes, is_timestamp, nullability_of, stored_type}
 use Rattle.vx_base.specs.PlainType as types
-use Rattle.vx_base.specs.PlainValue.{PlainValue, null, truth, int, bytes, truth_or_false, whole_or_zero, bytes_or_empty}
+use Rattle.vx_base.specs.PlainValue.{PlainValue, null, truth, int, bytes, items, truth_or_false, whole_or_zero, bytes_or_empty}
 use Rattle.vx_base.specs.Storable.{same_refl}
 use Rattle.vx_model.specs.Column.{column_of}
 use Rattle.vx_model.specs.Plain.{validity, plain, plain_of}
@@ -47,6 +47,7 @@ module _ {A : Type 0} (item : PlainValue → A) (value : A → PlainValue) (back
   item-or_default (truth b) = refl
   item-or_default (int z) = refl
   item-or_default (bytes bs) = refl
+  item-or_default (items vs) = refl
 
   items-or_default : (vs : List PlainValue) → map item (map (or_default default) vs) ≡ map item vs
   items-or_default [] = refl
@@ -61,17 +62,21 @@ pass false e o h n = absurd cc
 
 -- ---- truth values
 
-truth_kind : (t : PlainType) → truths ≡ kind_of t → t ≡ types.boolean (nullability_of t)
-truth_kind (types.boolean n) e = refl
-truth_kind t e = absurd cc
+truth_kind : (t : PlainType) → is_flat t ≡ true → truths ≡ kind_of t → t ≡ types.boolean (nullability_of t)
+truth_kind (types.boolean n) f e = refl
+truth_kind (types.primitive p n) f e = absurd cc
+truth_kind (types.utf8 n) f e = absurd cc
+truth_kind (types.binary n) f e = absurd cc
+truth_kind (types.timestamp k n) f e = absurd cc
+truth_kind t f e = absurd cc
 
 pub record IsBoolOf (t : Tree) (bs : List Bool) (valid : Validity) (n : Nullability) : Type 0 where
   pub admitted : primitive_refusal (length bs) valid n ≡ None
   pub made : bool bs (kept valid) n ≡ plain (column_of t)
 
-pub bool_of : (t : Tree) (d : Decoded) (bs : List Bool) (valid : Validity) (n : Nullability) → WellFormed t → lists.Bits bs ≡ d.values → valid ≡ d.valid → n ≡ nullability_of (tree_type t) → IsDecoded t d → IsBoolOf t bs valid n
-bool_of t d bs valid n w e v m h =
-    let typed = truth_kind (tree_type t) (ap kind_in e ∙ h.0) in
+pub bool_of : (t : Tree) (d : Decoded) (bs : List Bool) (valid : Validity) (n : Nullability) → WellFormed t → is_flat (tree_type t) ≡ true → lists.Bits bs ≡ d.values → valid ≡ d.valid → n ≡ nullability_of (tree_type t) → IsDecoded t d → IsBoolOf t bs valid n
+bool_of t d bs valid n w f e v m h =
+    let typed = truth_kind (tree_type t) f (ap kind_in e ∙ h.0) in
     let values : map truth bs ≡ map (or_default (truth false)) (rows t) = ap values_of e ∙ h.1 ∙ ap (λ s. map (or_default (default_of s)) (rows t)) typed in
     let items : bs ≡ map truth_or_false (rows t) = items_of truth_or_false truth (λ b. refl) (truth false) refl bs (rows t) values in
     let bits : valid ≡ validity (rows t) = v ∙ h.2 in

@@ -9,7 +9,7 @@ use Rattle.vx_base.specs.declared.dtype.Nullability.{Nullability}
 use Rattle.vx_base.specs.Defaults.{default_of, or_default}
 use Rattle.vx_base.specs.Integers.{signed_of}
 use Rattle.vx_base.specs.PlainScalar.{PlainScalar}
-use Rattle.vx_base.specs.PlainType.{PlainType, is_integer, is_bytes, is_nullable, integer_of, nullability_of}
+use Rattle.vx_base.specs.PlainType.{PlainType, is_flat, is_integer, is_bytes, is_nullable, integer_of, nullability_of}
 use Rattle.vx_base.specs.PlainType as types
 use Rattle.vx_base.specs.PlainValue.{PlainValue, truth, int, bytes, is_null, whole_or_zero}
 use Rattle.vx_base.specs.Timestamps.{PlainTimestamp}
@@ -41,16 +41,17 @@ use Rattle.vx_array.specs.IsDecoded.{IsDecoded}
 
 -- ---- the kind of a tree's type
 
-default_in-kind_of : (t : PlainType) → default_in (kind_of t) ≡ default_of t
-default_in-kind_of (types.boolean n) = refl
-default_in-kind_of (types.primitive p n) = refl
-default_in-kind_of (types.utf8 n) = refl
-default_in-kind_of (types.binary n) = refl
-default_in-kind_of (types.timestamp k n) = refl
+default_in-kind_of : (t : PlainType) → is_flat t ≡ true → default_in (kind_of t) ≡ default_of t
+default_in-kind_of (types.boolean n) f = refl
+default_in-kind_of (types.primitive p n) f = refl
+default_in-kind_of (types.utf8 n) f = refl
+default_in-kind_of (types.binary n) f = refl
+default_in-kind_of (types.timestamp k n) f = refl
+default_in-kind_of t f = absurd cc
 
--- the default of values that are of a type's kind
-default_of_kind : (t : PlainType) (values : Values) → kind_in values ≡ kind_of t → default_in (kind_in values) ≡ default_of t
-default_of_kind t values e = ap default_in e ∙ default_in-kind_of t
+-- the default of values that are of a flat type's kind
+default_of_kind : (t : PlainType) (values : Values) → is_flat t ≡ true → kind_in values ≡ kind_of t → default_in (kind_in values) ≡ default_of t
+default_of_kind t values f e = ap default_in e ∙ default_in-kind_of t f
 
 kind_of-dict : (codes values : PlainType) → kind_of (dict_type codes values) ≡ kind_of values
 kind_of-dict codes (types.boolean n) = refl
@@ -58,6 +59,10 @@ kind_of-dict codes (types.primitive p n) = refl
 kind_of-dict codes (types.utf8 n) = refl
 kind_of-dict codes (types.binary n) = refl
 kind_of-dict codes (types.timestamp k n) = refl
+kind_of-dict codes types.null_type = refl
+kind_of-dict codes (types.structure fs n) = refl
+kind_of-dict codes (types.list t n) = refl
+kind_of-dict codes (types.fixed_size_list t size n) = refl
 
 -- ---- items and their validity, with the default beneath nulls
 
@@ -177,7 +182,7 @@ pub masked_rows_of : (child : Tree) (valid : List Bool) (c d : Decoded) → Well
     → AreRows (kind_in c.values) (zeroed (default_in (kind_in c.values)) valid (values_of c.values)) (kept (Some valid)) d → IsDecoded (masked child valid) d
 masked_rows_of child valid c d w h r = (
   r.0 ∙ h.0,
-  r.1 ∙ (λ i. zeroed (default_of_kind (tree_type child) c.values h.0 i) valid (h.1 i)) ∙ sym (map-masked_rows (or_default (default_of (tree_type child))) valid (rows child) w.1.lengths),
+  r.1 ∙ (λ i. zeroed (default_of_kind (tree_type child) c.values w.1.flat h.0 i) valid (h.1 i)) ∙ sym (map-masked_rows (or_default (default_of (tree_type child))) valid (rows child) w.1.lengths),
   r.2 ∙ sym (validity-masked_rows valid (rows child) w.1.lengths w.1.no_null),
 )
 
@@ -204,6 +209,6 @@ pub dict_rows : (codes values : Tree) (xs : Ints) (valid : Validity) (v d : Deco
 dict_rows codes values xs valid v d w hc hv r =
     let default = default_in (kind_in v.values) in (
       r.0 ∙ hv.0 ∙ sym (kind_of-dict (tree_type codes) (tree_type values)),
-      r.1 ∙ (λ i. zeroed_by default (hc.bits i) (map (λ code. picked (ptype_of xs) (hv.1 i) default code) (hc.wholes i))) ∙ by_codes codes values w (ptype_of xs) default (default_of_kind (tree_type values) v.values hv.0),
+      r.1 ∙ (λ i. zeroed_by default (hc.bits i) (map (λ code. picked (ptype_of xs) (hv.1 i) default code) (hc.wholes i))) ∙ by_codes codes values w (ptype_of xs) default (default_of_kind (tree_type values) v.values w.2.values_type hv.0),
       r.2 ∙ (λ i. validity_by_codes (ptype_of xs) (hc.wholes i) (hc.bits i) (hv.2 i)) ∙ validity-by_codes codes values (ptype_of xs) w,
     )

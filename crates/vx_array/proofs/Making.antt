@@ -9,12 +9,16 @@ use Rattle.vx_base.specs.PlainType.{PlainType, is_flat, is_nullable, integer_of,
 use Rattle.vx_base.specs.PlainType as types
 use Rattle.vx_base.specs.PlainValue.{is_null}
 use Rattle.vx_base.specs.Timestamps.{PlainTimestamp}
-use Rattle.vx_model.specs.Tree.{Tree, Validity, PlainPacked, PlainPatches, bool, primitive, var_bin_view, var_bin, timestamp, constant, masked, packed_of, frame_of_reference, zig_zag, dict}
-use Rattle.vx_model.specs.Refusals.{primitive_refusal, var_bin_view_refusal, var_bin_refusal, timestamp_refusal, kept, kept_packed, bit_packed_refusal, for_refusal, zig_zag_refusal, dict_refusal}
+use Rattle.vx_model.specs.Tree.{Tree, Trees, Validity, PlainPacked, PlainPatches, bool, primitive, var_bin_view, var_bin, timestamp, constant, masked, packed_of, frame_of_reference, zig_zag, dict, nulls, structure, list, fixed_size_list}
+use Rattle.vx_model.specs.Refusals.{primitive_refusal, var_bin_view_refusal, var_bin_refusal, timestamp_refusal, kept, kept_packed, bit_packed_refusal, for_refusal, zig_zag_refusal, dict_refusal, structure_refusal, list_refusal, fixed_size_list_refusal}
 use Rattle.vx_model.specs.Rows.{rows}
-use Rattle.vx_model.specs.TreeType.{tree_type}
-use Rattle.vx_model.specs.WellFormed.{WellFormed, WellFormedPatches}
+use Rattle.vx_model.specs.TreeType.{tree_type, field_types}
+use Rattle.vx_model.specs.WellFormed.{WellFormed, AllWellFormed, WellFormedPatches}
 use Rattle.vx_model.proofs.BoolLemmas.{bool_accepted, length-bool}
+use Rattle.vx_model.proofs.FixedSizeListLemmas.{fixed_size_list_accepted, length-fixed_size_list}
+use Rattle.vx_model.proofs.ListLemmas.{list_accepted, length-list}
+use Rattle.vx_model.proofs.NullsLemmas.{nulls_made, length-nulls}
+use Rattle.vx_model.proofs.StructLemmas.{structure_accepted, length-structure}
 use Rattle.vx_model.proofs.MadeLemmas.{primitive_made, constant_made, masked_made}
 use Rattle.vx_model.proofs.DictLemmas.{dict_accepted, length-dict}
 use Rattle.vx_model.proofs.PackedLemmas.{passed, packed_accepted, for_accepted, length-frame_of_reference}
@@ -79,3 +83,24 @@ zig_zag_array encoded own len accepted w own_is len_is = record { well_formed = 
 
 pub dict_array : (codes values : Tree) (own : PlainType) (len : ℕ) → dict_refusal codes values ≡ None → WellFormed codes → WellFormed values → own ≡ tree_type (dict codes values) → len ≡ length (rows codes) → IsArray (dict codes values) (Some own) len
 dict_array codes values own len accepted c v own_is len_is = record { well_formed = dict_accepted codes values accepted c v; own_type_is = own_is; len_is = len_is ∙ sym (length-dict codes values) }
+
+pub nulls_array : (len : ℕ) (own : PlainType) → own ≡ types.null_type → IsArray (nulls len) (Some own) len
+nulls_array len own own_is = record { well_formed = nulls_made len; own_type_is = own_is; len_is = sym (length-nulls len) }
+
+pub structure_array : (names : List (List ℕ)) (fields : Trees) (len : ℕ) (valid : Validity) (n : Nullability) (own : PlainType) → structure_refusal names fields len valid n ≡ None → AllWellFormed fields
+    → own ≡ types.structure (field_types names fields) n → IsArray (structure names fields len (kept valid) n) (Some own) len
+structure_array names fields len valid n own accepted known own_is =
+    let w : WellFormed (structure names fields len (kept valid) n) = structure_accepted names fields len valid n accepted known in
+    record { well_formed = w; own_type_is = own_is; len_is = sym (length-structure names fields len (kept valid) n w) }
+
+pub list_array : (elements offsets : Tree) (valid : Validity) (n : Nullability) (own : PlainType) (len : ℕ) → list_refusal elements offsets valid n ≡ None → WellFormed elements → WellFormed offsets
+    → own ≡ types.list (tree_type elements) n → len ≡ length (rows offsets) - 1 → IsArray (list elements offsets (kept valid) n) (Some own) len
+list_array elements offsets valid n own len accepted e o own_is len_is =
+    let w : WellFormed (list elements offsets (kept valid) n) = list_accepted elements offsets valid n accepted e o in
+    record { well_formed = w; own_type_is = own_is; len_is = len_is ∙ sym (length-list elements offsets (kept valid) n w) }
+
+pub fixed_size_list_array : (elements : Tree) (size len : ℕ) (valid : Validity) (n : Nullability) (own : PlainType) → fixed_size_list_refusal elements size len valid n ≡ None → WellFormed elements
+    → own ≡ types.fixed_size_list (tree_type elements) size n → IsArray (fixed_size_list elements size len (kept valid) n) (Some own) len
+fixed_size_list_array elements size len valid n own accepted e own_is =
+    let w : WellFormed (fixed_size_list elements size len (kept valid) n) = fixed_size_list_accepted elements size len valid n accepted e in
+    record { well_formed = w; own_type_is = own_is; len_is = sym (length-fixed_size_list elements size len (kept valid) n w) }

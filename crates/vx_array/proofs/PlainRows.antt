@@ -1,16 +1,16 @@
 -- Plain trees by their rows: validity, the first valid row, rows that share one value, and the rows of ranges.
-use Rattle.std.proofs.Common.{◌≡◌, ◌<◌, ◌+◌, ◌∙◌, ℕ, ℤ, pos, Bool, true, false, cond, List, [], ◌∷◌, map, length, Some, None, option_map, refl, sym, ap}
-use Rattle.std.specs.Prelude.{not, position, slice_index_or, nat_lt, IsTrue, IfSome}
+use Rattle.std.proofs.Common.{◌≡◌, ◌<◌, ◌+◌, ◌∙◌, ℕ, zero, suc, arith, ℤ, pos, Bool, true, false, cond, List, [], ◌∷◌, map, length, Some, None, option_map, refl, sym, ap}
+use Rattle.std.specs.Prelude.{not, position, replicate, slice_index_or, nat_lt, IsTrue, IfSome}
 use Rattle.std.specs.List.{list_all, list_any, position_or_len}
 use Rattle.std.proofs.lemmas.List.Recursion.{is_position_or_len}
-use Rattle.std.proofs.lemmas.Bool.{lt-ltb}
-use Rattle.std.proofs.lemmas.List.{length-map}
+use Rattle.std.proofs.lemmas.Bool.{lt-ltb, le-ltb}
+use Rattle.std.proofs.lemmas.List.{length-map, length-replicate}
 use Rattle.vx_base.specs.declared.dtype.Nullability.{Nullability}
 use Rattle.vx_base.specs.declared.ptype.PType.{PType}
 use Rattle.vx_base.specs.declared.ptype.PType.TheVariants.{I64}
 use Rattle.vx_base.specs.Gathered.{gathered, are_parts}
 use Rattle.vx_base.specs.PlainScalar.{fits}
-use Rattle.vx_base.specs.PlainType.{PlainType, nullability_of, is_bytes, stored_type}
+use Rattle.vx_base.specs.PlainType.{PlainType, nullability_of, is_flat, is_bytes, stored_type}
 use Rattle.vx_base.specs.Storable.{same_refl}
 use Rattle.vx_base.specs.PlainType as types
 use Rattle.vx_base.specs.PlainValue.{PlainValue, null, truth, int, bytes, is_null, truth_or_false, whole_or_zero, bytes_or_empty}
@@ -19,17 +19,21 @@ use Rattle.vx_model.specs.Column.{column}
 use Rattle.vx_model.specs.Plain.{IsPlain, plain, plain_of, validity, valid_bits}
 use Rattle.vx_model.specs.Refusals.{kept, primitive_refusal, var_bin_view_refusal, timestamp_refusal}
 use Rattle.vx_model.specs.Rows.{rows, row_at, is_valid_at}
-use Rattle.vx_model.specs.Tree.{Tree, Validity, bool, primitive, var_bin_view, timestamp}
+use Rattle.vx_model.specs.Tree.{Tree, Validity, nulls, bool, primitive, var_bin_view, timestamp}
 use Rattle.vx_model.specs.TreeType.{tree_type}
 use Rattle.vx_model.specs.WellFormed.{WellFormed}
 use Rattle.vx_model.proofs.BoolLemmas.{validity-bool, length-bool, row_at-bool}
 use Rattle.vx_model.proofs.DecodeLemmas.{items_admitted, kept-validity, validity-cells}
+use Rattle.vx_model.proofs.FixedSizeListLemmas.{validity-fixed_size_list}
 use Rattle.vx_model.proofs.GatheredLemmas.{all-gathered, items-gathered, bits-gathered, bits_are_parts}
+use Rattle.vx_model.proofs.ListLemmas.{validity-list}
 use Rattle.vx_model.proofs.MadeLemmas.{rows_fit}
 use Rattle.vx_model.proofs.NullLemmas.{plain-constant, plain-masked, plain-bit_packed, plain-bit_packed_with, plain-frame_of_reference, plain-zig_zag, plain-dict, plain-var_bin}
 use Rattle.vx_model.proofs.RowLemmas.{length-primitive, row_at-primitive}
+use Rattle.vx_model.proofs.StructLemmas.{validity-structure}
 use Rattle.vx_model.proofs.TimestampLemmas.{plain-timestamp}
 use Rattle.vx_model.proofs.ViewLemmas.{validity-var_bin_view, length-var_bin_view, row_at-var_bin_view, plain_of-bytes}
+use Rattle.vx_array.specs.Kept.{keeps_validity}
 use Rattle.vx_array.proofs.Canonicals.{views_admitted}
 
 -- ---- validity
@@ -40,7 +44,26 @@ validity-primitive p xs valid n h = validity-cells valid xs n h.0.validity
 pub plain-storage : (storage : Tree) (k : PlainTimestamp) → WellFormed (timestamp storage k) → IsPlain (timestamp storage k) → IsPlain storage
 plain-storage storage k h = (plain-timestamp storage k h).1
 
-pub ruleset validities = (validity-bool, validity-primitive, validity-var_bin_view, plain-storage, plain-constant, plain-masked, plain-bit_packed, plain-bit_packed_with, plain-frame_of_reference, plain-zig_zag, plain-dict, plain-var_bin)
+-- the storage of timestamps has whole numbers
+pub storage-kept : (storage : Tree) (k : PlainTimestamp) → WellFormed (timestamp storage k) → keeps_validity (tree_type storage) ≡ true
+storage-kept storage k h = ap keeps_validity h.1.storage_type
+
+pub storage-flat : (storage : Tree) (k : PlainTimestamp) → WellFormed (timestamp storage k) → is_flat (tree_type storage) ≡ true
+storage-flat storage k h = ap is_flat h.1.storage_type
+
+pub flat_kept : (t : PlainType) → is_flat t ≡ true → keeps_validity t ≡ true
+flat_kept types.null_type h = absurd cc
+flat_kept t h = refl
+
+-- a plain tree keeps its validity where its root is none of nulls
+pub root-kept : (t : Tree) → IsPlain t → ((len : ℕ) → t ≡ nulls len → ⊥) → keeps_validity (tree_type t) ≡ true
+root-kept t h other = by_type (tree_type t) h
+  where
+    by_type : (s : PlainType) → t ≡ plain_of s (rows t) → keeps_validity s ≡ true
+    by_type types.null_type e = absurd (other (length (rows t)) e)
+    by_type s e = refl
+
+pub ruleset validities = (storage-kept, validity-structure, validity-list, validity-fixed_size_list, validity-bool, validity-primitive, validity-var_bin_view, plain-storage, plain-constant, plain-masked, plain-bit_packed, plain-bit_packed_with, plain-frame_of_reference, plain-zig_zag, plain-dict, plain-var_bin)
 
 -- ---- the first valid row
 
@@ -60,6 +83,14 @@ pub position-no_null : (vs : List PlainValue) → list_any is_null vs ≡ false 
 position-no_null [] e = refl
 position-no_null (null ∷ vs) e = absurd cc
 position-no_null (v ∷ vs) e = refl
+
+place-nulls : (len : ℕ) → position_or_len (λ v. not (is_null v)) (replicate len null) ≡ len
+place-nulls zero = refl
+place-nulls (suc len) = let rest = place-nulls len in omega arith
+
+-- where every row is null there is none
+pub position-nulls : (len : ℕ) → position (λ v. not (is_null v)) (replicate len null) ≡ None
+position-nulls len = (λ i. cond (nat_lt (place-nulls len i) (length-replicate len null i)) (Some (place-nulls len i)) None) ∙ ap (λ b. cond b (Some len) None) (le-ltb len len (omega arith))
 
 module _ (vs : List PlainValue) (valid : Validity) (e : valid ≡ validity vs) where
   pub first-of_bits : (bits : List Bool) → Some bits ≡ valid → position (λ bit. bit) bits ≡ position (λ v. not (is_null v)) vs
@@ -96,7 +127,7 @@ pub value-view : (vs : List (List ℕ)) (valid : Validity) (t : PlainType) (i : 
     → row_at (rows (var_bin_view vs valid t)) i ≡ bytes (slice_index_or vs i [])
 value-view vs valid t i w l = some_cell (is_valid_at valid i) (bytes (slice_index_or vs i [])) _ (row_at-var_bin_view vs valid t w i l)
 
-pub ruleset repeating = (length-bool, length-primitive, length-var_bin_view, value-bool, value-primitive, value-view, plain-storage, plain-constant, plain-masked, plain-bit_packed, plain-bit_packed_with, plain-frame_of_reference, plain-zig_zag, plain-dict, plain-var_bin)
+pub ruleset repeating = (storage-flat, length-bool, length-primitive, length-var_bin_view, value-bool, value-primitive, value-view, plain-storage, plain-constant, plain-masked, plain-bit_packed, plain-bit_packed_with, plain-frame_of_reference, plain-zig_zag, plain-dict, plain-var_bin)
 
 -- ---- the rows of ranges
 
@@ -197,4 +228,4 @@ stamps_admitted ranges storage k made w e =
     let typed : tree_type made ≡ types.primitive I64 n = ap tree_type e ∙ ap (λ t. tree_type (plain_of t (gathered ranges (rows storage)))) w.1.storage_type in
     rw (same_refl stored_type (tree_type made) (types.primitive I64 (nullability_of (tree_type made))) (typed ∙ ap (λ t. types.primitive I64 (nullability_of t)) (sym typed))) refl
 
-pub ruleset gathering = (length-bool, length-primitive, length-var_bin_view, plain-storage, stamps_gathered, stamps_admitted, plain-constant, plain-masked, plain-bit_packed, plain-bit_packed_with, plain-frame_of_reference, plain-zig_zag, plain-dict, plain-var_bin)
+pub ruleset gathering = (storage-flat, length-bool, length-primitive, length-var_bin_view, plain-storage, stamps_gathered, stamps_admitted, plain-constant, plain-masked, plain-bit_packed, plain-bit_packed_with, plain-frame_of_reference, plain-zig_zag, plain-dict, plain-var_bin)

@@ -1,6 +1,10 @@
 pub mod AsType
+pub mod Beneath
+pub mod Handed
 pub mod IsArray
 pub mod IsDecoded
+pub mod Kept
 pub mod Look
 pub mod TreeFalls
 pub mod TreeOf
+pub mod Ways

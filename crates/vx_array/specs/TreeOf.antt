@@ -4,8 +4,8 @@ use Rattle.std.specs.declared.alloc.Global.{Global}
 use Rattle.vx_base.specs.TypeOf.{type_of}
 use Rattle.vx_values.specs.IntsOf.{ptype_of, wholes_of}
 use Rattle.vx_array.specs.declared.array.Node.{Node}
-use Rattle.vx_array.specs.declared.array.Node.TheVariants.{Bool, Primitive, VarBinView, VarBin, Timestamp, Constant, Masked, BitPacked, FoR, ZigZag, Dict}
-use Rattle.vx_model.specs.Tree.{Tree, PlainPatches, bool, primitive, var_bin_view, var_bin, timestamp, constant, masked, plain_packed, packed_of, frame_of_reference, zig_zag, dict}
+use Rattle.vx_array.specs.declared.array.Node.TheVariants.{Bool, Primitive, VarBinView, VarBin, Timestamp, Constant, Masked, BitPacked, FoR, ZigZag, Dict, Null, Struct, List, FixedSizeList}
+use Rattle.vx_model.specs.Tree.{Tree, PlainPatches, bool, primitive, var_bin_view, var_bin, timestamp, constant, masked, plain_packed, packed_of, frame_of_reference, zig_zag, dict, nulls, structure, list, fixed_size_list, of_list}
 
 -- patches out of their box
 abbrev pub unboxed : Option (Box PlainPatches Global) → Option PlainPatches
@@ -25,3 +25,7 @@ tree_of (BitPacked p width bytes len valid patches n) = packed_of (plain_packed 
 tree_of (FoR encoded reference) = frame_of_reference encoded.value reference
 tree_of (ZigZag encoded) = zig_zag encoded.value
 tree_of (Dict codes values) = dict codes.value values.value
+tree_of (Null len) = nulls len
+tree_of (Struct names fields len valid n) = structure names (of_list fields) len valid n
+tree_of (List elements offsets valid n) = list elements.value offsets.value valid n
+tree_of (FixedSizeList elements size len valid n) = fixed_size_list elements.value size len valid n

@@ -3,8 +3,11 @@
 ghost use Rattle.std.specs.Prelude.{◌≡◌, length, slice_get, option_copied};
 ghost use Rattle.vx_model.specs.Rows.{rows};
 
+use crate::arrays::Arrays;
 use std::marker::Model;
-use vx_base::{ArrayId, ByteRows, Bytes, DType, Mask, Nullability, PType, Scalar, TimestampType};
+use vx_base::{
+    ArrayId, ByteRows, Bytes, DType, Mask, Names, Nullability, PType, Scalar, TimestampType,
+};
 use vx_values::Ints;
 
 /// The root of a tree with its own fields. Children stand in boxes.
@@ -34,6 +37,15 @@ pub enum Node {
     ZigZag(Box<ArrayRef>),
     /// Child 1's values by their places, which child 0 has row by row.
     Dict(Box<ArrayRef>, Box<ArrayRef>),
+    /// So many nulls. No children.
+    Null(u64),
+    /// The names of fields, the fields, the number of rows, their validity and nullability. A child for each field, with
+    /// as many rows.
+    Struct(Names, Arrays, u64, Option<Mask>, Nullability),
+    /// Child 0's rows from child 1's offset in a row to the next one; the lists' validity and nullability.
+    List(Box<ArrayRef>, Box<ArrayRef>, Option<Mask>, Nullability),
+    /// Child 0's rows, so many (the second) in each of so many lists (the third); their validity and nullability.
+    FixedSizeList(Box<ArrayRef>, u32, u64, Option<Mask>, Nullability),
 }
 
 /// Values, and the rows of an array where they stand in place of its own: the value whose index is x stands at row
@@ -198,24 +210,33 @@ impl ArrayRef {
             Node::FoR(_, _) => ArrayId::FoR,
             Node::ZigZag(_) => ArrayId::ZigZag,
             Node::Dict(_, _) => ArrayId::Dict,
+            Node::Null(_) => ArrayId::Null,
+            Node::Struct(_, _, _, _, _) => ArrayId::Struct,
+            Node::List(_, _, _, _) => ArrayId::List,
+            Node::FixedSizeList(_, _, _, _, _) => ArrayId::FixedSizeList,
         }
     }
 
     /// How many trees stand inside the root.
+    #[tactic(auto, using(vx_model::proofs::TreesLemmas::trees))]
     pub fn num_children(&self) -> usize
         ensures { result ≡ length (children self.now) }
     {
         match &self.node {
             Node::Bool(_, _, _) | Node::Primitive(_, _, _) | Node::VarBinView(_, _, _) => 0,
-            Node::Constant(_, _) => 0,
+            Node::Constant(_, _) | Node::Null(_) => 0,
             Node::VarBin(_, _, _, _) | Node::Timestamp(_, _) | Node::Masked(_, _) => 1,
             Node::FoR(_, _) | Node::ZigZag(_) => 1,
             Node::BitPacked(_, _, _, _, _, Some(_), _) | Node::Dict(_, _) => 2,
             Node::BitPacked(_, _, _, _, _, None, _) => 0,
+            Node::Struct(_, fields, _, _, _) => fields.len() as usize,
+            Node::List(_, _, _, _) => 2,
+            Node::FixedSizeList(_, _, _, _, _) => 1,
         }
     }
 
     /// The tree inside at a place.
+    #[tactic(auto, using(vx_model::proofs::TreesLemmas::trees))]
     pub fn child(&self, place: usize) -> Option<&ArrayRef>
         ensures { option_copied result ≡ slice_get (children self.now) place }
     {
@@ -231,6 +252,10 @@ impl ArrayRef {
                 &patches.indices,
             ),
             Node::BitPacked(_, _, _, _, _, Some(patches), _) if place == 1 => Some(&patches.values),
+            Node::Struct(_, fields, _, _, _) => fields.get(place as u64),
+            Node::List(elements, _, _, _) if place == 0 => Some(elements),
+            Node::List(_, offsets, _, _) if place == 1 => Some(offsets),
+            Node::FixedSizeList(elements, _, _, _, _) if place == 0 => Some(elements),
             _ => None,
         }
     }

@@ -1,8 +1,11 @@
 //! The plain tree of a tree, decoded a column at a time.
 
+ghost use Rattle.std.specs.Prelude.{IsTrue};
 ghost use Rattle.vx_base.specs.Answers.{Answers, OrMemory};
+ghost use Rattle.vx_base.specs.PlainType.{is_flat};
 ghost use Rattle.vx_model.specs.Column.{column_of};
 ghost use Rattle.vx_model.specs.Plain.{plain};
+ghost use Rattle.vx_model.specs.TreeType.{tree_type};
 ghost use Rattle.vx_array.specs.IsDecoded.{IsDecoded};
 
 use crate::array::{ArrayRef, Node};
@@ -20,6 +23,9 @@ impl ArrayRef {
         ensures { Answers result (plain (column_of self.now)) }
     {
         self.known();
+        if !self.dtype().is_flat() {
+            return self.canonical_nested(alloc);
+        }
         let Decoded { values, valid } = self.decoded(alloc)?;
         let dtype = self.dtype();
         match values {
@@ -32,8 +38,18 @@ impl ArrayRef {
         }
     }
 
-    // The rows. Each tree inside is decoded once.
+    // The same of any type, by the value in each row.
+    fn canonical_nested(&self, alloc: Global) -> VortexResult<ArrayRef>
+        ensures { Answers result (plain (column_of self.now)) }
+    {
+        self.known();
+        let values = self.values(alloc)?;
+        ArrayRef::of_values(alloc, self.dtype(), values)
+    }
+
+    // The rows of a leaf type or of timestamps. Each tree inside is decoded once.
     pub(crate) fn decoded(&self, alloc: Global) -> VortexResult<Decoded>
+        requires { IsTrue (is_flat (tree_type self.now)) }
         ensures { OrMemory result (λ rows. IsDecoded self.now rows) }
     {
         match &self.node {
@@ -62,6 +78,8 @@ impl ArrayRef {
                 let (codes, valid) = codes.decoded(alloc)?.into_integers();
                 decoded_by_codes(alloc, codes, valid, values.decoded(alloc)?)
             }
+            Node::Null(_) | Node::Struct(_, _, _, _, _) => unreachable!(),
+            Node::List(_, _, _, _) | Node::FixedSizeList(_, _, _, _, _) => unreachable!(),
         }
     }
 }

@@ -6,8 +6,9 @@ ghost use Rattle.vx_base.specs.TypeOf.{type_of};
 
 use crate::array::{ArrayRef, Node, Patches};
 use crate::node::{
-    copied_bool, copied_constant, copied_dict, copied_frame, copied_masked, copied_packed,
-    copied_primitive, copied_timestamp, copied_var_bin, copied_view, copied_zig_zag,
+    copied_bool, copied_constant, copied_dict, copied_fixed, copied_frame, copied_list,
+    copied_masked, copied_packed, copied_primitive, copied_struct, copied_timestamp,
+    copied_var_bin, copied_view, copied_zig_zag,
 };
 use std::alloc::Global;
 use vx_base::{DType, VortexResult};
@@ -36,12 +37,8 @@ impl Node {
         ensures { OrMemory result (λ copy. tree_of copy ≡ tree_of self.now) }
     {
         match self {
-            Node::Bool(values, valid, nullability) => {
-                copied_bool(alloc, values, valid, *nullability)
-            }
-            Node::Primitive(values, valid, nullability) => {
-                copied_primitive(alloc, values, valid, *nullability)
-            }
+            Node::Bool(values, valid, nulls) => copied_bool(alloc, values, valid, *nulls),
+            Node::Primitive(values, valid, nulls) => copied_primitive(alloc, values, valid, *nulls),
             Node::VarBinView(values, valid, dtype) => copied_view(alloc, values, valid, dtype),
             Node::VarBin(offsets, bytes, valid, dtype) => {
                 copied_var_bin(alloc, offsets.copy(alloc)?, bytes, valid, dtype)
@@ -49,23 +46,25 @@ impl Node {
             Node::Timestamp(storage, kind) => copied_timestamp(alloc, storage.copy(alloc)?, kind),
             Node::Constant(value, len) => copied_constant(alloc, value, *len),
             Node::Masked(child, valid) => copied_masked(alloc, child.copy(alloc)?, valid),
-            Node::BitPacked(ptype, width, packed, len, valid, patches, nullability) => {
-                copied_packed(
-                    alloc,
-                    *ptype,
-                    *width,
-                    packed,
-                    *len,
-                    valid,
-                    patches,
-                    *nullability,
-                )
+            Node::BitPacked(ptype, width, packed, len, valid, patches, nulls) => {
+                copied_packed(alloc, *ptype, *width, packed, *len, valid, patches, *nulls)
             }
             Node::FoR(encoded, reference) => copied_frame(alloc, encoded.copy(alloc)?, reference),
             Node::ZigZag(encoded) => copied_zig_zag(alloc, encoded.copy(alloc)?),
             Node::Dict(codes, values) => {
                 let codes = codes.copy(alloc)?;
                 copied_dict(alloc, codes, values.copy(alloc)?)
+            }
+            Node::Null(len) => Ok(Node::Null(*len)),
+            Node::Struct(names, fields, len, valid, nulls) => {
+                copied_struct(alloc, names, fields.copy(alloc)?, *len, valid, *nulls)
+            }
+            Node::List(elements, offsets, valid, nulls) => {
+                let elements = elements.copy(alloc)?;
+                copied_list(alloc, elements, offsets.copy(alloc)?, valid, *nulls)
+            }
+            Node::FixedSizeList(elements, size, len, valid, nulls) => {
+                copied_fixed(alloc, elements.copy(alloc)?, *size, *len, valid, *nulls)
             }
         }
     }

@@ -1,11 +1,11 @@
 //! The rows of a plain tree of texts or binaries one after the other, and the offsets between them.
 
-ghost use Rattle.std.specs.List.{concat};
 ghost use Rattle.std.specs.Prelude.{◌≡◌, IsTrue, None};
 ghost use Rattle.vx_base.specs.Answers.{Answers};
 ghost use Rattle.vx_base.specs.PlainType.{is_bytes};
 ghost use Rattle.vx_base.specs.TypeOf.{type_of};
 ghost use Rattle.vx_model.specs.Column.{column_of};
+ghost use Rattle.vx_model.specs.Nested.{joined};
 ghost use Rattle.vx_model.specs.Offsets.{byte_rows_of, offsets_column};
 ghost use Rattle.vx_model.specs.Plain.{IsPlain, plain, validity};
 ghost use Rattle.vx_model.specs.Refusals.{kept, var_bin_refusal};
@@ -36,7 +36,7 @@ impl ArrayRef {
         requires plain { IsPlain self.now }
         requires bytes { IsTrue (is_bytes (tree_type self.now)) }
         requires offsets { column_of offsets ≡ offsets_column (byte_rows_of (column_of self.now)) }
-        ensures { Answers result (var_bin offsets (concat (byte_rows_of (column_of self.now))) (validity (rows self.now)) (tree_type self.now)) }
+        ensures { Answers result (var_bin offsets (joined (byte_rows_of (column_of self.now))) (validity (rows self.now)) (tree_type self.now)) }
     {
         self.known();
         let (rows, valid, dtype) = self.as_views();

@@ -3,17 +3,22 @@
 
 mod array;
 mod arrays;
+mod beneath;
 mod canonical;
 mod copies;
+mod counting;
 mod joined_bytes;
 mod look_up;
 mod node;
+mod of_values;
 mod parts;
 mod patches;
 mod plain_rows;
 mod reads;
 mod sizes;
+mod value_at;
 
 pub use array::{ArrayRef, Node, Patches};
 pub use arrays::Arrays;
+pub use counting::counts_fit;
 pub use node::Made;

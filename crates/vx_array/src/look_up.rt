@@ -37,6 +37,8 @@ impl ArrayRef {
             Node::FoR(encoded, reference) => moved_at(reference, encoded.cell_at(row)),
             Node::ZigZag(encoded) => unzigzagged_at(encoded.cell_at(row)),
             Node::Dict(codes, values) => picked_at(values, codes.cell_at(row)),
+            Node::Null(_) | Node::Struct(_, _, _, _, _) => unreachable!(),
+            Node::List(_, _, _, _) | Node::FixedSizeList(_, _, _, _, _) => unreachable!(),
         }
     }
 

@@ -4,9 +4,15 @@ mod bit_packed;
 mod bool;
 mod constant;
 mod dict;
+mod fixed_size_list;
 mod frame_of_reference;
+mod list;
 mod masked;
+mod null;
+mod offsets;
+mod payload;
 mod primitive;
+mod structure;
 mod texts;
 mod timestamp;
 mod var_bin;
@@ -21,13 +27,17 @@ pub(crate) use bool::{
 pub(crate) use constant::{
     constant_bytes, constant_extents_fit, constant_has_null, copied_constant, decoded_constant,
 };
-pub(crate) use dict::{copied_dict, decoded_by_codes, picked_at};
+pub(crate) use dict::{boxed, copied_dict, decoded_by_codes, picked_at};
+pub(crate) use fixed_size_list::copied_fixed;
 pub(crate) use frame_of_reference::{copied_frame, decoded_moved, moved_at};
+pub(crate) use list::copied_list;
 pub(crate) use masked::{copied_masked, decoded_masked, masked_at, masked_bytes};
+pub(crate) use offsets::offset_at;
 pub(crate) use primitive::{
     copied_primitive, decoded_primitive, gathered_primitive, is_zero_beneath, primitive_at,
     primitive_bytes,
 };
+pub(crate) use structure::copied_struct;
 pub(crate) use timestamp::{as_type, copied_timestamp, stamped};
 pub(crate) use var_bin::{
     copied_var_bin, decoded_var_bin, piece_at, var_bin_bytes, var_bin_extents_fit,

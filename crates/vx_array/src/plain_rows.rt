@@ -1,8 +1,10 @@
 //! The rows of plain trees: which are null, whether the others share one value, and those of ranges.
 
 ghost use Rattle.std.specs.Prelude.{◌≡◌, ◌<◌, length, not, position, false, IsTrue};
+ghost use Rattle.vx_array.specs.Kept.{keeps_validity};
 ghost use Rattle.vx_base.specs.Answers.{Answers};
 ghost use Rattle.vx_base.specs.Gathered.{gathered, are_parts};
+ghost use Rattle.vx_base.specs.PlainType.{is_flat};
 ghost use Rattle.vx_base.specs.PlainValue.{is_null};
 ghost use Rattle.vx_base.specs.declared.array_id.ArrayId.TheVariants as ids;
 ghost use Rattle.vx_model.specs.Column.{column};
@@ -20,11 +22,13 @@ use vx_base::{Mask, TimestampType, VortexResult};
 use vx_values::{bits, byte_rows};
 
 impl ArrayRef {
-    /// The validity of a plain tree: a bit a row, true where the row isn't null, or none where no row is.
+    /// The validity of a plain tree: a bit a row, true where the row isn't null, or none where no row is. Nulls alone keep
+    /// no validity.
     #[cycle(validity)]
     #[tactic(auto, using(crate::proofs::PlainRows::validities))]
     pub fn validity(&self) -> &Option<Mask>
-        requires { IsPlain self.now }
+        requires plain { IsPlain self.now }
+        requires kept { IsTrue (keeps_validity (tree_type self.now)) }
         ensures { result.now ≡ validity (rows self.now) }
     {
         match &self.node {
@@ -32,6 +36,9 @@ impl ArrayRef {
             Node::Primitive(_, valid, _) => valid,
             Node::VarBinView(_, valid, _) => valid,
             Node::Timestamp(storage, _) => storage.validity(),
+            Node::Struct(_, _, _, valid, _) => valid,
+            Node::List(_, _, valid, _) => valid,
+            Node::FixedSizeList(_, _, _, valid, _) => valid,
             _ => unreachable!(),
         }
     }
@@ -41,6 +48,18 @@ impl ArrayRef {
         requires { IsPlain self.now }
         ensures { result ≡ position (λ v. not (is_null v)) (rows self.now) }
     {
+        match &self.node {
+            Node::Null(_) => None,
+            _ => self.first_kept(),
+        }
+    }
+
+    // The same by the validity.
+    fn first_kept(&self) -> Option<u64>
+        requires plain { IsPlain self.now }
+        requires kept { IsTrue (keeps_validity (tree_type self.now)) }
+        ensures { result ≡ position (λ v. not (is_null v)) (rows self.now) }
+    {
         match self.validity() {
             Some(mask) => mask.first(),
             None if self.len() == 0 => None,
@@ -48,11 +67,13 @@ impl ArrayRef {
         }
     }
 
-    /// Whether each row of a plain tree is null or has the value of this row, which isn't null.
+    /// Whether each row of a plain tree of a leaf type or of timestamps is null or has the value of this row, which isn't
+    /// null.
     #[cycle(repeats)]
     #[tactic(auto, using(crate::proofs::PlainRows::repeating))]
     pub fn repeats(&self, row: u64) -> bool
         requires plain { IsPlain self.now }
+        requires flat { IsTrue (is_flat (tree_type self.now)) }
         requires in_range { row < length (rows self.now) }
         requires value { is_null (row_at (rows self.now) row) ≡ false }
         ensures { result ≡ each_null_or (row_at (rows self.now) row) (rows self.now) }
@@ -68,11 +89,12 @@ impl ArrayRef {
         }
     }
 
-    /// The rows of ranges of a plain tree, one range after the other, as a plain tree.
+    /// The rows of ranges of a plain tree of a leaf type or of timestamps, one range after the other, as a plain tree.
     #[cycle(gather)]
     #[tactic(auto, using(crate::proofs::PlainRows::gathering))]
     pub fn gather(&self, alloc: Global, ranges: &[(u64, u64)]) -> VortexResult<ArrayRef>
         requires plain { IsPlain self.now }
+        requires flat { IsTrue (is_flat (tree_type self.now)) }
         requires parts { IsTrue (are_parts (length (rows self.now)) ranges.now) }
         ensures { Answers result (plain (column (tree_type self.now) (gathered ranges.now (rows self.now)))) }
     {

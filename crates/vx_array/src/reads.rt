@@ -1,14 +1,16 @@
 //! Whether a tree has nulls, and whether it is plain.
 
-ghost use Rattle.std.specs.Prelude.{◌≡◌, ◌↔◌, IsTrue};
+ghost use Rattle.std.specs.Prelude.{◌≡◌, ◌↔◌, ◌<◌, IsTrue, length};
 ghost use Rattle.std.specs.List.{list_any};
 ghost use Rattle.vx_base.specs.PlainType.{is_flat};
 ghost use Rattle.vx_base.specs.PlainValue.{is_null};
-ghost use Rattle.vx_model.specs.Rows.{rows};
+ghost use Rattle.vx_model.specs.Rows.{rows, row_at};
 ghost use Rattle.vx_model.specs.TreeType.{tree_type};
 
 use crate::array::{ArrayRef, Node};
+use crate::beneath::{are_empty_beneath, has_words};
 use crate::node::{constant_has_null, is_empty_beneath, is_false_beneath, is_zero_beneath};
+use vx_values::is_valid;
 
 impl ArrayRef {
     ghost use Rattle.vx_model.specs.Plain.{IsPlain};
@@ -32,6 +34,10 @@ impl ArrayRef {
             Node::Dict(codes, values) => {
                 codes.has_null() || (values.has_null() && self.has_null_row())
             }
+            Node::Null(len) => *len > 0,
+            Node::Struct(_, _, _, valid, _) => valid.is_some(),
+            Node::List(_, _, valid, _) => valid.is_some(),
+            Node::FixedSizeList(_, _, _, valid, _) => valid.is_some(),
         }
     }
 
@@ -48,7 +54,25 @@ impl ArrayRef {
         false
     }
 
-    /// Whether the tree is the plain one of its column: no encoding, and the type's default beneath nulls.
+    // Whether a row is null.
+    pub(crate) fn is_null_at(&self, row: u64) -> bool
+        requires { row < length (rows self.now) }
+        ensures { result ≡ is_null (row_at (rows self.now) row) }
+    {
+        self.known();
+        match &self.node {
+            Node::Null(_) => true,
+            Node::Constant(value, _) => value.is_null(),
+            Node::Struct(_, _, _, valid, _) => !is_valid(valid, row),
+            Node::List(_, _, valid, _) => !is_valid(valid, row),
+            Node::FixedSizeList(_, _, _, valid, _) => !is_valid(valid, row),
+            _ => self.cell_at(row).is_null(),
+        }
+    }
+
+    /// Whether the tree is the plain one of its column: no encoding, the type's default beneath nulls, which is an empty
+    /// list in columns of lists, and list offsets of 64 unsigned bits.
+    #[cycle(is_plain)]
     #[tactic(auto, using(vx_model::proofs::NullLemmas::plains))]
     pub fn is_plain(&self) -> bool
         ensures { IsTrue result ↔ IsPlain self.now }
@@ -58,6 +82,16 @@ impl ArrayRef {
             Node::Primitive(values, valid, _) => is_zero_beneath(values, valid),
             Node::VarBinView(values, valid, _) => is_empty_beneath(values, valid),
             Node::Timestamp(storage, _) => storage.is_plain(),
+            Node::Null(_) => true,
+            Node::Struct(_, fields, _, valid, _) => fields.are_plain(valid),
+            Node::List(elements, offsets, valid, _) => {
+                has_words(offsets)
+                    && are_empty_beneath(elements, offsets, valid)
+                    && elements.is_plain()
+            }
+            Node::FixedSizeList(elements, size, len, valid, _) => {
+                elements.is_plain() && elements.parts_are_default_beneath(*size, *len, valid)
+            }
             _ => false,
         }
     }

@@ -1,10 +1,13 @@
 //! The bytes and the extents of a tree.
 
 ghost use Rattle.std.specs.Prelude.{◌≡◌, ◌<◌, ◌-◌, ◌+◌, ◌^◌, min, nat_le};
-ghost use Rattle.vx_model.specs.Extents.{extents_fit, row_limit};
-ghost use Rattle.vx_model.specs.Size.{nbytes, size, bit_bytes, validity_size};
+ghost use Rattle.std.specs.List.{list_all};
+ghost use Rattle.vx_model.specs.Extents.{all_extents, extents_fit, row_limit};
+ghost use Rattle.vx_model.specs.Size.{nbytes, size, sizes, bit_bytes, validity_size};
+ghost use Rattle.vx_model.specs.Tree.{of_list};
 
 use crate::array::{ArrayRef, Node, Patches};
+use crate::arrays::Arrays;
 use crate::node::{
     bool_bytes, constant_bytes, constant_extents_fit, masked_bytes, packed_bytes, primitive_bytes,
     var_bin_bytes, var_bin_extents_fit, view_bytes,
@@ -12,7 +15,7 @@ use crate::node::{
 use vx_base::Mask;
 
 /// The greatest number of rows that is compressed.
-const ROW_LIMIT: u64 = 1 << 31;
+pub(crate) const ROW_LIMIT: u64 = 1 << 31;
 
 impl ArrayRef {
     /// The bytes of the tree, the greatest number of 128 bits where there are more.
@@ -33,10 +36,21 @@ impl ArrayRef {
             }
             Node::FoR(encoded, _) | Node::ZigZag(encoded) => encoded.nbytes(),
             Node::Dict(codes, values) => codes.nbytes().saturating_add(values.nbytes()),
+            Node::Null(_) => 0,
+            Node::Struct(_, fields, _, valid, _) => with_validity(fields.nbytes(), valid),
+            Node::List(elements, offsets, valid, _) => {
+                let inside = elements.nbytes().saturating_add(offsets.nbytes());
+                with_validity(inside, valid)
+            }
+            Node::FixedSizeList(elements, _, _, valid, _) => {
+                with_validity(elements.nbytes(), valid)
+            }
         }
     }
 
     /// Whether the rows of the tree, and of each nested column as the tree is given, are at most 2^31.
+    #[cycle(extents_fit)]
+    #[tactic(auto, using(vx_model::proofs::TreesLemmas::lists, vx_model::proofs::TreesLemmas::falls))]
     pub fn extents_fit(&self) -> bool
         ensures { result ≡ extents_fit self.now }
     {
@@ -51,7 +65,42 @@ impl ArrayRef {
             Node::BitPacked(_, _, _, len, _, _, _) => is_few(*len),
             Node::FoR(encoded, _) | Node::ZigZag(encoded) => encoded.extents_fit(),
             Node::Dict(codes, _) => codes.extents_fit(),
+            Node::Null(len) => is_few(*len),
+            Node::Struct(_, fields, len, _, _) => is_few(*len) && fields.extents_fit(),
+            Node::List(elements, offsets, _, _) => {
+                var_bin_extents_fit(offsets) && elements.extents_fit()
+            }
+            Node::FixedSizeList(elements, _, len, _, _) => is_few(*len) && elements.extents_fit(),
         }
+    }
+}
+
+impl Arrays {
+    // The bytes of the trees together.
+    #[cycle(nbytes)]
+    #[tactic(auto, using(vx_model::proofs::TreesLemmas::lists, vx_model::proofs::TreesLemmas::falls))]
+    pub(crate) fn nbytes(&self) -> u128
+        ensures { result ≡ min (sizes (of_list self.now)) (2 ^ 128 - 1) }
+    {
+        let mut sum: u128 = 0;
+        for tree in self.as_slice() {
+            sum = sum.saturating_add(tree.nbytes());
+        }
+        sum
+    }
+
+    // Whether the rows of each tree are few.
+    #[cycle(extents_fit)]
+    #[tactic(auto, using(vx_model::proofs::TreesLemmas::lists, vx_model::proofs::TreesLemmas::falls))]
+    fn extents_fit(&self) -> bool
+        ensures { result ≡ list_all (λ extent. nat_le extent row_limit) (all_extents (of_list self.now)) }
+    {
+        for tree in self.as_slice() {
+            if !tree.extents_fit() {
+                return false;
+            }
+        }
+        true
     }
 }
 
@@ -64,6 +113,13 @@ impl Patches {
         let indices = self.indices.nbytes();
         indices.saturating_add(self.values.nbytes())
     }
+}
+
+// The bytes of children, and those of validity.
+fn with_validity(inside: u128, valid: &Option<Mask>) -> u128
+    ensures { result ≡ min (inside + validity_size valid.now) (2 ^ 128 - 1) }
+{
+    inside.saturating_add(validity_bytes(valid))
 }
 
 // Whether so many rows are compressed.

@@ -12,6 +12,8 @@ mod leaves;
 #[cfg(test)]
 mod lists;
 #[cfg(test)]
+mod nested;
+#[cfg(test)]
 mod patches;
 #[cfg(test)]
 mod texts;

@@ -3,7 +3,7 @@ use Rattle.std.proofs.Common.{◌≡◌, refl}
 use Rattle.std.specs.Prelude.{IsTrue}
 use Rattle.vx_base.specs.IntegersIn.{integer_in}
 use Rattle.vx_base.specs.PlainScalar.{fits}
-use Rattle.vx_base.specs.PlainType.{PlainType, boolean, primitive, utf8, binary, timestamp, is_leaf, is_integer}
+use Rattle.vx_base.specs.PlainType.{PlainType, primitive, is_leaf, is_integer}
 use Rattle.vx_base.specs.PlainValue.{PlainValue, null, int, cell}
 
 -- an integer type is a leaf type
@@ -15,10 +15,7 @@ leaf-integer t h = absurd cc
 pub cell-integer_in : (t : PlainType) (v : PlainValue) → IsTrue (is_integer t) → IsTrue (fits t v) → cell (integer_in v) ≡ v
 cell-integer_in t null h f = refl
 cell-integer_in (primitive p n) (int z) h f = refl
-cell-integer_in (boolean n) v h f = absurd cc
-cell-integer_in (utf8 n) v h f = absurd cc
-cell-integer_in (binary n) v h f = absurd cc
-cell-integer_in (timestamp k n) v h f = absurd cc
 cell-integer_in (primitive p n) v h f = absurd cc
+cell-integer_in t v h f = absurd cc
 
 pub ruleset integer_cells = (leaf-integer, cell-integer_in)

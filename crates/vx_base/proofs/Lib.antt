@@ -1,5 +1,7 @@
 pub mod BytesLemmas
 pub mod CellLemmas
+pub mod FallLemmas
+pub mod FieldLemmas
 pub mod FitLemmas
 pub mod GatherLemmas
 pub mod IdSetLemmas
@@ -8,8 +10,10 @@ pub mod MakesLemmas
 pub mod NullLemmas
 pub mod PackedLemmas
 pub mod StandardFacts
+pub mod StepLemmas
 pub mod TypeLemmas
 pub mod Utf8Lemmas
+pub mod WithinLemmas
 pub mod WrapLemmas
 pub mod WrapSumLemmas
 pub mod WrapBitsLemmas

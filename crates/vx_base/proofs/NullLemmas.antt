@@ -5,7 +5,7 @@ use Rattle.std.specs.List.{list_all, list_any}
 use Rattle.std.proofs.lemmas.Bool.{and_parts, or_parts}
 use Rattle.vx_base.specs.PlainScalar.{fits}
 use Rattle.vx_base.specs.PlainType.{PlainType, is_nullable}
-use Rattle.vx_base.specs.PlainValue.{PlainValue, null, truth, int, bytes, is_null, same_value}
+use Rattle.vx_base.specs.PlainValue.{PlainValue, null, truth, int, bytes, items, is_null, same_value}
 
 -- a value is null, or is none
 pub by_null : (P : PlainValue → Type 0) → P null → ((v : PlainValue) → is_null v ≡ false → P v) → (v : PlainValue) → P v
@@ -13,6 +13,7 @@ by_null P at_null other null = at_null
 by_null P at_null other (truth b) = other (truth b) refl
 by_null P at_null other (int z) = other (int z) refl
 by_null P at_null other (bytes bs) = other (bytes bs) refl
+by_null P at_null other (items vs) = other (items vs) refl
 
 pub null-is : (v : PlainValue) → is_null v ≡ true → null ≡ v
 null-is = by_null (λ v. is_null v ≡ true → null ≡ v) (λ e. refl) (λ v f e. absurd cc)
@@ -23,12 +24,14 @@ same-null null = refl
 same-null (truth b) = refl
 same-null (int z) = refl
 same-null (bytes bs) = refl
+same-null (items vs) = refl
 
 pub null-same : (v : PlainValue) → same_value null v ≡ is_null v
 null-same null = refl
 null-same (truth b) = refl
 null-same (int z) = refl
 null-same (bytes bs) = refl
+null-same (items vs) = refl
 
 -- ---- lists of values
 

@@ -1,5 +1,7 @@
 -- Worked types, values and texts, counted by hand, so that a wrong rule in the definitions does not check.
-use Rattle.std.specs.Prelude.{◌≡◌, ◌∷◌, [], ◌++◌, map, true, false, Some, None, pos, negsuc, codes, refl}
+use Rattle.std.proofs.Common.{ap}
+use Rattle.std.specs.Prelude.{◌≡◌, ◌∷◌, [], ◌++◌, ◌&&◌, ℕ, List, map, true, false, Some, None, pos, negsuc, codes, refl}
+use Rattle.std.specs.Fmt.{digits}
 use Rattle.std.specs.Str.{is_utf8, chars}
 use Rattle.hex.proofs.OnLiterals.{hex_on_literals}
 use Rattle.json.proofs.OnLiterals.{json_on_literals}
@@ -7,10 +9,11 @@ use Rattle.vx_base.specs.declared.ptype.PType.TheVariants.{U8, I32, I64}
 use Rattle.vx_base.specs.declared.dtype.Nullability.TheVariants.{NonNullable, Nullable}
 use Rattle.vx_base.specs.declared.error.VortexError.TheVariants.{MismatchedTypes, CastRefused}
 use Rattle.vx_base.specs.declared.timestamp.TimeUnit.TheVariants.{Nanoseconds, Microseconds, Milliseconds, Seconds, Days}
-use Rattle.vx_base.specs.Casts.{cast_refusal, null_or_default}
+use Rattle.vx_base.specs.Casts.{cast_refusal}
+use Rattle.vx_base.specs.Defaults.{null_or_default}
 use Rattle.vx_base.specs.PlainScalar.{fits}
-use Rattle.vx_base.specs.PlainType.{boolean, primitive, utf8, binary, timestamp, is_leaf, is_flat, same_base}
-use Rattle.vx_base.specs.PlainValue.{null, truth, int, bytes}
+use Rattle.vx_base.specs.PlainType.{PlainType, null_type, boolean, primitive, utf8, binary, timestamp, structure, list, fixed_size_list, of_fields, is_leaf, is_flat, same_base}
+use Rattle.vx_base.specs.PlainValue.{null, truth, int, bytes, items, of_list, is_short, has_short}
 use Rattle.vx_base.specs.Timestamps.{PlainTimestamp, kind, divides}
 use Rattle.vx_base.specs.TypeText.{type_text, value_text}
 
@@ -20,7 +23,21 @@ plain_seconds = kind Seconds None
 abbrev zoned : PlainTimestamp
 zoned = kind Microseconds (Some (codes "UTC"))
 
+-- a struct of two fields, a list, and a list of three items
+abbrev pair : PlainType
+pair = structure (of_fields ((codes "a", primitive U8 NonNullable) ∷ (codes "b", utf8 Nullable) ∷ [])) NonNullable
+
+abbrev numbers : PlainType
+numbers = list (primitive I32 Nullable) Nullable
+
+abbrev three : PlainType
+three = fixed_size_list (primitive U8 NonNullable) 3 NonNullable
+
 -- ---- types
+
+pub texts_of_nested_types : map type_text (null_type ∷ pair ∷ numbers ∷ three ∷ []) ≡ codes "null" ∷ codes "{a:u8,b:text?}" ∷ codes "[i32?]?" ∷ codes "[u8;3]" ∷ []
+unfolding digits
+texts_of_nested_types = refl
 
 pub texts_of_types :
     map type_text
@@ -38,6 +55,18 @@ leaves = (refl, refl, refl)
 -- the zone belongs to the base, nullability doesn't
 pub bases : (same_base (timestamp zoned Nullable) (timestamp zoned NonNullable) ≡ true) × (same_base (timestamp zoned Nullable) (timestamp (kind Microseconds None) Nullable) ≡ false) × (same_base (utf8 Nullable) (binary Nullable) ≡ false)
 bases = (refl, refl, refl)
+
+-- names, sizes and the nullability of the types within belong to the base, nullability without doesn't
+pub nested_bases :
+    (same_base pair (structure (of_fields ((codes "a", primitive U8 NonNullable) ∷ (codes "b", utf8 Nullable) ∷ [])) Nullable) ≡ true)
+    × (same_base pair (structure (of_fields ((codes "a", primitive U8 NonNullable) ∷ (codes "c", utf8 Nullable) ∷ [])) NonNullable) ≡ false)
+    × (same_base pair (structure (of_fields ((codes "b", utf8 Nullable) ∷ (codes "a", primitive U8 NonNullable) ∷ [])) NonNullable) ≡ false)
+    × (same_base three (fixed_size_list (primitive U8 NonNullable) 4 NonNullable) ≡ false) × (same_base numbers (list (primitive I32 NonNullable) Nullable) ≡ false)
+    × (same_base three (list (primitive U8 NonNullable) NonNullable) ≡ false)
+nested_bases = (refl, refl, refl, refl, refl, refl)
+
+pub nested_leaves : map is_flat (null_type ∷ pair ∷ numbers ∷ three ∷ []) ≡ false ∷ false ∷ false ∷ false ∷ []
+nested_leaves = refl
 
 -- ---- values
 
@@ -61,6 +90,25 @@ pub fits-texts :
 unfolding is_utf8 chars lib.Utf8.encode
 fits-texts = refl
 
+-- a struct has a value for each field, none more or fewer; a list of three has three; each fits its type
+pub fits-nested :
+    map (fits pair) (items (of_list (int (pos 7) ∷ null ∷ [])) ∷ items (of_list (int (pos 7) ∷ [])) ∷ items (of_list (int (pos 7) ∷ null ∷ null ∷ [])) ∷ items (of_list (null ∷ null ∷ [])) ∷ null ∷ [])
+    ≡ true ∷ false ∷ false ∷ false ∷ false ∷ []
+fits-nested = refl
+
+pub fits-lists :
+    (map (fits three) (items (of_list (int (pos 1) ∷ int (pos 2) ∷ int (pos 3) ∷ [])) ∷ items (of_list (int (pos 1) ∷ int (pos 2) ∷ [])) ∷ items (of_list (int (pos 1) ∷ int (pos 2) ∷ int (pos 300) ∷ [])) ∷ []) ≡ true ∷ false ∷ false ∷ [])
+    × (map (fits numbers) (null ∷ items (of_list []) ∷ items (of_list (int (pos 1) ∷ null ∷ [])) ∷ items (of_list (truth true ∷ [])) ∷ int (pos 1) ∷ []) ≡ true ∷ true ∷ true ∷ false ∷ false ∷ [])
+    × (map (fits null_type) (null ∷ int (pos 0) ∷ items (of_list []) ∷ []) ≡ true ∷ false ∷ false ∷ [])
+fits-lists = (refl, refl, refl)
+
+-- a long text within a list within a list is seen
+pub short_within : (bs : List ℕ) → is_short bs ≡ false → has_short (items (of_list (null ∷ items (of_list (bytes bs ∷ [])) ∷ []))) ≡ false
+short_within bs e = ap (λ b. (b && true) && true) e
+
+pub short_lists : has_short (items (of_list (null ∷ items (of_list (bytes (1 ∷ []) ∷ [])) ∷ []))) ≡ true
+short_lists = refl
+
 -- a text in quotes, with a quote, a line feed and the byte 1 escaped; bytes as their digits
 pub texts_of_values :
     (value_text (utf8 Nullable) (bytes (codes "a")) ≡ 34 ∷ 97 ∷ 34 ∷ [])
@@ -69,6 +117,18 @@ pub texts_of_values :
     × (value_text (boolean Nullable) (truth true) ≡ codes "true")
 unfolding hex_on_literals json_on_literals
 texts_of_values = (refl, refl, refl, refl)
+
+pub texts_of_nested_values :
+    (value_text numbers (items (of_list (int (pos 1) ∷ null ∷ []))) ≡ codes "[1,null]")
+    × (value_text pair (items (of_list (int (pos 7) ∷ bytes (codes "x") ∷ []))) ≡ codes "[7," ++ 34 ∷ 120 ∷ 34 ∷ codes "]")
+    × (value_text (list three NonNullable) (items (of_list (items (of_list (int (pos 1) ∷ int (pos 2) ∷ int (pos 3) ∷ [])) ∷ []))) ≡ codes "[[1,2,3]]") × (value_text numbers (items (of_list [])) ≡ codes "[]")
+unfolding digits hex_on_literals json_on_literals
+texts_of_nested_values = (refl, refl, refl, refl)
+
+pub nested_defaults :
+    map null_or_default (null_type ∷ pair ∷ three ∷ numbers ∷ list (utf8 NonNullable) NonNullable ∷ [])
+    ≡ null ∷ items (of_list (int (pos 0) ∷ null ∷ [])) ∷ items (of_list (int (pos 0) ∷ int (pos 0) ∷ int (pos 0) ∷ [])) ∷ null ∷ items (of_list []) ∷ []
+nested_defaults = refl
 
 pub defaults :
     map null_or_default (boolean NonNullable ∷ primitive I32 Nullable ∷ primitive I32 NonNullable ∷ utf8 NonNullable ∷ timestamp zoned NonNullable ∷ [])

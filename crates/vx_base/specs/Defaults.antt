@@ -1,15 +1,37 @@
 -- What stands in place of null.
-use Rattle.std.specs.Prelude.{pos, false, [], if◌then◌else◌}
-use Rattle.vx_base.specs.PlainType.{PlainType, boolean, primitive, utf8, binary, timestamp}
-use Rattle.vx_base.specs.PlainValue.{PlainValue, truth, int, bytes, is_null}
+use Rattle.std.specs.Prelude.{ℕ, pos, false, List, [], map, replicate, if◌then◌else◌}
+use Rattle.vx_base.specs.PlainType.{PlainType, PlainFields, null_type, boolean, primitive, utf8, binary, timestamp, structure, list, fixed_size_list, is_nullable}
+use Rattle.vx_base.specs.PlainType as types
+use Rattle.vx_base.specs.PlainValue.{PlainValue, PlainValues, null, truth, int, bytes, items, of_list, is_null}
+use Rattle.vx_base.specs.PlainValue as vals
 
--- what stands in a type's values in place of null: false, 0, the empty text or the empty bytes
-abbrev pub default_of : PlainType → PlainValue
-default_of (boolean n) = truth false
-default_of (primitive p n) = int (pos 0)
-default_of (utf8 n) = bytes []
-default_of (binary n) = bytes []
-default_of (timestamp k n) = int (pos 0)
+-- what stands in a type's values in place of null: false, 0, the empty text or the empty bytes, the empty list, a list of
+-- fixed size or a struct of what stands where nothing is known, which is null where the type within is nullable. Nulls
+-- alone have nothing else.
+abbrev mutual
+  pub default_of : PlainType → PlainValue
+  default_of null_type = null
+  default_of (boolean n) = truth false
+  default_of (primitive p n) = int (pos 0)
+  default_of (utf8 n) = bytes []
+  default_of (binary n) = bytes []
+  default_of (timestamp k n) = int (pos 0)
+  default_of (structure fs n) = items (field_defaults fs)
+  default_of (list t n) = items vals.none
+  default_of (fixed_size_list t size n) = items (of_list (replicate size (if is_nullable t then null else default_of t)))
+
+  -- one for each field
+  pub field_defaults : PlainFields → PlainValues
+  field_defaults types.none = vals.none
+  field_defaults (types.more name t fs) = vals.more (if is_nullable t then null else default_of t) (field_defaults fs)
+
+-- one for each field in a list
+abbrev pub field_list_defaults : List (List ℕ × PlainType) → List PlainValue
+field_list_defaults fs = map (λ f. if is_nullable f.1 then null else default_of f.1) fs
+
+-- null where the type is nullable, else its default
+abbrev pub null_or_default : PlainType → PlainValue
+null_or_default t = if is_nullable t then null else default_of t
 
 -- a value, and the default in place of null
 abbrev pub or_default : PlainValue → PlainValue → PlainValue

@@ -1,12 +1,14 @@
 -- A value with its type as plain data, and which value fits which type.
-use Rattle.std.specs.Prelude.{Bool, true, false, ◌&&◌}
+use Rattle.std.specs.Prelude.{Bool, true, false, ◌&&◌, ◌==◌, ℕ, List, length}
 use Rattle.std.specs.Coded.{Coded}
 use Rattle.std.specs.Str.{is_utf8}
 use Rattle.vx_base.specs.declared.ptype.PType.TheVariants.{I64}
 use Rattle.vx_base.specs.Integers.{lies_in}
 use Rattle.vx_base.specs.Storable.{Storable, code_of, stored×}
-use Rattle.vx_base.specs.PlainType.{PlainType, boolean, primitive, utf8, binary, timestamp, is_nullable, stored_type}
-use Rattle.vx_base.specs.PlainValue.{PlainValue, null, truth, int, bytes, is_short, stored_value}
+use Rattle.vx_base.specs.PlainType.{PlainType, PlainFields, boolean, primitive, utf8, binary, timestamp, structure, list, fixed_size_list, of_fields, is_nullable, stored_type}
+use Rattle.vx_base.specs.PlainType as types
+use Rattle.vx_base.specs.PlainValue.{PlainValue, PlainValues, null, truth, int, bytes, items, list_of, of_list, is_short, stored_value}
+use Rattle.vx_base.specs.PlainValue as vals
 
 -- a value with its type
 pub record PlainScalar : Type 0 where
@@ -14,15 +16,39 @@ pub record PlainScalar : Type 0 where
   pub value : PlainValue
 
 -- null fits a nullable type, a truth value bool, a whole number an integer type that holds it and, where it has
--- 64 signed bits, a timestamp; fewer than 2^32 bytes fit binary, and text where they are UTF-8
-abbrev pub fits : PlainType → PlainValue → Bool
-fits t null = is_nullable t
-fits (boolean n) (truth b) = true
-fits (primitive p n) (int z) = lies_in p z
-fits (timestamp k n) (int z) = lies_in I64 z
-fits (utf8 n) (bytes bs) = is_short bs && is_utf8 bs
-fits (binary n) (bytes bs) = is_short bs
-fits _ _ = false
+-- 64 signed bits, a timestamp; fewer than 2^32 bytes fit binary, and text where they are UTF-8; values fit a struct one for
+-- each field, a list as its items, and a list of fixed size where they are as many
+abbrev mutual
+  pub fits : PlainType → PlainValue → Bool
+  fits t null = is_nullable t
+  fits (boolean n) (truth b) = true
+  fits (primitive p n) (int z) = lies_in p z
+  fits (timestamp k n) (int z) = lies_in I64 z
+  fits (utf8 n) (bytes bs) = is_short bs && is_utf8 bs
+  fits (binary n) (bytes bs) = is_short bs
+  fits (structure fs n) (items vs) = fields_fit fs vs
+  fits (list t n) (items vs) = items_fit t vs
+  fits (fixed_size_list t size n) (items vs) = length (list_of vs) == size && items_fit t vs
+  fits _ _ = false
+
+  -- each value fits the type of its field, and there are as many
+  pub fields_fit : PlainFields → PlainValues → Bool
+  fields_fit types.none vals.none = true
+  fields_fit (types.more name t fs) (vals.more v vs) = fits t v && fields_fit fs vs
+  fields_fit _ _ = false
+
+  -- each value fits one type
+  pub items_fit : PlainType → PlainValues → Bool
+  items_fit t vals.none = true
+  items_fit t (vals.more v vs) = fits t v && items_fit t vs
+
+-- the values in a list fit the fields in a list, one by one
+abbrev pub field_list_fits : List (List ℕ × PlainType) → List PlainValue → Bool
+field_list_fits fs vs = fields_fit (of_fields fs) (of_list vs)
+
+-- the values in a list fit the type
+abbrev pub list_fits : PlainType → List PlainValue → Bool
+list_fits t vs = items_fit t (of_list vs)
 
 -- the value of this type
 abbrev pub scalar : PlainType → PlainValue → PlainScalar

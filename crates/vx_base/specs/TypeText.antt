@@ -1,6 +1,6 @@
 -- The texts of types and values.
 use Rattle.std.specs.Prelude.{ℕ, List, [], ◌++◌, true, false, Option, Some, None, codes, if◌then◌else◌}
-use Rattle.std.specs.Fmt.{signed_decimal}
+use Rattle.std.specs.Fmt.{decimal, signed_decimal}
 use Rattle.hex.specs.Hex.{encode_lower}
 use Rattle.json.specs.Print.{quoted}
 use Rattle.vx_base.specs.declared.ptype.PType.{PType}
@@ -9,8 +9,10 @@ use Rattle.vx_base.specs.declared.dtype.Nullability.{Nullability}
 use Rattle.vx_base.specs.declared.dtype.Nullability.TheVariants.{NonNullable, Nullable}
 use Rattle.vx_base.specs.declared.timestamp.TimeUnit.{TimeUnit}
 use Rattle.vx_base.specs.declared.timestamp.TimeUnit.TheVariants.{Nanoseconds, Microseconds, Milliseconds, Seconds, Days}
-use Rattle.vx_base.specs.PlainType.{PlainType, boolean, primitive, utf8, binary, timestamp, nullability_of, is_text}
-use Rattle.vx_base.specs.PlainValue.{PlainValue, null, truth, int, bytes}
+use Rattle.vx_base.specs.PlainType.{PlainType, PlainFields, null_type, boolean, primitive, utf8, binary, timestamp, structure, list, fixed_size_list, of_fields, nullability_of, is_text}
+use Rattle.vx_base.specs.PlainType as types
+use Rattle.vx_base.specs.PlainValue.{PlainValue, PlainValues, null, truth, int, bytes, items, of_list}
+use Rattle.vx_base.specs.PlainValue as vals
 
 -- the text of an integer type
 abbrev pub ptype_text : PType → List ℕ
@@ -41,22 +43,61 @@ abbrev pub nullable_mark : Nullability → List ℕ
 nullable_mark NonNullable = []
 nullable_mark Nullable = codes "?"
 
+-- what a type's text ends with: nulls alone are nullable without a mark
+abbrev pub type_mark : PlainType → List ℕ
+type_mark null_type = []
+type_mark t = nullable_mark (nullability_of t)
+
 -- the text of a type but for that mark
-abbrev pub base_text : PlainType → List ℕ
-base_text (boolean n) = codes "bool"
-base_text (primitive p n) = ptype_text p
-base_text (utf8 n) = codes "text"
-base_text (binary n) = codes "binary"
-base_text (timestamp k n) = codes "timestamp " ++ unit_text k.unit ++ zone_text k.zone
+abbrev mutual
+  pub base_text : PlainType → List ℕ
+  base_text null_type = codes "null"
+  base_text (boolean n) = codes "bool"
+  base_text (primitive p n) = ptype_text p
+  base_text (utf8 n) = codes "text"
+  base_text (binary n) = codes "binary"
+  base_text (timestamp k n) = codes "timestamp " ++ unit_text k.unit ++ zone_text k.zone
+  base_text (structure fs n) = codes "{" ++ fields_text [] fs ++ codes "}"
+  base_text (list t n) = codes "[" ++ (base_text t ++ type_mark t) ++ codes "]"
+  base_text (fixed_size_list t size n) = codes "[" ++ (base_text t ++ type_mark t) ++ codes ";" ++ decimal size ++ codes "]"
+
+  -- the name and the type of each field, a comma between two; behind the text that stands before the first
+  pub fields_text : List ℕ → PlainFields → List ℕ
+  fields_text before types.none = []
+  fields_text before (types.more name t fs) = before ++ name ++ codes ":" ++ (base_text t ++ type_mark t) ++ fields_text (codes ",") fs
 
 -- the text of a type: that of its base, and a question mark where it is nullable
 abbrev pub type_text : PlainType → List ℕ
-type_text t = base_text t ++ nullable_mark (nullability_of t)
+type_text t = base_text t ++ type_mark t
 
--- compact JSON: a text as a string, binary as the string of its digits in lower case
-abbrev pub value_text : PlainType → PlainValue → List ℕ
-value_text t null = codes "null"
-value_text t (truth true) = codes "true"
-value_text t (truth false) = codes "false"
-value_text t (int z) = signed_decimal z
-value_text t (bytes bs) = quoted (if is_text t then bs else encode_lower bs)
+-- compact JSON: a text as a string, binary as the string of its digits in lower case; a struct as the list of its fields'
+-- values
+abbrev mutual
+  pub value_text : PlainType → PlainValue → List ℕ
+  value_text t null = codes "null"
+  value_text t (truth true) = codes "true"
+  value_text t (truth false) = codes "false"
+  value_text t (int z) = signed_decimal z
+  value_text t (bytes bs) = quoted (if is_text t then bs else encode_lower bs)
+  value_text (structure fs n) (items vs) = codes "[" ++ field_values_text [] fs vs ++ codes "]"
+  value_text (list t n) (items vs) = codes "[" ++ items_text [] t vs ++ codes "]"
+  value_text (fixed_size_list t size n) (items vs) = codes "[" ++ items_text [] t vs ++ codes "]"
+  value_text _ (items vs) = []
+
+  -- each value by the type of its field, a comma between two; behind the text that stands before the first
+  pub field_values_text : List ℕ → PlainFields → PlainValues → List ℕ
+  field_values_text before (types.more name t fs) (vals.more v vs) = before ++ value_text t v ++ field_values_text (codes ",") fs vs
+  field_values_text before _ _ = []
+
+  -- each value by one type, in the same way
+  pub items_text : List ℕ → PlainType → PlainValues → List ℕ
+  items_text before t vals.none = []
+  items_text before t (vals.more v vs) = before ++ value_text t v ++ items_text (codes ",") t vs
+
+-- the text of the values in a list, by the fields in a list
+abbrev pub field_list_text : List (List ℕ × PlainType) → List PlainValue → List ℕ
+field_list_text fs vs = codes "[" ++ field_values_text [] (of_fields fs) (of_list vs) ++ codes "]"
+
+-- the text of the values in a list, by one type
+abbrev pub list_text : PlainType → List PlainValue → List ℕ
+list_text t vs = codes "[" ++ items_text [] t (of_list vs) ++ codes "]"

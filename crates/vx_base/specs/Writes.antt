@@ -5,8 +5,11 @@ use Rattle.std.specs.Hash as fed
 use Rattle.std.specs.Hash.{HashWrites}
 use Rattle.vx_base.specs.Storable.{same, same_path}
 use Rattle.vx_base.specs.Timestamps.{PlainTimestamp, unit_number}
-use Rattle.vx_base.specs.PlainType.{PlainType, boolean, primitive, utf8, binary, timestamp, ptype_number, nullability_number, stored_type}
-use Rattle.vx_base.specs.PlainValue.{PlainValue, null, truth, int, bytes, stored_value}
+use Rattle.vx_base.specs.declared.dtype.Nullability.TheVariants.{Nullable}
+use Rattle.vx_base.specs.PlainType.{PlainType, PlainFields, null_type, boolean, primitive, utf8, binary, timestamp, structure, list, fixed_size_list, of_fields, ptype_number, nullability_number, stored_type}
+use Rattle.vx_base.specs.PlainType as types
+use Rattle.vx_base.specs.PlainValue.{PlainValue, PlainValues, null, truth, int, bytes, items, of_list, stored_value}
+use Rattle.vx_base.specs.PlainValue as vals
 use Rattle.vx_base.specs.PlainScalar.{PlainScalar, stored_scalar}
 
 -- the length, and then all bytes at once
@@ -22,20 +25,45 @@ zone_writes (Some zone) = fed.u8 1 ++ bytes_writes zone
 abbrev pub kind_writes : PlainTimestamp → HashWrites
 kind_writes k = fed.u8 (unit_number k.unit) ++ zone_writes k.zone
 
--- what a hash is fed of a type
-abbrev pub type_writes : PlainType → HashWrites
-type_writes (boolean n) = fed.u8 0 ++ fed.u8 (nullability_number n)
-type_writes (primitive p n) = fed.u8 1 ++ fed.u8 (ptype_number p) ++ fed.u8 (nullability_number n)
-type_writes (utf8 n) = fed.u8 2 ++ fed.u8 (nullability_number n)
-type_writes (binary n) = fed.u8 3 ++ fed.u8 (nullability_number n)
-type_writes (timestamp k n) = fed.u8 4 ++ kind_writes k ++ fed.u8 (nullability_number n)
+-- what a hash is fed of a type: its kind, what it has of its own, and its nullability
+abbrev mutual
+  pub type_writes : PlainType → HashWrites
+  type_writes (boolean n) = fed.u8 0 ++ fed.u8 (nullability_number n)
+  type_writes (primitive p n) = fed.u8 1 ++ fed.u8 (ptype_number p) ++ fed.u8 (nullability_number n)
+  type_writes (utf8 n) = fed.u8 2 ++ fed.u8 (nullability_number n)
+  type_writes (binary n) = fed.u8 3 ++ fed.u8 (nullability_number n)
+  type_writes (timestamp k n) = fed.u8 4 ++ kind_writes k ++ fed.u8 (nullability_number n)
+  type_writes null_type = fed.u8 5 ++ fed.u8 (nullability_number Nullable)
+  type_writes (structure fs n) = fed.u8 6 ++ fields_writes fs ++ fed.u8 (nullability_number n)
+  type_writes (list t n) = fed.u8 7 ++ type_writes t ++ fed.u8 (nullability_number n)
+  type_writes (fixed_size_list t size n) = fed.u8 8 ++ type_writes t ++ fed.u32 size ++ fed.u8 (nullability_number n)
 
--- what a hash is fed of a value: its kind, and the number
-abbrev pub value_writes : PlainValue → HashWrites
-value_writes null = fed.u8 0
-value_writes (truth b) = fed.u8 1 ++ fed.bool b
-value_writes (int z) = fed.u8 2 ++ fed.i128 z
-value_writes (bytes bs) = fed.u8 3 ++ bytes_writes bs
+  -- the name and the type of each field
+  pub fields_writes : PlainFields → HashWrites
+  fields_writes types.none = []
+  fields_writes (types.more name t fs) = bytes_writes name ++ type_writes t ++ fields_writes fs
+
+-- what a hash is fed of a list of fields
+abbrev pub field_list_writes : List (List ℕ × PlainType) → HashWrites
+field_list_writes fs = fields_writes (of_fields fs)
+
+-- what a hash is fed of a value: its kind, and what it has of its own
+abbrev mutual
+  pub value_writes : PlainValue → HashWrites
+  value_writes null = fed.u8 0
+  value_writes (truth b) = fed.u8 1 ++ fed.bool b
+  value_writes (int z) = fed.u8 2 ++ fed.i128 z
+  value_writes (bytes bs) = fed.u8 3 ++ bytes_writes bs
+  value_writes (items vs) = fed.u8 4 ++ items_writes vs
+
+  -- each value, one after the other
+  pub items_writes : PlainValues → HashWrites
+  items_writes vals.none = []
+  items_writes (vals.more v vs) = value_writes v ++ items_writes vs
+
+-- what a hash is fed of a list of values
+abbrev pub value_list_writes : List PlainValue → HashWrites
+value_list_writes vs = items_writes (of_list vs)
 
 -- what a hash is fed of a scalar: its type and then its value
 abbrev pub scalar_writes : PlainScalar → HashWrites

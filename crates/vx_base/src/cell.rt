@@ -70,8 +70,8 @@ impl<'a> Cell<'a> {
         }
     }
 
-    // The value, with bytes of its own.
-    pub(crate) fn to_value(self, alloc: Global) -> VortexResult<Value>
+    /// The value, with bytes of its own.
+    pub fn to_value(self, alloc: Global) -> VortexResult<Value>
         ensures { OrMemory result (λ value. value_of value ≡ cell_value self.entry) }
     {
         match self {

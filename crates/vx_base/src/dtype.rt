@@ -1,17 +1,17 @@
 //! The types of columns.
 
-ghost use Rattle.std.specs.Prelude.{◌≡◌, ◌↔◌, IsTrue, fold};
-ghost use Rattle.vx_base.specs.PlainType.{ptype_number, nullability_number, allows_null, or_nullable};
+ghost use Rattle.std.specs.Prelude.{◌≡◌, IsTrue};
+ghost use Rattle.vx_base.specs.PlainType.{nullability_number, allows_null, or_nullable};
 ghost use Rattle.vx_base.specs.TypeText.{nullable_mark};
-ghost use Rattle.vx_base.specs.Writes.{kind_writes};
 
+mod equal;
+mod field_list;
 mod making;
+mod type_text;
 
 use crate::ptype::PType;
+use crate::text::Text;
 use crate::timestamp::TimestampType;
-use crate::value::write_bytes;
-use std::fmt;
-use std::hash::{Hash, Hasher};
 
 /// Whether a column may have nulls.
 #[derive(Clone, Copy, Debug, PartialEq, Eq, Hash)]
@@ -38,7 +38,7 @@ impl Nullability {
     }
 
     // Its number, which a hash is fed.
-    fn number(self) -> u8
+    pub(crate) fn number(self) -> u8
         ensures { result ≡ nullability_number self }
     {
         match self {
@@ -48,7 +48,7 @@ impl Nullability {
     }
 
     // What a type's text ends with.
-    fn mark(self) -> &'static str
+    pub(crate) fn mark(self) -> &'static str
         ensures { result.now ≡ nullable_mark self }
     {
         match self {
@@ -59,8 +59,11 @@ impl Nullability {
 }
 
 /// The type of a column.
-#[derive(Debug, Drop)]
+#[cycle(dtype)]
+#[derive(Debug)]
 pub enum DType {
+    /// Nulls alone.
+    Null,
     /// Truth values.
     Bool(Nullability),
     /// Integers.
@@ -71,28 +74,41 @@ pub enum DType {
     Binary(Nullability),
     /// Points in time, each a whole number of 64 signed bits.
     Timestamp(TimestampType, Nullability),
+    /// One value for each field.
+    Struct(Fields, Nullability),
+    /// Lists of values of one type.
+    List(Box<DType>, Nullability),
+    /// The same, of so many values each.
+    FixedSizeList(Box<DType>, u32, Nullability),
 }
 
-// The number of an integer type, which a hash is fed.
-fn ptype_number(ptype: PType) -> u8
-    ensures { result ≡ ptype_number ptype }
-{
-    match ptype {
-        PType::U8 => 0,
-        PType::U16 => 1,
-        PType::U32 => 2,
-        PType::U64 => 3,
-        PType::I8 => 4,
-        PType::I16 => 5,
-        PType::I32 => 6,
-        PType::I64 => 7,
+/// The names and types of a struct's fields, in their order. Names may repeat.
+#[cycle(dtype)]
+#[derive(Debug, Drop)]
+pub struct Fields {
+    items: Vec<(Text, DType)>,
+}
+
+impl Drop for DType {
+    #[cycle(letting_go)]
+    fn drop(self) {
+        match self {
+            DType::Null
+            | DType::Bool(_)
+            | DType::Primitive(_, _)
+            | DType::Utf8(_)
+            | DType::Binary(_)
+            | DType::Timestamp(_, _)
+            | DType::Struct(_, _)
+            | DType::List(_, _)
+            | DType::FixedSizeList(_, _, _) => {}
+        }
     }
 }
 
 impl DType {
-    ghost use Rattle.vx_base.specs.declared.dtype.Nullability.TheVariants.{NonNullable};
     ghost use Rattle.vx_base.specs.TypeOf.{type_of};
-    ghost use Rattle.vx_base.specs.PlainType.{is_nullable, is_leaf, is_timestamp, is_flat, is_integer, is_bytes, is_unsigned, integer_of, nullability_of, with_nullability};
+    ghost use Rattle.vx_base.specs.PlainType.{is_nullable, is_leaf, is_timestamp, is_flat, is_integer, is_bytes, is_unsigned, integer_of, nullability_of};
 
     /// Whether null is one of its values.
     pub fn is_nullable(&self) -> bool
@@ -108,9 +124,7 @@ impl DType {
     {
         match self {
             DType::Primitive(ptype, _) => *ptype,
-            DType::Bool(_) | DType::Utf8(_) | DType::Binary(_) | DType::Timestamp(_, _) => {
-                unreachable!()
-            }
+            _ => unreachable!(),
         }
     }
 
@@ -119,11 +133,15 @@ impl DType {
         ensures { result ≡ nullability_of (type_of self.now) }
     {
         match self {
+            DType::Null => Nullability::Nullable,
             DType::Bool(nullability) => *nullability,
             DType::Primitive(_, nullability) => *nullability,
             DType::Utf8(nullability) => *nullability,
             DType::Binary(nullability) => *nullability,
             DType::Timestamp(_, nullability) => *nullability,
+            DType::Struct(_, nullability) => *nullability,
+            DType::List(_, nullability) => *nullability,
+            DType::FixedSizeList(_, _, nullability) => *nullability,
         }
     }
 
@@ -131,7 +149,10 @@ impl DType {
     pub fn is_leaf(&self) -> bool
         ensures { result ≡ is_leaf (type_of self.now) }
     {
-        !self.is_timestamp()
+        matches!(
+            self,
+            DType::Bool(_) | DType::Primitive(_, _) | DType::Utf8(_) | DType::Binary(_)
+        )
     }
 
     pub fn is_timestamp(&self) -> bool
@@ -166,118 +187,7 @@ impl DType {
     {
         match self {
             DType::Primitive(ptype, _) => ptype.is_unsigned(),
-            DType::Bool(_) | DType::Utf8(_) | DType::Binary(_) | DType::Timestamp(_, _) => false,
-        }
-    }
-
-    /// Whether the types differ at most in the outermost nullability.
-    pub fn same_base(&self, other: &DType) -> bool
-        ensures { IsTrue result ↔ (with_nullability (type_of self.now) NonNullable ≡ with_nullability (type_of other.now) NonNullable) }
-    {
-        match (self, other) {
-            (DType::Bool(_), DType::Bool(_)) => true,
-            (DType::Primitive(ptype, _), DType::Primitive(others, _)) => *ptype == *others,
-            (DType::Utf8(_), DType::Utf8(_)) => true,
-            (DType::Binary(_), DType::Binary(_)) => true,
-            (DType::Timestamp(kind, _), DType::Timestamp(others, _)) => kind.same(others),
             _ => false,
         }
-    }
-
-    // Whether the two types are one.
-    fn same(&self, other: &DType) -> bool
-        ensures { IsTrue result ↔ (type_of self.now ≡ type_of other.now) }
-    {
-        self.nullability() == other.nullability() && self.same_base(other)
-    }
-}
-
-impl PartialEq for DType {
-    ghost use Rattle.vx_base.specs.TypeOf.{type_of};
-    ghost use Rattle.vx_base.specs.PlainType.{stored_type};
-    ghost use Rattle.vx_base.specs.Storable.{same, same_symm, same_trans};
-
-    ghost eq = { λ a b. same stored_type (type_of a) (type_of b) };
-
-    ghost laws = { record { symm = λ a b. same_symm stored_type (type_of a) (type_of b); trans = λ a b c. same_trans stored_type (type_of a) (type_of b) (type_of c) } };
-
-    fn eq(&self, other: &DType) -> bool {
-        self.same(other)
-    }
-}
-
-impl Eq for DType {
-    ghost use Rattle.vx_base.specs.TypeOf.{type_of};
-    ghost use Rattle.vx_base.specs.PlainType.{stored_type};
-    ghost use Rattle.vx_base.specs.Storable.{same_refl, same_symm, same_congr};
-    ghost use Rattle.std.specs.Prelude.{refl};
-
-    ghost laws = { record { refl = λ a. same_refl stored_type (type_of a) (type_of a) refl; symm = λ a b. same_symm stored_type (type_of a) (type_of b); congr = λ a b c. same_congr stored_type (type_of a) (type_of b) (type_of c) } };
-}
-
-impl Hash for DType {
-    ghost use Rattle.vx_base.specs.TypeOf.{type_of};
-    ghost use Rattle.vx_base.specs.Writes.{type_writes, types_alike};
-
-    ghost hash_input = { λ a. type_writes (type_of a) };
-
-    ghost respects_eq = { λ a b e. types_alike (type_of a) (type_of b) e };
-
-    fn hash<H: Hasher>(&self, state: &mut H) {
-        match self {
-            DType::Bool(_) => state.write_u8(0),
-            DType::Primitive(ptype, _) => {
-                state.write_u8(1);
-                state.write_u8(ptype_number(*ptype));
-            }
-            DType::Utf8(_) => state.write_u8(2),
-            DType::Binary(_) => state.write_u8(3),
-            DType::Timestamp(kind, _) => {
-                state.write_u8(4);
-                write_kind(kind, state);
-            }
-        }
-        state.write_u8(self.nullability().number());
-    }
-}
-
-// Feeds a hash the unit and the zone.
-fn write_kind<H: Hasher>(kind: &TimestampType, state: &mut H)
-    ensures { state.new ≡ fold H.write state.old (kind_writes kind.now) }
-{
-    state.write_u8(kind.unit().number());
-    match kind.zone() {
-        None => state.write_u8(0),
-        Some(zone) => {
-            state.write_u8(1);
-            write_bytes(zone.as_str().as_bytes(), state);
-        }
-    }
-}
-
-impl fmt::Display for DType {
-    ghost use Rattle.std.specs.Prelude.{Some};
-    ghost use Rattle.vx_base.specs.TypeOf.{type_of};
-    ghost use Rattle.vx_base.specs.TypeText.{type_text};
-
-    ghost output = { λ a. Some (type_text (type_of a)) };
-
-    fn fmt<W: fmt::Write>(&self, f: &mut fmt::Formatter<W>) -> fmt::Result {
-        match self {
-            DType::Bool(_) => f.write_str("bool")?,
-            DType::Primitive(ptype, _) => f.write_str(ptype.name())?,
-            DType::Utf8(_) => f.write_str("text")?,
-            DType::Binary(_) => f.write_str("binary")?,
-            DType::Timestamp(kind, _) => {
-                f.write_str("timestamp ")?;
-                f.write_str(kind.unit().name())?;
-                if let Some(zone) = kind.zone() {
-                    f.write_str("<")?;
-                    f.write_str(zone.as_str())?;
-                    f.write_str(">")?;
-                }
-            }
-        }
-        f.write_str(self.nullability().mark())
     }
 }

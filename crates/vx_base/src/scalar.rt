@@ -5,10 +5,12 @@ ghost use Rattle.std.specs.Str.{is_utf8};
 ghost use Rattle.vx_base.specs.Answers.{Answers};
 ghost use Rattle.vx_base.specs.Integers.{lies_in};
 ghost use Rattle.vx_base.specs.PlainScalar.{fits};
-ghost use Rattle.vx_base.specs.PlainValue.{is_short, has_short};
+ghost use Rattle.vx_base.specs.PlainValue.{is_short};
 ghost use Rattle.vx_base.specs.TypeOf.{type_of, value_of};
 
 mod cast;
+mod defaults;
+mod fitting;
 mod making;
 mod value_text;
 
@@ -22,7 +24,7 @@ use std::hash::{Hash, Hasher};
 use std::marker::Model;
 
 /// A value that fits its type.
-#[derive(Debug, Drop)]
+#[derive(Debug)]
 pub struct Scalar {
     dtype: DType,
     value: Value,
@@ -43,6 +45,12 @@ impl Model for Scalar {
     ghost invariant = { λ a. IsTrue (fits (type_of a.dtype) (value_of a.value)) };
 }
 
+impl Drop for Scalar {
+    fn drop(self) {
+        let Scalar { dtype: _, value: _ } = self;
+    }
+}
+
 // Whether the integer type holds the number.
 fn is_held(value: i128, ptype: PType) -> bool
     ensures { result ≡ lies_in ptype value }
@@ -57,37 +65,11 @@ pub fn is_short(bytes: &[u8]) -> bool
     bytes.len() < 1 << 32
 }
 
-// Whether the value isn't one of 2^32 bytes or more.
-fn has_short(value: &Value) -> bool
-    ensures { result ≡ has_short (value_of value.now) }
-{
-    match value {
-        Value::Bytes(bytes) => is_short(bytes.as_slice()),
-        Value::Null | Value::Bool(_) | Value::Int(_) => true,
-    }
-}
-
 /// Whether the bytes are a text, which is UTF-8.
 pub fn is_text(bytes: &[u8]) -> bool
     ensures { result ≡ is_utf8 bytes.now }
 {
     std::str::from_utf8(bytes).is_ok()
-}
-
-// Whether the value is one of the type.
-fn fits(dtype: &DType, value: &Value) -> bool
-    ensures { result ≡ fits (type_of dtype.now) (value_of value.now) }
-{
-    match (dtype, value) {
-        (_, Value::Null) => dtype.is_nullable(),
-        (DType::Bool(_), Value::Bool(_)) => true,
-        (DType::Primitive(ptype, _), Value::Int(whole)) => is_held(*whole, *ptype),
-        (DType::Timestamp(_, _), Value::Int(whole)) => is_held(*whole, PType::I64),
-        (DType::Utf8(_), Value::Bytes(bytes)) => is_short(bytes.as_slice())
-            && is_text(bytes.as_slice()),
-        (DType::Binary(_), Value::Bytes(bytes)) => is_short(bytes.as_slice()),
-        _ => false,
-    }
 }
 
 impl Scalar {
@@ -132,6 +114,7 @@ impl Scalar {
             Value::Bool(bit) => Cell::Bool(*bit),
             Value::Int(whole) => Cell::Int(*whole),
             Value::Bytes(bytes) => Cell::Bytes(bytes.as_slice()),
+            Value::List(_) => unreachable!(),
         }
     }
 
@@ -142,7 +125,7 @@ impl Scalar {
     {
         match &self.value {
             Value::Int(whole) => Some(*whole),
-            Value::Null | Value::Bool(_) | Value::Bytes(_) => None,
+            _ => None,
         }
     }
 

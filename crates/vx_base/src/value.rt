@@ -4,13 +4,18 @@ ghost use Rattle.std.specs.Prelude.{◌≡◌, ◌↔◌, IsTrue, fold};
 ghost use Rattle.vx_base.specs.Answers.{OrMemory};
 ghost use Rattle.vx_base.specs.Writes.{bytes_writes};
 
+mod parts;
+mod value_list;
+
 use crate::error::VortexResult;
 use crate::items::Bytes;
 use std::alloc::Global;
 use std::hash::{Hash, Hasher};
+use std::marker::Model;
 
 /// One value of a column.
-#[derive(Debug, Drop)]
+#[cycle(value)]
+#[derive(Debug)]
 pub enum Value {
     Null,
     Bool(bool),
@@ -18,12 +23,51 @@ pub enum Value {
     Int(i128),
     /// Texts and binaries.
     Bytes(Bytes),
+    /// Structs, one value for each field, and lists.
+    List(Values),
+}
+
+/// A list of values.
+#[cycle(value)]
+#[derive(Debug, Drop)]
+pub struct Values {
+    items: Vec<Value>,
+}
+
+impl Drop for Value {
+    #[cycle(letting_go)]
+    fn drop(self) {
+        match self {
+            Value::Null | Value::Bool(_) | Value::Int(_) | Value::Bytes(_) | Value::List(_) => {}
+        }
+    }
+}
+
+impl Model for Values {
+    ghost use Rattle.std.specs.Prelude.{List, map};
+    ghost use Rattle.vx_base.specs.PlainValue.{PlainValue, values_code, list_count};
+
+    ghost Value = { List PlainValue };
+
+    ghost coded = { values_code };
+
+    ghost use Rattle.vx_base.specs.TypeOf.{value_of};
+
+    ghost view = { λ a. map value_of a.items.items };
+
+    ghost size = { list_count };
+
+    ghost use Rattle.std.proofs.Common.{arith};
+    ghost use Rattle.vx_base.specs.ValueFalls.{depth_le-list_count};
+
+    ghost size_decreases = { λ a h. omega (arith, depth_le-list_count a.items.items) };
 }
 
 impl Value {
     ghost use Rattle.vx_base.specs.TypeOf.{value_of};
 
     /// The same value.
+    #[cycle(copy)]
     pub fn copy(&self, alloc: Global) -> VortexResult<Value>
         ensures { OrMemory result (λ copy. value_of copy ≡ value_of self.now) }
     {
@@ -32,10 +76,12 @@ impl Value {
             Value::Bool(bit) => Ok(Value::Bool(*bit)),
             Value::Int(whole) => Ok(Value::Int(*whole)),
             Value::Bytes(bytes) => Ok(Value::Bytes(bytes.copy(alloc)?)),
+            Value::List(values) => Ok(Value::List(values.copy(alloc)?)),
         }
     }
 
     // Whether the two values are one.
+    #[cycle(same)]
     fn same(&self, other: &Value) -> bool
         ensures { IsTrue result ↔ (value_of self.now ≡ value_of other.now) }
     {
@@ -44,6 +90,7 @@ impl Value {
             (Value::Bool(bit), Value::Bool(other)) => *bit == *other,
             (Value::Int(whole), Value::Int(other)) => *whole == *other,
             (Value::Bytes(bytes), Value::Bytes(other)) => bytes.as_slice() == other.as_slice(),
+            (Value::List(values), Value::List(other)) => values.same(other),
             _ => false,
         }
     }
@@ -89,6 +136,19 @@ impl Hash for Value {
     ghost respects_eq = { λ a b e. values_alike (value_of a) (value_of b) e };
 
     fn hash<H: Hasher>(&self, state: &mut H) {
+        self.feed(state);
+    }
+}
+
+impl Value {
+    ghost use Rattle.vx_base.specs.TypeOf.{value_of};
+    ghost use Rattle.vx_base.specs.Writes.{value_writes};
+
+    // Feeds a hash the kind, and what the value has of its own.
+    #[cycle(feed)]
+    fn feed<H: Hasher>(&self, state: &mut H)
+        ensures { state.new ≡ fold H.write state.old (value_writes (value_of self.now)) }
+    {
         match self {
             Value::Null => state.write_u8(0),
             Value::Bool(bit) => {
@@ -102,6 +162,10 @@ impl Hash for Value {
             Value::Bytes(bytes) => {
                 state.write_u8(3);
                 write_bytes(bytes.as_slice(), state);
+            }
+            Value::List(values) => {
+                state.write_u8(4);
+                values.feed(state);
             }
         }
     }

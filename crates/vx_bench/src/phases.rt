@@ -35,9 +35,19 @@ where
     }
 }
 
-fn document_of(alloc: Global, bytes: Vec<u8>) -> Result<Document> {
+/// A document's column as its plain tree, and its sample words.
+#[derive(Drop)]
+struct Plain {
+    array: ArrayRef,
+    words: Words,
+}
+
+fn plain_of(alloc: Global, bytes: Vec<u8>) -> Result<Plain> {
     match read_document(alloc, bytes) {
-        Ok(document) => Ok(document),
+        Ok(Document { column, words }) => {
+            let array = column.into_plain(alloc)?;
+            Ok(Plain { array, words })
+        }
         Err(_) => bail!("no document, or want of memory"),
     }
 }
@@ -60,8 +70,8 @@ fn distinct_values(alloc: Global, array: &ArrayRef) -> Result<u32> {
     Ok(stats.distinct_count().unwrap_or(0))
 }
 
-fn compressed(alloc: Global, document: Document) -> Result<ArrayRef> {
-    let Document { array, words } = document;
+fn compressed(alloc: Global, plain: Plain) -> Result<ArrayRef> {
+    let Plain { array, words } = plain;
     if words.len() == 0 {
         bail!("no sample word");
     }
@@ -94,16 +104,16 @@ fn read_as_json(rt: &(impl AllocGlobal + Clock), bytes: &[u8]) -> Result<Duratio
     Ok(start.elapsed(rt)?)
 }
 
-/// A document, and how long it took to come by it.
+/// A document's plain tree, and how long it took to come by it.
 #[derive(Drop)]
 struct Parsed {
-    document: Document,
+    plain: Plain,
     read: Duration,
     json: Duration,
     parse: Duration,
 }
 
-/// The document of the reader's bytes. Between reading and parsing they are read as JSON alone.
+/// The plain tree of the reader's document. Between reading and parsing they are read as JSON alone.
 fn read_and_parse<R: Read>(rt: &(impl AllocGlobal + Clock), reader: R) -> Result<Parsed>
 where
     R: Drop,
@@ -113,10 +123,10 @@ where
     let read = start.elapsed(rt)?;
     let json = read_as_json(rt, bytes.as_slice())?;
     let start = Instant::now(rt)?;
-    let document = document_of(rt.alloc(), bytes)?;
+    let plain = plain_of(rt.alloc(), bytes)?;
     let parse = start.elapsed(rt)?;
     Ok(Parsed {
-        document,
+        plain,
         read,
         json,
         parse,
@@ -132,9 +142,9 @@ fn counted(rt: &(impl AllocGlobal + Clock), array: &ArrayRef) -> Result<(Duratio
 }
 
 /// How long it took to compress the column and to list its tree.
-fn packed(rt: &(impl AllocGlobal + Clock), document: Document) -> Result<(Duration, Duration)> {
+fn packed(rt: &(impl AllocGlobal + Clock), plain: Plain) -> Result<(Duration, Duration)> {
     let start = Instant::now(rt)?;
-    let tree = compressed(rt.alloc(), document)?;
+    let tree = compressed(rt.alloc(), plain)?;
     let compress = start.elapsed(rt)?;
     let start = Instant::now(rt)?;
     let _len = listed(rt.alloc(), &tree)?;
@@ -147,13 +157,13 @@ where
     R: Drop,
 {
     let Parsed {
-        document,
+        plain,
         read,
         json,
         parse,
     } = read_and_parse(rt, reader)?;
-    let (statistics, distinct) = counted(rt, &document.array)?;
-    let (compress, list) = packed(rt, document)?;
+    let (statistics, distinct) = counted(rt, &plain.array)?;
+    let (compress, list) = packed(rt, plain)?;
     Ok(Phases {
         read,
         json,
@@ -177,8 +187,8 @@ pub fn tell_rows<R: Read>(rt: &(impl AllocGlobal + Print), reader: R) -> Result<
 where
     R: Drop,
 {
-    let document = document_of(rt.alloc(), bytes_of(rt.alloc(), reader)?)?;
-    println!(rt; "rows {}", document.array.len())?;
+    let plain = plain_of(rt.alloc(), bytes_of(rt.alloc(), reader)?)?;
+    println!(rt; "rows {}", plain.array.len())?;
     Ok(())
 }
 

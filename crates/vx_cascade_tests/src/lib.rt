@@ -8,6 +8,8 @@ mod comparing;
 #[cfg(test)]
 mod joined_texts;
 #[cfg(test)]
+mod nested;
+#[cfg(test)]
 mod own_schemes;
 #[cfg(test)]
 mod owned;

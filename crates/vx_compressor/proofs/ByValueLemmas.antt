@@ -2,6 +2,7 @@
 use Rattle.std.proofs.Common.{◌≡◌, ◌≢◌, ◌<◌, ◌≤◌, ◌^◌, ◌∙◌, true, false, length, Option, Some, None, sym, ap, subst, arith}
 use Rattle.std.proofs.lemmas.Bool.{cond-false, le-ltb}
 use Rattle.vx_base.specs.PlainScalar.{scalar}
+use Rattle.vx_base.specs.PlainType.{is_flat}
 use Rattle.vx_base.specs.PlainValue.{PlainValue, null}
 use Rattle.vx_model.specs.Column.{Column, column_of}
 use Rattle.vx_model.specs.Leaf.{first_valid, each_null_or, one_value_tree, smaller_or_plain}
@@ -54,9 +55,9 @@ open-here v c site h is = subst (IsByValue c site) is h
 -- ---- by the bytes
 
 -- a tree that has no fewer bytes than the plain one doesn't stand
-pub not_smaller : (t tree : Tree) → WellFormed t → length (rows t) < 2 ^ 64 → IsPlain t → nbytes t ≤ nbytes tree → t ≡ smaller_or_plain (column_of t) tree
-not_smaller t tree w few p more =
+pub not_smaller : (t tree : Tree) → WellFormed t → is_flat (tree_type t) ≡ true → length (rows t) < 2 ^ 64 → IsPlain t → nbytes t ≤ nbytes tree → t ≡ smaller_or_plain (column_of t) tree
+not_smaller t tree w flat few p more =
     let own : size t ≡ size (plain (column_of t)) = ap size p in
-    let small = small_plain (column_of t) (rows_fit t w) few in
+    let small = small_plain (column_of t) flat (rows_fit t w) few in
     let least : size (plain (column_of t)) ≤ size tree = omega (arith, own, small, more) in
     p ∙ sym (cond-false _ _ _ (le-ltb (size tree) (size (plain (column_of t))) least))

@@ -1,25 +1,20 @@
 -- The laws of compression, for every setting of lawful schemes, by induction on the budget.
 use Rattle.std.proofs.Common.{◌≡◌, ◌<◌, ◌≤◌, ℕ, zero, suc, ◌+◌, Bool, true, false, List, [], ◌∷◌, map, length, Option, Some, None, option_map, All, IfSome, refl, sym, ap, subst, arith}
-use Rattle.std.specs.Prelude.{◌==◌, ◌||◌}
-use Rattle.std.specs.List.{AllByRecursion, list_all}
-use Rattle.std.proofs.lemmas.Bool.{cond-true, cond_both, eqb-false, or_left}
+use Rattle.std.specs.Prelude.{◌==◌}
+use Rattle.std.specs.List.{AllByRecursion}
+use Rattle.std.proofs.lemmas.Bool.{cond-true, eqb-false}
 use Rattle.std.proofs.lemmas.List.Elements.{All-from_recursion, recursion_from_All}
-use Rattle.vx_base.specs.declared.ptype.PType.TheVariants.{I64}
-use Rattle.vx_base.specs.PlainScalar.{fits}
-use Rattle.vx_base.specs.PlainType.{PlainType, boolean, primitive, utf8, binary, is_leaf, is_timestamp, is_flat}
-use Rattle.vx_base.specs.PlainType as types
-use Rattle.vx_base.specs.PlainValue.{PlainValue}
-use Rattle.vx_model.specs.Cascade.{Leaves, cascade, cascade_of, is_one_value, is_better}
-use Rattle.vx_model.specs.Column.{Column, column, column_of, IsColumn}
-use Rattle.vx_model.specs.Extents.{row_limit}
+use Rattle.vx_base.specs.PlainType.{PlainType, is_leaf, is_flat}
+use Rattle.vx_model.specs.Cascade.{Leaves, cascade, offsets_site}
+use Rattle.vx_model.specs.Column.{Column, column_of, IsColumn}
 use Rattle.vx_model.specs.Laws.{NeverLarger, ByTheColumnAlone}
 use Rattle.vx_model.specs.Leaf.{Chooses, leaf}
 use Rattle.vx_model.specs.Site.{Site, fresh, down, max_cascade}
-use Rattle.vx_model.specs.Tree.{Tree, timestamp}
+use Rattle.vx_model.specs.Tree.{Tree}
 use Rattle.vx_model.specs.WellFormed.{WellFormed}
-use Rattle.vx_model.proofs.CountLemmas.{rows-few}
+use Rattle.vx_model.proofs.CascadeLemmas.{LeavesStand, cascade-stands}
+use Rattle.vx_model.proofs.FlatTypeLemmas.{leaf-flat, integer-flat}
 use Rattle.vx_model.proofs.LeafLemmas.{leaf-cases, never_larger}
-use Rattle.vx_model.proofs.PlainLemmas.{stamps_fit}
 use Rattle.vx_scheme.specs.Asked.{IsAsked}
 use Rattle.vx_scheme.specs.Lawful.{Lawful, IsPart}
 use Rattle.vx_scheme.specs.Meaning.{Meaning, PlainSplit, kept, finished, parts}
@@ -27,7 +22,7 @@ use Rattle.vx_compressor.specs.Cascade.{Setting, part_trees, made_tree, trial, c
 use Rattle.vx_compressor.specs.CascadeLaws.{IsLawful, IsWithin, KeepsRowsAndType, AgainTheSame}
 use Rattle.vx_compressor.specs.Reach.{IsInReach, most_part_rows}
 use Rattle.vx_compressor.proofs.EligibleLemmas.{eligible_take, all_both, all_filter, choice_holds}
-use Rattle.vx_compressor.proofs.LeafFormLemmas.{StandsFor, plain-stands, nulls-stand, one-stands, stamped-stands}
+use Rattle.vx_compressor.proofs.LeafFormLemmas.{StandsFor, plain-stands, nulls-stand, one-stands}
 
 -- ---- how parts become trees
 
@@ -63,11 +58,11 @@ module _ (child : Leaves) (budget : ℕ) (keeps : Keeps child budget) where
 
   -- ---- what a lawful scheme makes of a column stands for the column
 
-  trial-stands : (m : Meaning) → Lawful m → (c : Column) (site : Site) → IsAsked m c → IsInReach c budget → StandsFor (trial child m c site) c
-  trial-stands m lawful c site asked reach = of_made (m.splits c site) refl
+  trial-stands : (m : Meaning) → Lawful m → (c : Column) (site : Site) → IsAsked m c → is_flat c.dtype ≡ true → IsInReach c budget → StandsFor (trial child m c site) c
+  trial-stands m lawful c site asked flat reach = of_made (m.splits c site) refl
     where
       of_made : (made : PlainSplit) → m.splits c site ≡ made → StandsFor (made_tree child m c site made) c
-      of_made kept e = plain-stands c asked.column
+      of_made kept e = plain-stands c asked.column flat
       of_made (finished tree) e = lawful.finished_well c site tree asked e
       of_made (parts columns) e =
           let small = are_children c budget reach columns (lawful.small_parts c site columns asked e) in
@@ -105,16 +100,16 @@ module _ (child : Leaves) (budget : ℕ) (keeps : Keeps child budget) (set : Set
       of_choice None h e = absurd cc
       of_choice (Some m) h e =
           let same : trial child m c site ≡ t = cc in
-          subst (λ t. StandsFor t c) same (trial-stands child budget keeps m h.lawful c site (asked_here m c budget here some h.taken) here.reach)
+          subst (λ t. StandsFor t c) same (trial-stands child budget keeps m h.lawful c site (asked_here m c budget here some h.taken) here.flat here.reach)
 
   site-stands : StandsFor (site_tree child set c site) c
   site-stands = of_length (length c.values == 0) refl
     where
       of_length : (b : Bool) → (length c.values == 0) ≡ b → StandsFor (leaf (chosen child set) c site) c
-      of_length true e = subst (λ t. StandsFor t c) (sym (cond-true _ _ _ e)) (plain-stands c here.column)
+      of_length true e = subst (λ t. StandsFor t c) (sym (cond-true _ _ _ e)) (plain-stands c here.column here.flat)
       of_length false e =
           let full = eqb-false _ _ e in
-          leaf-cases (λ t. StandsFor t c) (chosen child set) c site (plain-stands c here.column)
+          leaf-cases (λ t. StandsFor t c) (chosen child set) c site (plain-stands c here.column here.flat)
           (nulls-stand c here.column)
           (λ v is less. one-stands c v here.column here.flat is)
           (λ t is less. chosen-stands (omega arith) t is)
@@ -122,10 +117,10 @@ module _ (child : Leaves) (budget : ℕ) (keeps : Keeps child budget) (set : Set
 -- ---- by induction on the budget
 
 here_below : (budget : ℕ) (c : Column) → suc budget ≤ max_cascade → IsChild (suc budget) c → IsHere budget c
-here_below budget c within own = let few = own.few in record { column = own.column; flat = or_left (is_leaf c.dtype) (is_timestamp c.dtype) own.leaf; reach = record { few = omega (arith, few, within); within = omega (arith, within) } }
+here_below budget c within own = let few = own.few in record { column = own.column; flat = leaf-flat c.dtype own.leaf; reach = record { few = omega (arith, few, within); within = omega (arith, within) } }
 
 pub child_tree-keeps : (set : Setting) → IsLawful set → (budget : ℕ) → budget ≤ max_cascade → Keeps (child_tree set budget) budget
-child_tree-keeps set lawful zero within c site own = plain-stands c own.column
+child_tree-keeps set lawful zero within c site own = plain-stands c own.column (leaf-flat c.dtype own.leaf)
 child_tree-keeps set lawful (suc budget) within c site own =
     site-stands (child_tree set budget) budget (child_tree-keeps set lawful budget (omega (arith, within))) set lawful c site (here_below budget c within own)
 
@@ -136,24 +131,19 @@ leaf_tree-stands set lawful c site fits flat reach =
 
 -- ---- the tree of a column
 
-module _ (set : Setting) (lawful : IsLawful set) where
-  at_fresh : (t : PlainType) (vs : List PlainValue) → is_flat t ≡ true → list_all (fits t) vs ≡ true → length vs ≤ row_limit → StandsFor (leaf_tree set (column t vs) fresh) (column t vs)
-  at_fresh t vs flat fit few = leaf_tree-stands set lawful (column t vs) fresh fit flat (record { few = omega (arith, few); within = omega arith })
+-- where leaf columns and timestamps begin, and where the offsets of lists do
+pub leaves-stand : (set : Setting) → IsLawful set → LeavesStand (leaf_tree set)
+leaves-stand set lawful =
+    record {
+      at_fresh = λ c flat fit few. leaf_tree-stands set lawful c fresh fit flat (record { few = omega (arith, few); within = omega arith });
+      at_offsets = λ c integers fit few. leaf_tree-stands set lawful c offsets_site fit (integer-flat c.dtype integers) (record { few = omega (arith, few); within = omega arith });
+    }
 
-  column-stands : (t : PlainType) (vs : List PlainValue) → list_all (fits t) vs ≡ true → length vs ≤ row_limit → StandsFor (cascade_of (leaf_tree set) t vs) (column t vs)
-  column-stands (boolean n) vs fit few = at_fresh (boolean n) vs refl fit few
-  column-stands (primitive p n) vs fit few = at_fresh (primitive p n) vs refl fit few
-  column-stands (utf8 n) vs fit few = at_fresh (utf8 n) vs refl fit few
-  column-stands (binary n) vs fit few = at_fresh (binary n) vs refl fit few
-  column-stands (types.timestamp k n) vs fit few =
-      let own = column (types.timestamp k n) vs in
-      let storage = at_fresh (primitive I64 n) vs refl (stamps_fit k n vs fit) few in
-      cond_both (is_one_value (leaf_tree set own fresh) || is_better own (leaf_tree set own fresh) (timestamp (leaf_tree set (column (primitive I64 n) vs) fresh) k)) _ _ (λ t. StandsFor t own)
-      (λ site. at_fresh (types.timestamp k n) vs refl fit few)
-      (λ other. stamped-stands (leaf_tree set (column (primitive I64 n) vs) fresh) k n vs storage)
+pub column-stands : (set : Setting) → IsLawful set → (c : Column) → IsWithin c → StandsFor (cascade (leaf_tree set) c) c
+column-stands set lawful c within = cascade-stands (leaf_tree set) (leaves-stand set lawful) c within.column within.counts_fit
 
 pub cascade-column : (set : Setting) → IsLawful set → (c : Column) → IsWithin c → column_of (cascade (leaf_tree set) c) ≡ c
-cascade-column set lawful c within = (column-stands set lawful c.dtype c.values within.column (rows-few c.dtype c.values row_limit within.counts_fit)).1
+cascade-column set lawful c within = (column-stands set lawful c within).1
 
 pub keeps_rows_and_type : (set : Setting) → IsLawful set → KeepsRowsAndType set
 keeps_rows_and_type set lawful c within = let same = cascade-column set lawful c within in (ap (λ c. c.values) same, ap (λ c. c.dtype) same)

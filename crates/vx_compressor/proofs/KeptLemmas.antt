@@ -30,7 +30,7 @@ all_small (m ∷ ms) (e ∷ es) h fit =
     and_from _ _ (le-leb m row_limit (omega arith)) (all_small ms es h.1 both.1)
 
 -- the column of a tree whose extents fit may be compressed
-column_within : (t : Tree) → WellFormed t → extents_fit t ≡ true → IsWithin (column_of t)
+pub column_within : (t : Tree) → WellFormed t → extents_fit t ≡ true → IsWithin (column_of t)
 column_within t well fit = record { column = rows_fit t well; counts_fit = all_small (counts (tree_type t) (rows t)) (extents t) (counts_within_extents t well) fit }
 
 pub kept_by : (set : Setting) → IsLawful set → (t : Tree) (result : Result Tree VortexError) → WellFormed t → extents_fit t ≡ true → Answers result (cascade (leaf_tree set) (column_of t)) → IfOk result (λ tree. column_of tree ≡ column_of t)

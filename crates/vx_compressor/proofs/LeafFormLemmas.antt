@@ -10,31 +10,29 @@ use Rattle.vx_base.specs.declared.dtype.Nullability.{Nullability}
 use Rattle.vx_base.specs.declared.error.VortexError.TheVariants.{MismatchedTypes}
 use Rattle.vx_base.specs.declared.ptype.PType.TheVariants.{I64}
 use Rattle.vx_base.specs.Storable.{same_refl}
-use Rattle.vx_base.specs.Timestamps.{PlainTimestamp}
 use Rattle.vx_base.specs.PlainType.{PlainType, primitive, is_flat, is_nullable, nullability_of, stored_type}
-use Rattle.vx_base.specs.PlainType as types
 use Rattle.vx_base.proofs.NullLemmas.{null-fitted}
 use Rattle.vx_base.specs.PlainValue.{PlainValue, null, is_null}
 use Rattle.vx_model.specs.Column.{Column, IsColumn, column, column_of}
 use Rattle.vx_model.specs.Leaf.{first_valid, each_null_or, one_value, one_value_tree}
 use Rattle.vx_model.specs.Plain.{plain, valid_bits}
 use Rattle.vx_model.specs.Refusals.{timestamp_refusal}
-use Rattle.vx_model.specs.Tree.{Tree, constant, masked, timestamp}
+use Rattle.vx_model.specs.Tree.{Tree, constant, masked}
 use Rattle.vx_model.specs.TreeType.{tree_type}
 use Rattle.vx_model.specs.WellFormed.{WellFormed}
+use Rattle.vx_model.proofs.FewLemmas.{few-flat}
 use Rattle.vx_model.proofs.MadeLemmas.{constant_made, masked_made}
 use Rattle.vx_model.proofs.NullLemmas.{any_null-replicate}
 use Rattle.vx_model.proofs.OneValueLemmas.{first_valid-valid, one_value-some, replicate-nulls, rows-one_value_tree, type-one_value_tree}
 use Rattle.vx_model.proofs.PlainLemmas.{column_of-plain, length-valid_bits, plain_well_formed}
-use Rattle.vx_model.proofs.TimestampLemmas.{timestamp_accepted}
 use Rattle.vx_compressor.proofs.OneValueTrees.{first_fits_in}
 
 -- a well-formed tree of the column
 abbrev pub StandsFor : Tree → Column → Type 0
 StandsFor t c = WellFormed t × (column_of t ≡ c)
 
-pub plain-stands : (c : Column) → IsColumn c → StandsFor (plain c) c
-plain-stands c fits = (plain_well_formed c fits, column_of-plain c fits)
+pub plain-stands : (c : Column) → IsColumn c → is_flat c.dtype ≡ true → StandsFor (plain c) c
+plain-stands c fits flat = (plain_well_formed c fits (few-flat c.dtype c.values flat), column_of-plain c fits)
 
 -- ---- nulls alone
 
@@ -78,11 +76,3 @@ pub timestamp-admitted : (storage : Tree) (n : Nullability) → tree_type storag
 timestamp-admitted storage n typed =
     ap (λ b. unless b MismatchedTypes None)
     (same_refl stored_type (tree_type storage) (primitive I64 (nullability_of (tree_type storage))) (typed ∙ ap (λ t. primitive I64 (nullability_of t)) (sym typed)))
-
--- whole numbers of 64 signed bits stand for timestamps
-pub stamped-stands : (storage : Tree) (k : PlainTimestamp) (n : Nullability) (vs : List PlainValue) → StandsFor storage (column (primitive I64 n) vs) → StandsFor (timestamp storage k) (column (types.timestamp k n) vs)
-stamped-stands storage k n vs h =
-    let typed : tree_type storage ≡ primitive I64 n = ap (λ c. c.dtype) h.1 in (
-      timestamp_accepted storage k (timestamp-admitted storage n typed) h.0,
-      λ i. column (types.timestamp k (nullability_of (typed i))) (h.1 i).values,
-    )

@@ -9,6 +9,7 @@ pub mod KeptLemmas
 pub mod LeafCases
 pub mod LeafFormLemmas
 pub mod LimitLemmas
+pub mod NestedFacts
 pub mod OneValueTrees
 pub mod ReachedLemmas
 pub mod SampleLemmas
@@ -18,3 +19,4 @@ pub mod ScoreLemmas
 pub mod StandardFacts
 pub mod TimestampTrees
 pub mod TrialLemmas
+pub mod WholeLemmas

@@ -22,7 +22,6 @@ use Rattle.vx_model.proofs.MadeLemmas.{rows_fit}
 use Rattle.vx_model.proofs.NullLemmas.{any_null-replicate}
 use Rattle.vx_model.proofs.OneValueLemmas.{first_valid-position, first_valid-valid}
 use Rattle.vx_model.proofs.PlainLemmas.{length-valid_bits}
-use Rattle.vx_array.proofs.Flat.{flat_type}
 use Rattle.vx_compressor.specs.Behind.{behind, behind_refusal}
 
 pub answers_along : {A : Type 0} (result : Result A VortexError) (x y : A) → x ≡ y → Answers result x → Answers result y
@@ -64,14 +63,13 @@ pub record IsBehind (valid : Validity) (child t : Tree) (v : PlainValue) : Type 
   pub admitted : behind_refusal valid child ≡ None
   pub one : behind valid child ≡ one_value_tree (column_of t) v
 
-module _ (t : Tree) (v : PlainValue) (w : WellFormed t) (some : is_null v ≡ false) where
+module _ (t : Tree) (v : PlainValue) (w : WellFormed t) (flat : is_flat (tree_type t) ≡ true) (some : is_null v ≡ false) where
   abbrev every : Tree
   every = constant (scalar (tree_type t) v) (length (rows t))
 
   -- where some row is null, so is the type
   admitted-some : list_any is_null (rows t) ≡ true → masked_refusal every (valid_bits (rows t)) ≡ None
   admitted-some null =
-      let flat : is_flat (tree_type t) ≡ true = flat_type (tree_type t) in
       let nullable : is_nullable (tree_type t) ≡ true = null-fitted (tree_type t) (rows t) (rows_fit t w) null in
       let lengths : (length (valid_bits (rows t)) == length (replicate (length (rows t)) v)) ≡ true = eq-eqb _ _ (length-valid_bits (rows t) ∙ sym (length-replicate (length (rows t)) v)) in
       rw (flat, nullable, lengths, any_null-replicate (length (rows t)) v some) refl
@@ -81,8 +79,8 @@ module _ (t : Tree) (v : PlainValue) (w : WellFormed t) (some : is_null v ≡ fa
       (λ null. record { admitted = admitted-some null; one = sym (cond-true _ _ _ null) })
       (λ none. record { admitted = refl; one = sym (cond-false _ _ _ none) })
 
-pub behind_of : (t child : Tree) (valid : Validity) (v : PlainValue) → WellFormed t → is_null v ≡ false → valid ≡ validity (rows t) → child ≡ constant (scalar (tree_type t) v) (length (rows t)) → IsBehind valid child t v
-behind_of t child valid v w some e f = subst (λ u. IsBehind u child t v) (sym e) (subst (λ x. IsBehind (validity (rows t)) x t v) (sym f) (behind-rows t v w some))
+pub behind_of : (t child : Tree) (valid : Validity) (v : PlainValue) → WellFormed t → is_flat (tree_type t) ≡ true → is_null v ≡ false → valid ≡ validity (rows t) → child ≡ constant (scalar (tree_type t) v) (length (rows t)) → IsBehind valid child t v
+behind_of t child valid v w flat some e f = subst (λ u. IsBehind u child t v) (sym e) (subst (λ x. IsBehind (validity (rows t)) x t v) (sym f) (behind-rows t v w flat some))
 
 -- ---- the first valid row
 

@@ -1,18 +1,16 @@
 -- Every site of which the tree of a column may come is bounded.
 use Rattle.std.proofs.Common.{◌≡◌, ◌<◌, ℕ, Bool, true, false, cond, not, ◌||◌, List, [], ◌∷◌, ◌++◌, map, filter, All, refl, sym, ◌∙◌, ap, subst, arith, length-append}
 use Rattle.std.specs.Prelude.{Contains, slice_index_or}
-use Rattle.std.specs.List.{AllByRecursion, list_all, list_any}
+use Rattle.std.specs.List.{AllByRecursion, list_any}
 use Rattle.std.proofs.lemmas.Bool.{and_parts, and_from}
 use Rattle.std.proofs.lemmas.List.{map-append}
 use Rattle.std.proofs.lemmas.List.Elements.{All-from_recursion}
 use Rattle.std.proofs.lemmas.List.Folds.{list_any-append}
-use Rattle.vx_base.specs.PlainScalar.{fits}
 use Rattle.vx_base.specs.PlainType.{PlainType}
+use Rattle.vx_model.specs.Cascade.{beginnings}
 use Rattle.vx_model.specs.Column.{Column, IsColumn}
-use Rattle.vx_model.specs.Extents.{row_limit}
 use Rattle.vx_model.specs.Site.{Site, down}
-use Rattle.vx_model.proofs.CountLemmas.{rows-few}
-use Rattle.vx_model.proofs.PlainLemmas.{stamps_fit}
+use Rattle.vx_model.proofs.BeginningLemmas.{beginnings-all}
 use Rattle.vx_scheme.specs.Asked.{IsAsked}
 use Rattle.vx_scheme.specs.Excluded.{History, excluded}
 use Rattle.vx_scheme.specs.Lawful.{Lawful, IsPart}
@@ -21,7 +19,7 @@ use Rattle.vx_scheme.specs.Names.{same_name}
 use Rattle.vx_compressor.specs.Cascade.{Setting, is_eligible, eligible}
 use Rattle.vx_compressor.specs.CascadeLaws.{IsLawful, IsWithin}
 use Rattle.vx_compressor.specs.Distinct.{are_distinct}
-use Rattle.vx_compressor.specs.Reached.{IsReached, begun, by_storage, by_sample, by_part, IsBounded, SitesAreBounded}
+use Rattle.vx_compressor.specs.Reached.{IsReached, begun, by_sample, by_part, IsBounded, SitesAreBounded}
 use Rattle.vx_compressor.proofs.EligibleLemmas.{all_both, all_filter}
 use Rattle.vx_compressor.proofs.SampleSizes.{sample-column, sample-fewer}
 
@@ -104,11 +102,17 @@ of_part m d part site number may bounded some is =
     }
 
 module _ (set : Setting) (lawful : IsLawful set) (c : Column) (within : IsWithin c) where
+  -- where columns begin, at most the root stands above
+  begin_sound : All (λ b. IsSound b.0 b.1) (beginnings c.dtype c.values)
+  begin_sound =
+      All-from_recursion (λ b. IsSound b.0 b.1) (beginnings c.dtype c.values)
+      (beginnings-all (λ b. IsSound b.0 b.1)
+      (λ d flat fit few. record { column = fit; bounded = record { rows = omega (arith, few); names = refl; levels = refl } })
+      (λ d integers fit few. record { column = fit; bounded = record { rows = omega (arith, few); names = refl; levels = refl } })
+      c within.column within.counts_fit)
+
   sound : (d : Column) (site : Site) → IsReached set c d site → IsSound d site
-  sound d site begun = let few = rows-few c.dtype c.values row_limit within.counts_fit in record { column = within.column; bounded = record { rows = omega (arith, few); names = refl; levels = refl } }
-  sound d site (by_storage k n is) =
-      let few = rows-few c.dtype c.values row_limit within.counts_fit in
-      record { column = stamps_fit k n c.values (subst (λ t. list_all (fits t) c.values ≡ true) is within.column); bounded = record { rows = omega (arith, few); names = refl; levels = refl } }
+  sound d site (begun e at one) = one_of (λ b. IsSound b.0 b.1) (beginnings c.dtype c.values) (e, at) begin_sound one
   sound d site (by_sample e at reached) =
       let own = sound e at reached in
       let fewer = sample-fewer at.sampled set.words e in

@@ -73,7 +73,7 @@ sample_askable false words c askable =
     (λ e. cond_both (is_short (length c.values)) ((0, length c.values) ∷ []) (below (slice_of (length c.values) words) (slice_count (length c.values))) (λ ranges. IsAskable (column c.dtype (gathered ranges c.values))) (λ t. absurd cc) (λ f. long e))
   where
     long : is_short (length c.values) ≡ false → IsAskable (column c.dtype (gathered (below (slice_of (length c.values) words) (slice_count (length c.values))) c.values))
-    long e = let rows = sampled_rows c.values words e in record { column = all-gathered (fits c.dtype) (below (slice_of (length c.values) words) (slice_count (length c.values))) c.values askable.column; some = rows.0; few = omega (arith, rows.1, askable.few) }
+    long e = let rows = sampled_rows c.values words e in record { column = all-gathered (fits c.dtype) (below (slice_of (length c.values) words) (slice_count (length c.values))) c.values askable.column; flat = askable.flat; some = rows.0; few = omega (arith, rows.1, askable.few) }
 
 pub sample-fewer : (sampled : Bool) (words : List ℕ) (c : Column) → length (sample sampled words c).values ≤ length c.values
 sample-fewer true words c = omega arith
@@ -89,7 +89,7 @@ sample-dtype false words c = cond_both (is_short (length c.values)) c (column c.
 
 -- the plain tree of a column that schemes are asked about is small
 pub size-askable : (c : Column) → IsAskable c → size (plain c) < 2 ^ 64
-size-askable c askable = let most = size-plain_of-le c.dtype c.values askable.column in omega (arith, askable.few)
+size-askable c askable = let most = size-plain_of-le c.dtype c.values askable.flat askable.column in omega (arith, askable.few)
 
 -- ---- what may be asked of a sample's plain tree, and the score of what is made of it
 

@@ -9,7 +9,7 @@ use Rattle.vx_base.specs.declared.error.VortexError.{VortexError}
 use Rattle.vx_base.specs.declared.error.VortexError.TheVariants.{NoMemory, MismatchedTypes}
 use Rattle.vx_base.specs.declared.ptype.PType.TheVariants.{I64}
 use Rattle.vx_base.specs.PlainScalar.{fits}
-use Rattle.vx_base.specs.PlainType.{PlainType, boolean, primitive, utf8, binary, is_leaf, is_timestamp, nullability_of, same_type}
+use Rattle.vx_base.specs.PlainType.{PlainType, boolean, primitive, utf8, binary, is_leaf, is_timestamp, is_flat, nullability_of, same_type}
 use Rattle.vx_base.specs.PlainType as types
 use Rattle.vx_base.specs.Storable.{same, same_path, same_refl}
 use Rattle.vx_base.specs.Timestamps.{PlainTimestamp}
@@ -29,20 +29,23 @@ use Rattle.vx_model.proofs.MadeLemmas.{rows_fit}
 use Rattle.vx_model.proofs.PlainLemmas.{stamps_fit}
 use Rattle.vx_model.proofs.SizeLemmas.{small_plain}
 use Rattle.vx_compressor.specs.Cascade.{Setting, chosen, children_of, leaf_tree}
-use Rattle.vx_array.proofs.Flat.{flat_type}
 use Rattle.vx_compressor.specs.CascadeLaws.{IsLawful}
 use Rattle.vx_compressor.specs.Reach.{IsInReach}
 use Rattle.vx_compressor.proofs.CascadeLemmas.{leaf_tree-stands}
 use Rattle.vx_compressor.proofs.HeldLemmas.{column_of-is, plain-is}
 use Rattle.vx_compressor.proofs.LeafFormLemmas.{timestamp-admitted}
 
--- a type but timestamps is a leaf
-pub leaf_type : (t : PlainType) → is_timestamp t ≡ false → is_leaf t ≡ true
-leaf_type (boolean n) e = refl
-leaf_type (primitive p n) e = refl
-leaf_type (utf8 n) e = refl
-leaf_type (binary n) e = refl
-leaf_type (types.timestamp k n) e = absurd cc
+-- a flat type but timestamps is a leaf
+pub leaf_type : (t : PlainType) → is_flat t ≡ true → is_timestamp t ≡ false → is_leaf t ≡ true
+leaf_type (boolean n) f e = refl
+leaf_type (primitive p n) f e = refl
+leaf_type (utf8 n) f e = refl
+leaf_type (binary n) f e = refl
+leaf_type t f e = absurd cc
+
+pub flat_stamps : (t : PlainType) → is_timestamp t ≡ true → is_flat t ≡ true
+flat_stamps (types.timestamp k n) e = refl
+flat_stamps t e = absurd cc
 
 -- ---- the whole numbers of timestamps
 
@@ -59,33 +62,25 @@ storage_is c = of_type c.dtype
   where
     of_type : (t : PlainType) → is_timestamp t ≡ true → (storage : Tree) (k : PlainTimestamp) → timestamp storage k ≡ plain_of t c.values → IsStorage (column t c.values) storage k
     of_type (types.timestamp j n) i storage k e = let same : j ≡ k = cc in record { plain = cc; kind = ap (λ k. types.timestamp k n) same }
-    of_type (boolean n) i storage k e = absurd cc
-    of_type (primitive p n) i storage k e = absurd cc
-    of_type (utf8 n) i storage k e = absurd cc
-    of_type (binary n) i storage k e = absurd cc
+    of_type t i storage k e = absurd cc
 
 pub root-stamps : (c : Column) → is_timestamp c.dtype ≡ true → encoding (plain c) ≡ ids.Timestamp
 root-stamps c = of_type c.dtype
   where
     of_type : (t : PlainType) → is_timestamp t ≡ true → encoding (plain_of t c.values) ≡ ids.Timestamp
     of_type (types.timestamp j n) i = refl
-    of_type (boolean n) i = absurd cc
-    of_type (primitive p n) i = absurd cc
-    of_type (utf8 n) i = absurd cc
-    of_type (binary n) i = absurd cc
+    of_type t i = absurd cc
 
 storage-fits : (c : Column) → is_timestamp c.dtype ≡ true → IsColumn c → IsColumn (storage_of c)
 storage-fits c = of_type c.dtype
   where
     of_type : (t : PlainType) → is_timestamp t ≡ true → list_all (fits t) c.values ≡ true → list_all (fits (primitive I64 (nullability_of t))) c.values ≡ true
     of_type (types.timestamp j n) i h = stamps_fit j n c.values h
-    of_type (boolean n) i h = absurd cc
-    of_type (primitive p n) i h = absurd cc
-    of_type (utf8 n) i h = absurd cc
-    of_type (binary n) i h = absurd cc
+    of_type t i h = absurd cc
 
 -- what the tree of the whole numbers rests on
 pub record IsOwnStorage (c : Column) (site : Site) (storage : Tree) : Type 0 where
+  pub flat : is_flat (tree_type storage) ≡ true
   pub plain : IsPlain storage
   pub whole : timestamp_refusal storage ≡ None
   pub reach : IsInReach (column_of storage) site.budget
@@ -98,6 +93,7 @@ own_storage c site storage k stamps fit reach e =
     let own = storage-fits c stamps fit in
     let same = column_of-is storage (storage_of c) own is.plain in
     record {
+      flat = ap (λ d. is_flat d.dtype) same;
       plain = plain-is storage (storage_of c) own is.plain;
       whole = timestamp-admitted storage (nullability_of c.dtype) (ap (λ d. d.dtype) same);
       reach = subst (λ d. IsInReach d site.budget) (sym same) (record { few = reach.few; within = reach.within });
@@ -117,10 +113,7 @@ cascade-stamps leaves c k = of_type c.dtype
         let same : k ≡ j = cc in
         let own = column (types.timestamp j n) c.values in
         ap (λ i. site_or_storage own (leaves own fresh) (timestamp (leaves (column (primitive I64 n) c.values) fresh) i)) same
-    of_type (boolean n) e = absurd cc
-    of_type (primitive p n) e = absurd cc
-    of_type (utf8 n) e = absurd cc
-    of_type (binary n) e = absurd cc
+    of_type t e = absurd cc
 
 module _ (c : Column) (made over : Tree) where
   one-stays : is_one_value made ≡ true → made ≡ site_or_storage c made over
@@ -157,10 +150,7 @@ module _ (leaves : Leaves) (c : Column) (site : Site) (made : Tree) (at_site : s
       of_type (types.timestamp j n) i e =
           let kind : c.dtype ≡ types.timestamp j (nullability_of c.dtype) = e ∙ ap (λ t. types.timestamp j (nullability_of t)) (sym e) in
           one-stays c made (timestamp (leaves (storage_of c) fresh) j) one ∙ by_stamps j kind
-      of_type (boolean n) i e = absurd cc
-      of_type (primitive p n) i e = absurd cc
-      of_type (utf8 n) i e = absurd cc
-      of_type (binary n) i e = absurd cc
+      of_type t i e = absurd cc
 
   module _ (storage : Tree) (k : PlainTimestamp) (beneath : timestamp storage k ≡ plain c) (column : column_of storage ≡ storage_of c) (many : is_one_value made ≡ false) where
     kind_is : c.dtype ≡ types.timestamp k (nullability_of c.dtype)
@@ -176,9 +166,9 @@ module _ (leaves : Leaves) (c : Column) (site : Site) (made : Tree) (at_site : s
         ∙ by_stamps k kind_is
 
 -- what a site makes of whole numbers may stand beneath timestamps
-pub storage-admitted : (set : Setting) → IsLawful set → (storage tree : Tree) (site : Site) → WellFormed storage → IsInReach (column_of storage) site.budget → timestamp_refusal storage ≡ None → tree ≡ leaf_tree set (column_of storage) site → timestamp_refusal tree ≡ None
-storage-admitted set lawful storage tree site w reach whole made =
-    let column = ap column_of made ∙ (leaf_tree-stands set lawful (column_of storage) site (rows_fit storage w) (flat_type (tree_type storage)) reach).1 in
+pub storage-admitted : (set : Setting) → IsLawful set → (storage tree : Tree) (site : Site) → WellFormed storage → is_flat (tree_type storage) ≡ true → IsInReach (column_of storage) site.budget → timestamp_refusal storage ≡ None → tree ≡ leaf_tree set (column_of storage) site → timestamp_refusal tree ≡ None
+storage-admitted set lawful storage tree site w flat reach whole made =
+    let column = ap column_of made ∙ (leaf_tree-stands set lawful (column_of storage) site (rows_fit storage w) flat reach).1 in
     ap (λ d. unless (same_type d.dtype (primitive I64 (nullability_of d.dtype))) MismatchedTypes None) column ∙ whole
 
 -- where nothing is refused, memory was wanting
@@ -191,15 +181,17 @@ no_memory (Some x) made inputs f e h = absurd cc
 -- it stands for the column, so its own column says all that counts
 pub record IsOfSite (set : Setting) (array made : Tree) (site : Site) : Type 0 where
   pub column : column_of made ≡ column_of array
+  pub flat : is_flat (tree_type made) ≡ true
   pub reach : IsInReach (column_of made) site.budget
   pub own : made ≡ leaf_tree set (column_of made) site
 
-pub made_of : (set : Setting) → IsLawful set → (array made : Tree) (site : Site) → site ≡ fresh → WellFormed array → IsInReach (column_of array) max_cascade → made ≡ leaf_tree set (column_of array) site → IsOfSite set array made site
-made_of set lawful array made site at_fresh w reach is =
+pub made_of : (set : Setting) → IsLawful set → (array made : Tree) (site : Site) → site ≡ fresh → WellFormed array → is_flat (tree_type array) ≡ true → IsInReach (column_of array) max_cascade → made ≡ leaf_tree set (column_of array) site → IsOfSite set array made site
+made_of set lawful array made site at_fresh w flat reach is =
     let here : IsInReach (column_of array) site.budget = subst (λ s. IsInReach (column_of array) s.budget) (sym at_fresh) reach in
-    let column : column_of made ≡ column_of array = ap column_of is ∙ (leaf_tree-stands set lawful (column_of array) site (rows_fit array w) (flat_type (tree_type array)) here).1 in
+    let column : column_of made ≡ column_of array = ap column_of is ∙ (leaf_tree-stands set lawful (column_of array) site (rows_fit array w) flat here).1 in
     record {
       column = column;
+      flat = ap (λ c. is_flat c.dtype) column ∙ flat;
       reach = subst (λ c. IsInReach c site.budget) (sym column) here;
       own = is ∙ ap (λ c. leaf_tree set c site) (sym column);
     }
@@ -209,9 +201,9 @@ pub no_test : (b : Bool) (P : Type 0) → IsTrue b ↔ P → b ≡ false → P �
 no_test b P both e p = let t = both.1 p in absurd cc
 
 -- the tree of the whole numbers is far from the end of 128 bits
-pub small_stamps : (set : Setting) (d : Column) (site : Site) (k : PlainTimestamp) (other : Tree) → IsColumn d → IsInReach d site.budget → other ≡ timestamp (leaf_tree set d site) k → size other < 2 ^ 100
-small_stamps set d site k other fit reach e =
+pub small_stamps : (set : Setting) (d : Column) (site : Site) (k : PlainTimestamp) (other : Tree) → is_flat d.dtype ≡ true → IsColumn d → IsInReach d site.budget → other ≡ timestamp (leaf_tree set d site) k → size other < 2 ^ 100
+small_stamps set d site k other flat fit reach e =
     let few = reach.few in
-    let least = size-leaf (chosen (children_of set site) set) d site in
-    let most = small_plain d fit (omega (arith, few)) in
+    let least = size-leaf (chosen (children_of set site) set) d site flat in
+    let most = small_plain d flat fit (omega (arith, few)) in
     rw e (omega (arith, least, most))

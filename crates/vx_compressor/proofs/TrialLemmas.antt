@@ -7,6 +7,7 @@ use Rattle.std.proofs.lemmas.List.{drop_more}
 use Rattle.std.proofs.lemmas.List.Elements.{All-from_recursion, recursion_from_All}
 use Rattle.vx_base.specs.Answers.{Answers}
 use Rattle.vx_base.specs.declared.error.VortexError.{VortexError}
+use Rattle.vx_base.specs.PlainType.{is_flat}
 use Rattle.vx_model.specs.Cascade.{Leaves}
 use Rattle.vx_model.specs.Column.{Column, column_of}
 use Rattle.vx_model.specs.Plain.{plain, IsPlain}
@@ -14,6 +15,7 @@ use Rattle.vx_model.specs.Site.{Site, down, max_cascade}
 use Rattle.vx_model.specs.Tree.{Tree}
 use Rattle.vx_model.specs.TreeType.{tree_type}
 use Rattle.vx_model.specs.WellFormed.{WellFormed}
+use Rattle.vx_model.proofs.FlatTypeLemmas.{leaf-flat}
 use Rattle.vx_model.proofs.MadeLemmas.{rows_fit}
 use Rattle.vx_model.proofs.PlainLemmas.{plain_is_plain}
 use Rattle.vx_scheme.specs.Asked.{HasParts, FitParts, IsAsked, IsSiteTree}
@@ -68,9 +70,14 @@ parts_in_reach : (budget : ℕ) (ps : List Tree) → AllByRecursion (IsChild bud
 parts_in_reach budget [] h within = tt
 parts_in_reach budget (p ∷ ps) h within = (record { few = h.0.few; within = within }, parts_in_reach budget ps h.1 within)
 
+parts_flat : (budget : ℕ) (ps : List Tree) → AllByRecursion (IsChild budget) (map column_of ps) → AllByRecursion (λ part. is_flat (tree_type part) ≡ true) ps
+parts_flat budget [] h = tt
+parts_flat budget (p ∷ ps) h = (leaf-flat (tree_type p) h.0.leaf, parts_flat budget ps h.1)
+
 -- what holds of the parts that a scheme made of a column
 pub record PartsMade (child : Leaves) (budget : ℕ) (m : Meaning) (c : Column) (site : Site) (ps : List Tree) : Type 0 where
   pub plain : All IsPlain ps
+  pub flat : All (λ part. is_flat (tree_type part) ≡ true) ps
   pub reach : All (λ part. IsPartInReach (column_of part) budget) ps
   pub split : HasParts (m.splits c site)
   pub fit : (trees : List Tree) → trees ≡ part_trees child m.name site 0 (map column_of ps) → FitParts (m.splits c site) trees
@@ -82,6 +89,7 @@ parts_made_by child budget keeps m lawful c site asked reach ps made =
     let small = are_children c budget reach (map column_of ps) (lawful.small_parts c site (map column_of ps) asked are.columns) in
     record {
       plain = are.plain;
+      flat = All-from_recursion _ ps (parts_flat budget ps small);
       reach = All-from_recursion _ ps (parts_in_reach budget ps small reach.within);
       split = subst HasParts (sym are.columns) tt;
       fit = λ trees is. ap (map column_of) is ∙ part_trees-columns child budget keeps m.name site 0 (map column_of ps) small ∙ ap parts_of (sym are.columns);

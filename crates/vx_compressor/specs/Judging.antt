@@ -1,5 +1,6 @@
 -- What the two passes over the schemes of a site have found, and what they rest on.
 use Rattle.std.specs.Prelude.{◌≡◌, ◌<◌, ◌≤◌, ℕ, true, List, [], ◌∷◌, map, length, Option, option_map}
+use Rattle.vx_base.specs.PlainType.{is_flat}
 use Rattle.vx_model.specs.Cascade.{Leaves}
 use Rattle.vx_model.specs.Column.{Column, IsColumn}
 use Rattle.vx_model.specs.Plain.{plain}
@@ -21,9 +22,10 @@ pub record Holds (b : Bundle) (c : Column) (opts : GenerateStatsOptions) : Type 
   pub array : b.array ≡ plain c
   pub options : b.options ≡ opts
 
--- a column that schemes may split: its values fit its type, and it has rows, but not too many
+-- a column that schemes may split: of a leaf type or timestamps, its values fit the type, and it has rows, but not too many
 pub record IsAskable (c : Column) : Type 0 where
   pub column : IsColumn c
+  pub flat : is_flat c.dtype ≡ true
   pub some : 0 < length c.values
   pub few : length c.values ≤ most_rows
 

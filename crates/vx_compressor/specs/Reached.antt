@@ -1,11 +1,8 @@
 -- The sites of which the tree of a column may come, and their bounds.
 use Rattle.std.specs.Prelude.{◌≡◌, ◌<◌, ◌≤◌, ℕ, ◌+◌, true, List, length, map, Contains, slice_index_or}
-use Rattle.vx_base.specs.declared.dtype.Nullability.{Nullability}
-use Rattle.vx_base.specs.declared.ptype.PType.TheVariants.{I64}
-use Rattle.vx_base.specs.PlainType.{primitive, timestamp}
-use Rattle.vx_base.specs.Timestamps.{PlainTimestamp}
-use Rattle.vx_model.specs.Column.{Column, column}
-use Rattle.vx_model.specs.Site.{Site, fresh, down, max_cascade}
+use Rattle.vx_model.specs.Cascade.{beginnings}
+use Rattle.vx_model.specs.Column.{Column}
+use Rattle.vx_model.specs.Site.{Site, down, max_cascade}
 use Rattle.vx_scheme.specs.Contexts.{sample_site}
 use Rattle.vx_scheme.specs.Meaning.{Meaning, parts}
 use Rattle.vx_compressor.specs.Cascade.{Setting, eligible}
@@ -14,11 +11,10 @@ use Rattle.vx_compressor.specs.Distinct.{are_distinct}
 use Rattle.vx_compressor.specs.Reach.{most_site_rows}
 use Rattle.vx_compressor.specs.Sampling.{sample}
 
--- The column itself at the fresh site, and of timestamps the whole numbers too; a sample at the site of what it is taken of; and,
--- while schemes may follow, each part that a scheme makes of a column with rows at a site where it may stand.
+-- Each column within the column that is judged, where it begins; a sample at the site of what it is taken of; and, while schemes may
+-- follow, each part that a scheme makes of a column with rows at a site where it may stand.
 pub data IsReached (set : Setting) (c : Column) : Column → Site → Type 0 where
-  begun : IsReached set c c fresh
-  by_storage : (k : PlainTimestamp) (n : Nullability) → c.dtype ≡ timestamp k n → IsReached set c (column (primitive I64 n) c.values) fresh
+  begun : (d : Column) (site : Site) → Contains (beginnings c.dtype c.values) (d, site) → IsReached set c d site
   by_sample : (d : Column) (site : Site) → IsReached set c d site → IsReached set c (sample site.sampled set.words d) (sample_site site)
   by_part : (d : Column) (site : Site) (m : Meaning) (columns : List Column) (number : ℕ) → IsReached set c d site → 0 < length d.values → 0 < site.budget
       → Contains (eligible set.schemes d.dtype site.history) m → m.splits d site ≡ parts columns → number < length columns

@@ -1,11 +1,13 @@
 //! The cases of a leaf column's tree that its values alone decide.
 
-ghost use Rattle.std.specs.Prelude.{◌≡◌, ◌<◌, ◌^◌, length};
+ghost use Rattle.std.specs.Prelude.{◌≡◌, ◌<◌, ◌^◌, true, length};
 ghost use Rattle.vx_base.specs.Answers.{Answers, OrMemory};
+ghost use Rattle.vx_base.specs.PlainType.{is_flat};
 ghost use Rattle.vx_model.specs.Column.{column_of};
 ghost use Rattle.vx_model.specs.Leaf.{smaller_or_plain};
 ghost use Rattle.vx_model.specs.Plain.{IsPlain};
 ghost use Rattle.vx_model.specs.Rows.{rows};
+ghost use Rattle.vx_model.specs.TreeType.{tree_type};
 ghost use Rattle.vx_scheme.specs.Contexts.{site_of};
 ghost use Rattle.vx_compressor.specs.ByValue.{IsByValue};
 
@@ -23,7 +25,8 @@ pub(crate) fn by_value(
     plain: &ArrayRef,
     site: &CompressorContext,
 ) -> VortexResult<Option<ArrayRef>>
-    requires { IsPlain plain.now }
+    requires flat { is_flat (tree_type plain.now) ≡ true }
+    requires plain { IsPlain plain.now }
     ensures { OrMemory result (IsByValue (column_of plain.now) (site_of site.now)) }
 {
     if plain.len() == 0 {
@@ -44,6 +47,7 @@ pub(crate) fn by_value(
 
 // The tree where it is smaller than the plain one, else a copy of the plain one.
 fn smaller_or_copy(alloc: Global, tree: ArrayRef, plain: &ArrayRef) -> VortexResult<ArrayRef>
+    requires flat { is_flat (tree_type plain.now) ≡ true }
     requires plain { IsPlain plain.now }
     requires few { length (rows plain.now) < 2 ^ 64 }
     ensures { Answers result (smaller_or_plain (column_of plain.now) tree) }
@@ -57,6 +61,7 @@ fn smaller_or_copy(alloc: Global, tree: ArrayRef, plain: &ArrayRef) -> VortexRes
 
 /// The tree where it is smaller than the plain one, else the plain one.
 pub(crate) fn smaller(tree: ArrayRef, plain: ArrayRef) -> ArrayRef
+    requires flat { is_flat (tree_type plain) ≡ true }
     requires plain { IsPlain plain }
     requires few { length (rows plain) < 2 ^ 64 }
     ensures { result ≡ smaller_or_plain (column_of plain) tree }

@@ -2,7 +2,7 @@
 
 ghost use Rattle.std.specs.Prelude.{◌≡◌, ◌<◌, ◌≤◌, true, IfOk, length, map};
 ghost use Rattle.vx_base.specs.Answers.{Answers, Decided, Makes};
-ghost use Rattle.vx_base.specs.PlainType.{is_leaf};
+ghost use Rattle.vx_base.specs.PlainType.{is_flat, is_leaf};
 ghost use Rattle.vx_model.specs.Cascade.{cascade};
 ghost use Rattle.vx_model.specs.Column.{column_of};
 ghost use Rattle.vx_model.specs.Plain.{IsPlain};
@@ -21,6 +21,7 @@ use crate::bans::{Ban, bans_of};
 use crate::by_value::by_value;
 use crate::distinct::have_own_names;
 use crate::excluded::is_excluded;
+use crate::nested::{column_tree, plain_tree};
 use crate::timestamps::site_or_storage;
 use std::alloc::Global;
 use std::marker::{Brand, Model};
@@ -116,7 +117,7 @@ impl<S: Scheme> CascadingCompressor<S> {
             return self.compress(&array, ctx);
         }
         array.known();
-        owned_tree(self, array, ctx)
+        plain_tree(self, array, ctx)
     }
 
     /// The tree of a child of a site, in place of its parent's scheme: a copy of the child where no scheme may follow the
@@ -144,13 +145,14 @@ impl<S: Scheme> CascadingCompressor<S> {
     }
 }
 
-// The tree of the array's column.
-fn column_tree<S: Scheme>(
+/// The tree of the array's column, which is a leaf column or one of timestamps.
+pub(crate) fn flat_tree<S: Scheme>(
     compressor: &CascadingCompressor<S>,
     array: &ArrayRef,
     ctx: &mut ExecutionCtx,
 ) -> VortexResult<ArrayRef>
-    requires { IsInReach (column_of array.now) max_cascade }
+    requires flat { is_flat (tree_type array.now) ≡ true }
+    requires reach { IsInReach (column_of array.now) max_cascade }
     ensures answer { Answers result (cascade (leaf_tree (setting S.meaning compressor.now ctx.old)) (column_of array.now)) }
     ensures ctx { ctx.new ≡ ctx.old }
 {
@@ -160,12 +162,13 @@ fn column_tree<S: Scheme>(
     by_type(compressor, tree, &site, ctx)
 }
 
-// The tree of a plain tree's column. The plain tree moves to the fresh site.
-fn owned_tree<S: Scheme>(
+/// The same of a plain tree, which moves to the fresh site.
+pub(crate) fn flat_plain_tree<S: Scheme>(
     compressor: &CascadingCompressor<S>,
     plain: ArrayRef,
     ctx: &mut ExecutionCtx,
 ) -> VortexResult<ArrayRef>
+    requires flat { is_flat (tree_type plain) ≡ true }
     requires plain { IsPlain plain }
     requires reach { IsInReach (column_of plain) max_cascade }
     ensures answer { Answers result (cascade (leaf_tree (setting S.meaning compressor.now ctx.old)) (column_of plain)) }
@@ -184,6 +187,7 @@ fn by_type<S: Scheme>(
     site: &CompressorContext,
     ctx: &mut ExecutionCtx,
 ) -> VortexResult<ArrayRef>
+    requires flat { is_flat (tree_type made) ≡ true }
     requires fresh { site_of site.now ≡ fresh }
     requires reach { IsInReach (column_of made) (site_of site.now).budget }
     requires made { made ≡ leaf_tree (setting S.meaning compressor.now ctx.old) (column_of made) (site_of site.now) }
@@ -206,6 +210,7 @@ fn counted<L: Ledger, S: Scheme>(
     site: &CompressorContext,
     ctx: &mut ExecutionCtx,
 ) -> VortexResult<ArrayRef>
+    requires flat { is_flat (tree_type array.now) ≡ true }
     requires reach { IsInReach (column_of array.now) (site_of site.now).budget }
     requires name { blank.name ≡ L.name }
     requires parts { blank.parts ≡ L.parts }
@@ -233,6 +238,7 @@ pub(crate) fn plain_counted<L: Ledger, S: Scheme>(
     site: &CompressorContext,
     ctx: &mut ExecutionCtx,
 ) -> VortexResult<ArrayRef>
+    requires flat { is_flat (tree_type plain) ≡ true }
     requires plain { IsPlain plain }
     requires reach { IsInReach (column_of plain) (site_of site.now).budget }
     requires name { blank.name ≡ L.name }

@@ -1,8 +1,9 @@
 //! Columns of nulls alone, and columns whose valid rows are all equal.
 
-ghost use Rattle.std.specs.Prelude.{◌≡◌, ◌<◌, ◌≢◌, None, Some, length};
+ghost use Rattle.std.specs.Prelude.{◌≡◌, ◌<◌, ◌≢◌, None, Some, length, true};
 ghost use Rattle.vx_base.specs.Answers.{Answers};
 ghost use Rattle.vx_base.specs.PlainScalar.{scalar};
+ghost use Rattle.vx_base.specs.PlainType.{is_flat};
 ghost use Rattle.vx_base.specs.PlainValue.{null};
 ghost use Rattle.vx_model.specs.Column.{column_of};
 ghost use Rattle.vx_model.specs.Leaf.{first_valid, one_value_tree};
@@ -30,7 +31,8 @@ pub enum Shared {
 
 /// What the valid rows of a plain tree share.
 pub(crate) fn shared_of(plain: &ArrayRef) -> Shared
-    requires { IsPlain plain.now }
+    requires flat { is_flat (tree_type plain.now) ≡ true }
+    requires plain { IsPlain plain.now }
     ensures { IsShared (rows plain.now) result }
 {
     let Some(row) = plain.first_valid() else {
@@ -59,6 +61,7 @@ pub(crate) fn null_tree(alloc: Global, plain: &ArrayRef) -> VortexResult<ArrayRe
 
 /// The value of the first valid row in every row, masked where rows are null.
 pub(crate) fn value_tree(alloc: Global, plain: &ArrayRef, row: u64) -> VortexResult<ArrayRef>
+    requires flat { is_flat (tree_type plain.now) ≡ true }
     requires plain { IsPlain plain.now }
     requires in_range { row < length (rows plain.now) }
     requires first { first_valid (rows plain.now) ≡ Some (row_at (rows plain.now) row) }

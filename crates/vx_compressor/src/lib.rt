@@ -12,6 +12,8 @@ mod eligible;
 mod excluded;
 mod judging;
 mod laws;
+mod nested;
+mod offsets;
 mod plain_sample;
 mod sampling;
 mod site;

@@ -1,10 +1,12 @@
 //! The sample of a plain tree.
 
-ghost use Rattle.std.specs.Prelude.{◌<◌, ◌≤◌, ◌^◌, length};
+ghost use Rattle.std.specs.Prelude.{◌≡◌, ◌<◌, ◌≤◌, ◌^◌, length, true};
 ghost use Rattle.vx_base.specs.Answers.{Answers};
+ghost use Rattle.vx_base.specs.PlainType.{is_flat};
 ghost use Rattle.vx_model.specs.Column.{column_of};
 ghost use Rattle.vx_model.specs.Plain.{plain, IsPlain};
 ghost use Rattle.vx_model.specs.Rows.{rows};
+ghost use Rattle.vx_model.specs.TreeType.{tree_type};
 ghost use Rattle.vx_compressor.specs.Sampling.{sample};
 
 use crate::sampling::{is_short, slices};
@@ -19,6 +21,7 @@ pub(crate) fn sample(
     sampled: bool,
     tree: &ArrayRef,
 ) -> VortexResult<ArrayRef>
+    requires flat { is_flat (tree_type tree.now) ≡ true }
     requires some { 0 < length words.now }
     requires few { length (rows tree.now) ≤ 2 ^ 32 }
     requires is_plain { IsPlain tree.now }

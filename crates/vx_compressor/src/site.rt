@@ -1,11 +1,13 @@
 //! The tree of a leaf column at a site. A scheme's parts are sites of their own, so the methods call one another in a
 //! circle, which ends by the budget.
 
-ghost use Rattle.std.specs.Prelude.{◌≡◌, ◌<◌, All, length, map, option_map};
+ghost use Rattle.std.specs.Prelude.{◌≡◌, ◌<◌, All, length, map, option_map, true};
 ghost use Rattle.vx_base.specs.Answers.{Answers, OrMemory};
+ghost use Rattle.vx_base.specs.PlainType.{is_flat};
 ghost use Rattle.vx_model.specs.Column.{column_of};
 ghost use Rattle.vx_model.specs.Leaf.{chosen_or_plain};
 ghost use Rattle.vx_model.specs.Plain.{IsPlain};
+ghost use Rattle.vx_model.specs.TreeType.{tree_type};
 ghost use Rattle.vx_scheme.specs.Asked.{HasValue};
 ghost use Rattle.vx_scheme.specs.Contexts.{site_of, options_of};
 ghost use Rattle.vx_compressor.specs.Cascade.{setting, deferred_score, eligible, choice, chosen, children_of, leaf_tree};
@@ -35,6 +37,7 @@ impl<S: Scheme> CascadingCompressor<S> {
         steps: &mut Steps<L>,
     ) -> VortexResult<ArrayRef>
         requires words { 0 < length words.now }
+        requires flat { is_flat (tree_type canonical) ≡ true }
         requires reach { IsInReach (column_of canonical) (site_of site.now).budget }
         requires plain { IsPlain canonical }
         ensures answer { Answers result (leaf_tree (setting S.meaning self.now words.now) (column_of canonical) (site_of site.now)) }

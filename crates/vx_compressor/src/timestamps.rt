@@ -2,7 +2,7 @@
 
 ghost use Rattle.std.specs.Prelude.{◌≡◌, ◌<◌, ◌^◌, nat_lt, None, true, if◌then◌else◌};
 ghost use Rattle.vx_base.specs.Answers.{Answers};
-ghost use Rattle.vx_base.specs.PlainType.{is_timestamp};
+ghost use Rattle.vx_base.specs.PlainType.{is_flat, is_timestamp};
 ghost use Rattle.vx_model.specs.Cascade.{cascade, is_one_value};
 ghost use Rattle.vx_model.specs.Column.{column_of};
 ghost use Rattle.vx_model.specs.Plain.{IsPlain};
@@ -65,6 +65,7 @@ fn storage_tree<S: Scheme>(
     site: &CompressorContext,
     ctx: &mut ExecutionCtx,
 ) -> VortexResult<ArrayRef>
+    requires flat { is_flat (tree_type storage) ≡ true }
     requires plain { IsPlain storage }
     requires whole { timestamp_refusal storage ≡ None }
     requires reach { IsInReach (column_of storage) (site_of site.now).budget }

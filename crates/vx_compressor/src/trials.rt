@@ -1,10 +1,12 @@
 //! What a scheme makes of a column, on a sample or on the whole, and how its parts become trees.
 
-ghost use Rattle.std.specs.Prelude.{◌≡◌, ◌<◌, ◌++◌, [], ◌∷◌, All, length, map};
+ghost use Rattle.std.specs.Prelude.{◌≡◌, ◌<◌, ◌++◌, [], ◌∷◌, All, length, map, true};
 ghost use Rattle.vx_base.specs.Answers.{Answers};
+ghost use Rattle.vx_base.specs.PlainType.{is_flat};
 ghost use Rattle.vx_model.specs.Column.{column_of};
 ghost use Rattle.vx_model.specs.Plain.{IsPlain};
 ghost use Rattle.vx_model.specs.Site.{down};
+ghost use Rattle.vx_model.specs.TreeType.{tree_type};
 ghost use Rattle.vx_scheme.specs.Asked.{IsSiteTree};
 ghost use Rattle.vx_scheme.specs.Bundle.{SameArray};
 ghost use Rattle.vx_scheme.specs.Contexts.{site_of, options_of};
@@ -93,6 +95,7 @@ impl<S: Scheme> CascadingCompressor<S> {
     ) -> VortexResult<Arrays>
         requires words { 0 < length words.now }
         requires plain { All IsPlain parts }
+        requires flat { All (λ part. is_flat (tree_type part) ≡ true) parts }
         requires reach { All (λ part. IsPartInReach (column_of part) (site_of site.now).budget) parts }
         ensures answer { Answers result (part_trees (children_of (setting S.meaning self.now words.now) (site_of site.now)) (name_of id) (site_of site.now) 0 (map column_of parts)) }
         ensures ctx { ctx.new ≡ ctx.old }
@@ -120,6 +123,7 @@ impl<S: Scheme> CascadingCompressor<S> {
     ) -> VortexResult<ArrayRef>
         requires words { 0 < length words.now }
         requires plain { IsPlain part }
+        requires flat { is_flat (tree_type part) ≡ true }
         requires reach { IsPartInReach (column_of part) (site_of parent.now).budget }
         ensures answer { Answers result (child_tree (setting S.meaning self.now words.now) (site_of parent.now).budget (column_of part) (down (site_of parent.now) (name_of id) number)) }
         ensures ctx { ctx.new ≡ ctx.old }
@@ -132,8 +136,8 @@ impl<S: Scheme> CascadingCompressor<S> {
     }
 }
 
-// The trees with one more, last.
-fn with_tree(mut trees: Arrays, tree: ArrayRef) -> VortexResult<Arrays>
+/// The trees with one more, last.
+pub(crate) fn with_tree(mut trees: Arrays, tree: ArrayRef) -> VortexResult<Arrays>
     ensures { Answers result (trees ++ tree ∷ []) }
 {
     match trees.push(tree) {

@@ -5,7 +5,7 @@ use Rattle.std.specs.Str.{is_utf8}
 use Rattle.std.specs.declared.alloc.Global.{Global}
 use Rattle.std.proofs.lemmas.List.{map-append}
 use Rattle.serde_json.specs.Data as json
-use Rattle.serde_json.specs.Data.{Data}
+use Rattle.serde_json.specs.Data.{Data, Items}
 use Rattle.serde_json.specs.Find.{as_null, as_bool, as_str}
 use Rattle.serde_json.specs.View.{view, items_view}
 use Rattle.serde_json.specs.declared.value.Value.{Value}
@@ -13,43 +13,27 @@ use Rattle.vx_base.specs.declared.dtype.Nullability.{Nullability}
 use Rattle.vx_base.specs.declared.dtype.Nullability.TheVariants.{NonNullable, Nullable}
 use Rattle.vx_base.specs.Defaults.{or_default}
 use Rattle.vx_base.specs.PlainScalar.{fits}
-use Rattle.vx_base.specs.PlainType.{PlainType, boolean, primitive, utf8, binary, timestamp, allows_null, nullability_of, with_nullability}
+use Rattle.vx_base.specs.PlainType.{PlainType, null_type, boolean, primitive, utf8, binary, timestamp, structure, list, fixed_size_list, allows_null, nullability_of, with_nullability}
 use Rattle.vx_base.specs.PlainValue.{PlainValue, null, truth, int, bytes, is_null, is_short}
+use Rattle.vx_base.specs.PlainValue as vals
+use Rattle.vx_base.proofs.TypeLemmas.{fits-with, is_nullable-with}
 use Rattle.vx_model.specs.Tree.{Validity}
 use Rattle.vx_document.specs.declared.document.unread.Unread.{Unread}
 use Rattle.vx_document.specs.declared.document.unread.Unread.TheVariants.{NoMemory, BadDocument}
 use Rattle.vx_document.specs.Reading.{◌>>=◌, when, all_by, Gives}
-use Rattle.vx_document.specs.RowsOf.{AreRows, bits_of, bytes_of_digits, row_of, some_of, whole_of}
+use Rattle.vx_document.specs.RowsOf.{AreRows, bits_of, bytes_of_digits, cell_of, field_cells, item_cells, row_of, some_of, whole_of}
 use Rattle.vx_document.proofs.Documents.{with_left, with_left_first, with_left_more, with_left_none, with_left_last}
 
 -- ---- a row, by whether it is null
 
-same_fit : (t : PlainType) (n : Nullability) (v : PlainValue) → is_null v ≡ false → fits (with_nullability t n) v ≡ fits t v
-same_fit t n null e = absurd cc
-same_fit (boolean m) n (truth b) e = refl
-same_fit (boolean m) n (int z) e = refl
-same_fit (boolean m) n (bytes bs) e = refl
-same_fit (primitive p m) n (truth b) e = refl
-same_fit (primitive p m) n (int z) e = refl
-same_fit (primitive p m) n (bytes bs) e = refl
-same_fit (utf8 m) n (truth b) e = refl
-same_fit (utf8 m) n (int z) e = refl
-same_fit (utf8 m) n (bytes bs) e = refl
-same_fit (binary m) n (truth b) e = refl
-same_fit (binary m) n (int z) e = refl
-same_fit (binary m) n (bytes bs) e = refl
-same_fit (timestamp k m) n (truth b) e = refl
-same_fit (timestamp k m) n (int z) e = refl
-same_fit (timestamp k m) n (bytes bs) e = refl
-
 -- what fits of what is read
-abbrev fitting : PlainType → Option PlainValue → Option PlainValue
+abbrev pub fitting : PlainType → Option PlainValue → Option PlainValue
 fitting t o = o >>= (λ v. when (fits t v) >>= (λ u. Some v))
 
 -- a value that isn't null fits a type whatever its nullability
 fitting-some : {A : Type 0} (value : A → PlainValue) → ((x : A) → is_null (value x) ≡ false) → (t : PlainType) (n : Nullability) (o : Option A) → fitting (with_nullability t n) (option_map value o) ≡ fitting t (option_map value o)
 fitting-some value some t n None = refl
-fitting-some value some t n (Some x) = ap (λ b. when b >>= (λ u. Some (value x))) (same_fit t n (value x) (some x))
+fitting-some value some t n (Some x) = ap (λ b. when b >>= (λ u. Some (value x))) (fits-with t n (value x) (some x))
 
 some-row : (t : PlainType) (n : Nullability) (d : Data) → fitting (with_nullability t n) (some_of (with_nullability t n) d) ≡ fitting t (some_of t d)
 some-row (boolean m) n d = fitting-some truth (λ b. refl) (boolean m) n (as_bool d)
@@ -57,26 +41,46 @@ some-row (primitive p m) n d = fitting-some int (λ z. refl) (primitive p m) n (
 some-row (utf8 m) n d = fitting-some bytes (λ bs. refl) (utf8 m) n (as_str d)
 some-row (binary m) n d = fitting-some bytes (λ bs. refl) (binary m) n (as_str d >>= bytes_of_digits)
 some-row (timestamp k m) n d = fitting-some int (λ z. refl) (timestamp k m) n (whole_of d)
+some-row null_type n d = refl
+some-row (structure fs m) n d = refl
+some-row (list t m) n d = refl
+some-row (fixed_size_list t size m) n d = refl
 
-nullability-with : (t : PlainType) (n : Nullability) → nullability_of (with_nullability t n) ≡ n
-nullability-with (boolean m) n = refl
-nullability-with (primitive p m) n = refl
-nullability-with (utf8 m) n = refl
-nullability-with (binary m) n = refl
-nullability-with (timestamp k m) n = refl
+array-row : (t : PlainType) (n : Nullability) (ds : Items) → fitting (with_nullability t n) (cell_of (with_nullability t n) (json.array ds)) ≡ fitting t (cell_of t (json.array ds))
+array-row (boolean m) n ds = refl
+array-row (primitive p m) n ds = refl
+array-row (utf8 m) n ds = refl
+array-row (binary m) n ds = refl
+array-row (timestamp k m) n ds = refl
+array-row null_type n ds = refl
+array-row (structure fs m) n ds = fitting-some vals.items (λ vs. refl) (structure fs m) n (field_cells fs ds)
+array-row (list t m) n ds = fitting-some vals.items (λ vs. refl) (list t m) n (item_cells t ds)
+array-row (fixed_size_list t size m) n ds = fitting-some vals.items (λ vs. refl) (fixed_size_list t size m) n (item_cells t ds)
 
-null-row : (t : PlainType) (b : Bool) → allows_null (nullability_of t) ≡ b → fitting t (Some null) ≡ cond b (Some null) None
+-- nulls alone have one nullability
+nullability-with : (t : PlainType) (n : Nullability) → nullability_of t ≡ NonNullable → nullability_of (with_nullability t n) ≡ n
+nullability-with null_type n e = absurd cc
+nullability-with (boolean m) n e = refl
+nullability-with (primitive p m) n e = refl
+nullability-with (utf8 m) n e = refl
+nullability-with (binary m) n e = refl
+nullability-with (timestamp k m) n e = refl
+nullability-with (structure fs m) n e = refl
+nullability-with (list t m) n e = refl
+nullability-with (fixed_size_list t size m) n e = refl
+
+pub null-row : (t : PlainType) (b : Bool) → allows_null (nullability_of t) ≡ b → fitting t (Some null) ≡ cond b (Some null) None
 null-row t true e = rw e refl
 null-row t false e = rw e refl
 
 -- null is a row of a nullable type
 pub row-null : (t : PlainType) (n : Nullability) (d : Data) → is_some (as_null d) ≡ true → allows_null n ≡ true → row_of (with_nullability t n) d ≡ Some null
 unfolding row_of
-row-null t n json.null e f = null-row (with_nullability t n) true (ap allows_null (nullability-with t n) ∙ f)
+row-null t n json.null e f = null-row (with_nullability t n) true (is_nullable-with t n f)
 row-null t n d e f = absurd cc
 
 both_none : (t : PlainType) (n : Nullability) → nullability_of t ≡ NonNullable → allows_null n ≡ false → fitting (with_nullability t n) (Some null) ≡ fitting t (Some null)
-both_none t n e f = null-row (with_nullability t n) false (ap allows_null (nullability-with t n) ∙ f) ∙ sym (null-row t false (ap allows_null e))
+both_none t n e f = null-row (with_nullability t n) false (ap allows_null (nullability-with t n e) ∙ f) ∙ sym (null-row t false (ap allows_null e))
 
 -- what isn't one is a row of the type without nulls, or none
 pub row-some : (t : PlainType) (n : Nullability) (d : Data) → nullability_of t ≡ NonNullable → (is_some (as_null d) ≡ true → allows_null n ≡ false) → row_of (with_nullability t n) d ≡ row_of t d
@@ -85,8 +89,8 @@ row-some t n json.null e f = both_none t n e (f refl)
 row-some t n (json.boolean b) e f = some-row t n (json.boolean b)
 row-some t n (json.number x) e f = some-row t n (json.number x)
 row-some t n (json.string s) e f = some-row t n (json.string s)
-row-some t n (json.array ds) e f = some-row t n (json.array ds)
-row-some t n (json.object ms) e f = some-row t n (json.object ms)
+row-some t n (json.array ds) e f = array-row t n ds
+row-some t n (json.object ms) e f = refl
 
 -- a text of few bytes is a row
 pub text-row : (text : List ℕ) (r : Result (List ℕ) Unread) → is_utf8 text ≡ true → Gives (λ (bs : List ℕ). bs) r (option_map (λ u. text) (when (is_short text))) → Gives bytes r (row_of (utf8 NonNullable) (json.string text))

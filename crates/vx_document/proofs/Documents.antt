@@ -1,6 +1,6 @@
 -- A document's parts, one item or member at a time.
-use Rattle.std.proofs.Common.{◌≡◌, ℕ, List, [], ◌∷◌, ◌++◌, length, map, Bool, cond, true, false, Option, Some, None, option_map, refl, sym, ap, append_assoc, arith, rules}
-use Rattle.std.specs.Prelude.{◌||◌, String, string_bytes}
+use Rattle.std.proofs.Common.{◌≡◌, ℕ, List, [], ◌∷◌, ◌++◌, length, map, Bool, cond, true, false, Option, Some, None, Err, option_map, refl, sym, ap, append_assoc, arith, rules}
+use Rattle.std.specs.Prelude.{◌||◌, is_some, String, string_bytes}
 use Rattle.std.specs.declared.alloc.Global.{Global}
 use Rattle.std.specs.List.{list_any}
 use Rattle.std.specs.Str.{IsUtf8, is_utf8}
@@ -11,7 +11,9 @@ use Rattle.serde_json.specs.Read.{read}
 use Rattle.serde_json.specs.View.{view, items_view}
 use Rattle.serde_json.specs.declared.value.Value.{Value, the_lemmas}
 use Rattle.serde_json.specs.declared.value.Value as values
-use Rattle.vx_document.specs.Reading.{value_of, all_by}
+use Rattle.vx_document.specs.declared.document.unread.Unread.{Unread}
+use Rattle.vx_document.specs.declared.document.unread.Unread.TheVariants.{NoMemory, BadDocument}
+use Rattle.vx_document.specs.Reading.{value_of, all_by, Gives}
 
 pub value_of-text : (bytes : List ℕ) (o : Option Data) → IsUtf8 bytes → read bytes ≡ o → value_of bytes ≡ o
 unfolding value_of
@@ -28,6 +30,15 @@ view-String s = search (rules, the_lemmas)
 pub list_any-map : {A B : Type 0} (test : B → Bool) (f : A → B) (xs : List A) → list_any (λ x. test (f x)) xs ≡ list_any test (map f xs)
 list_any-map test f [] = refl
 list_any-map test f (x ∷ xs) = ap (λ b. test (f x) || b) (list_any-map test f xs)
+
+pub is_some-option_map : {A B : Type 0} (f : A → B) (o : Option A) → is_some (option_map f o) ≡ is_some o
+is_some-option_map f None = refl
+is_some-option_map f (Some x) = refl
+
+-- an error of a part is one of the whole
+pub Gives-err : {X Y W Z : Type 0} (f : X → Y) (g : W → Z) (e : Unread) (o : Option Y) (whole : Option Z) → (o ≡ None → whole ≡ None) → Gives f (Err e) o → Gives g (Err e) whole
+Gives-err f g NoMemory o whole h k = tt
+Gives-err f g BadDocument o whole h k = h k
 
 module _ {A : Type 0} (f : Data → Option A) where
   -- those that are read, and then the values that are left

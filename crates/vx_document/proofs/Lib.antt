@@ -1,5 +1,10 @@
-pub mod DocumentColumns
+pub mod DocumentCells
 pub mod DocumentRows
+pub mod DocumentTypes
 pub mod DocumentWords
 pub mod Documents
+pub mod FlatColumns
+pub mod Listings
+pub mod ReadColumns
 pub mod StandardFacts
+pub mod VariantRows

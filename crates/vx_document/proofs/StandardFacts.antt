@@ -1,10 +1,10 @@
 -- Worked values, written by hand, so that a wrong rule in the definitions does not check.
-use Rattle.std.proofs.Common.{◌≡◌, ◌^◌, negsuc, [], ◌∷◌, true, Some, None, codes, refl}
+use Rattle.std.proofs.Common.{◌≡◌, ◌^◌, ◌-◌, ℕ, pos, negsuc, [], ◌∷◌, true, Some, None, codes, refl}
 use Rattle.hex.proofs.OnLiterals.{hex_on_literals}
 use Rattle.rand_core.specs.Pcg32Seed.{pcg32_seed}
 use Rattle.rand_core.specs.Steps.{first_words, u32_at, word_bytes}
 use Rattle.rand_pcg.specs.Pcg.{pcg32, pcg32_of_seed}
-use Rattle.serde_json.specs.Data.{unsigned, negative, null, boolean, number, string, Members, no_members, member}
+use Rattle.serde_json.specs.Data.{Data, unsigned, negative, null, boolean, number, string, array, object, Items, no_items, item, Members, no_members, member}
 use Rattle.vx_base.specs.declared.dtype.Nullability.TheVariants.{NonNullable, Nullable}
 use Rattle.vx_base.specs.declared.ptype.PType.TheVariants.{U8}
 use Rattle.vx_base.specs.declared.timestamp.TimeUnit.TheVariants.{Microseconds, Seconds}
@@ -12,7 +12,7 @@ use Rattle.vx_base.specs.PlainType as types
 use Rattle.vx_base.specs.PlainValue as values
 use Rattle.vx_base.specs.Timestamps.{kind}
 use Rattle.vx_document.specs.RowsOf.{row_of}
-use Rattle.vx_document.specs.Types.{type_named, unit_named, timestamp_of}
+use Rattle.vx_document.specs.Types.{type_named, type_read, unit_named, timestamp_of}
 use Rattle.vx_document.specs.Words.{words_in}
 
 -- ---- types
@@ -29,6 +29,43 @@ zoned = member (codes "timestamp") (string (codes "s")) (member (codes "zone") (
 pub with_zone : (timestamp_of zoned ≡ Some (types.timestamp (kind Seconds (Some (codes "UTC"))) NonNullable)) × (timestamp_of (member (codes "timestamp") (string (codes "s")) (member (codes "zone") null no_members)) ≡ None)
 unfolding timestamp_of unit_named
 with_zone = (refl, refl)
+
+-- ---- types with types within
+
+abbrev of_u8 : Members
+of_u8 = member (codes "list") (string (codes "u8")) no_members
+
+abbrev flagged : Data → Members
+flagged d = member (codes "list") (string (codes "u8")) (member (codes "nullable") d no_members)
+
+-- lists, with and without a flag; a flag that is null, and one that is a number
+pub lists : (type_read (object of_u8) ≡ Some (types.list (types.primitive U8 NonNullable) NonNullable)) × (type_read (object (flagged (boolean true))) ≡ Some (types.list (types.primitive U8 NonNullable) Nullable))
+    × (type_read (object (flagged null)) ≡ None) × (type_read (object (flagged (number (unsigned 1)))) ≡ None)
+unfolding type_named
+lists = (refl, refl, refl, refl)
+
+abbrev sized : Data → Members
+sized d = member (codes "fixed") (string (codes "bool?")) (member (codes "size") d no_members)
+
+-- a size of 2^32 - 1, and of 2^32; no size
+pub sizes : (type_read (object (sized (number (unsigned (2 ^ 32 - 1))))) ≡ Some (types.fixed_size_list (types.boolean Nullable) (2 ^ 32 - 1) NonNullable))
+    × (type_read (object (sized (number (unsigned (2 ^ 32))))) ≡ None) × (type_read (object (member (codes "fixed") (string (codes "bool?")) no_members)) ≡ None)
+unfolding type_named
+sizes = (refl, refl, refl)
+
+abbrev named_a : Data → Data
+named_a d = array (item (string (codes "a")) (item d no_items))
+
+abbrev fields : Data
+fields = array (item (named_a (string (codes "u8"))) (item (named_a (object of_u8)) no_items))
+
+-- two fields of one name in their order; a key that no struct has; a field that is no pair
+pub structs : (type_read (object (member (codes "struct") fields no_members))
+    ≡ Some (types.structure (types.more (codes "a") (types.primitive U8 NonNullable) (types.more (codes "a") (types.list (types.primitive U8 NonNullable) NonNullable) types.none)) NonNullable))
+    × (type_read (object (member (codes "struct") fields (member (codes "zone") null no_members))) ≡ None)
+    × (type_read (object (member (codes "struct") (array (item (array (item (string (codes "a")) no_items)) no_items)) no_members)) ≡ None)
+unfolding type_named
+structs = (refl, refl, refl)
 
 -- ---- rows
 
@@ -51,6 +88,31 @@ digits = (refl, refl)
 pub stamps : (row_of (types.timestamp (kind Seconds None) NonNullable) (number (negative (negsuc 0))) ≡ Some (values.int (negsuc 0))) × (row_of (types.timestamp (kind Seconds None) NonNullable) (number (unsigned (2 ^ 63))) ≡ None)
 unfolding row_of
 stamps = (refl, refl)
+
+abbrev numbers : ℕ → ℕ → Data
+numbers m n = array (item (number (unsigned m)) (item (number (unsigned n)) no_items))
+
+-- a list of an integer and null; a list with an integer that its type doesn't hold
+pub list_rows : (row_of (types.list (types.primitive U8 Nullable) NonNullable) (array (item (number (unsigned 7)) (item null no_items)))
+    ≡ Some (values.items (values.more (values.int (pos 7)) (values.more values.null values.none))))
+    × (row_of (types.list (types.primitive U8 Nullable) NonNullable) (numbers 7 256) ≡ None)
+unfolding row_of
+list_rows = (refl, refl)
+
+-- two values where the size is two, and where it is three
+pub fixed_rows : (row_of (types.fixed_size_list (types.primitive U8 NonNullable) 2 NonNullable) (numbers 7 8) ≡ Some (values.items (values.more (values.int (pos 7)) (values.more (values.int (pos 8)) values.none))))
+    × (row_of (types.fixed_size_list (types.primitive U8 NonNullable) 3 NonNullable) (numbers 7 8) ≡ None)
+unfolding row_of
+fixed_rows = (refl, refl)
+
+abbrev one_field : types.PlainFields
+one_field = types.more (codes "a") (types.primitive U8 NonNullable) types.none
+
+-- a value for a field, and two; null of structs that may be null
+pub struct_rows : (row_of (types.structure one_field Nullable) (array (item (number (unsigned 7)) no_items)) ≡ Some (values.items (values.more (values.int (pos 7)) values.none)))
+    × (row_of (types.structure one_field Nullable) (numbers 7 8) ≡ None) × (row_of (types.structure one_field Nullable) null ≡ Some values.null)
+unfolding row_of
+struct_rows = (refl, refl, refl)
 
 -- ---- words
 

@@ -3,7 +3,7 @@ use Rattle.std.specs.Prelude.{ℕ, List, [], ◌∷◌, ◌++◌, length, decima
 use Rattle.std.specs.List.{concat}
 use Rattle.vx_base.specs.IdName.{id_name}
 use Rattle.vx_base.specs.TypeText.{type_text, value_text}
-use Rattle.vx_model.specs.Tree.{Tree, bool, primitive, var_bin_view, var_bin, timestamp, constant, masked, bit_packed, bit_packed_with, frame_of_reference, zig_zag, dict}
+use Rattle.vx_model.specs.Tree.{Tree, Trees, bool, primitive, var_bin_view, var_bin, timestamp, constant, masked, bit_packed, bit_packed_with, frame_of_reference, zig_zag, dict, nulls, structure, list, fixed_size_list, none, more}
 use Rattle.vx_model.specs.Nodes.{encoding}
 use Rattle.vx_model.specs.TreeType.{tree_type}
 use Rattle.vx_model.specs.Rows.{rows}
@@ -27,6 +27,10 @@ own_numbers (bit_packed_with k len offset indices values) = packed_numbers k.wid
 own_numbers (frame_of_reference encoded reference) = codes " reference=" ++ value_text reference.dtype reference.value
 own_numbers (zig_zag encoded) = []
 own_numbers (dict places values) = []
+own_numbers (nulls len) = []
+own_numbers (structure names fields len valid n) = []
+own_numbers (list elements offsets valid n) = []
+own_numbers (fixed_size_list elements size len valid n) = codes " list_size=" ++ decimal size
 
 -- the root's encoding, type, rows and bytes
 unfoldable pub heading : Tree → List ℕ
@@ -42,20 +46,30 @@ abbrev pub deeper : List ℕ → List ℕ
 deeper indent = concat (indent ∷ codes "  " ∷ [])
 
 -- the root's line, and then the deeper listings of the trees inside
-abbrev pub listing : List ℕ → Tree → List ℕ
-listing indent (bool bs valid n) = line indent (bool bs valid n)
-listing indent (primitive p xs valid n) = line indent (primitive p xs valid n)
-listing indent (var_bin_view vs valid t) = line indent (var_bin_view vs valid t)
-listing indent (var_bin offsets bytes valid t) = line indent (var_bin offsets bytes valid t) ++ listing (deeper indent) offsets
-listing indent (timestamp storage k) = line indent (timestamp storage k) ++ listing (deeper indent) storage
-listing indent (constant s len) = line indent (constant s len)
-listing indent (masked child valid) = line indent (masked child valid) ++ listing (deeper indent) child
-listing indent (bit_packed k) = line indent (bit_packed k)
-listing indent (bit_packed_with k len offset indices values) =
-    line indent (bit_packed_with k len offset indices values) ++ listing (deeper indent) indices ++ listing (deeper indent) values
-listing indent (frame_of_reference encoded reference) = line indent (frame_of_reference encoded reference) ++ listing (deeper indent) encoded
-listing indent (zig_zag encoded) = line indent (zig_zag encoded) ++ listing (deeper indent) encoded
-listing indent (dict places values) = line indent (dict places values) ++ listing (deeper indent) places ++ listing (deeper indent) values
+abbrev mutual
+  pub listing : List ℕ → Tree → List ℕ
+  listing indent (bool bs valid n) = line indent (bool bs valid n)
+  listing indent (primitive p xs valid n) = line indent (primitive p xs valid n)
+  listing indent (var_bin_view vs valid t) = line indent (var_bin_view vs valid t)
+  listing indent (var_bin offsets bytes valid t) = line indent (var_bin offsets bytes valid t) ++ listing (deeper indent) offsets
+  listing indent (timestamp storage k) = line indent (timestamp storage k) ++ listing (deeper indent) storage
+  listing indent (constant s len) = line indent (constant s len)
+  listing indent (masked child valid) = line indent (masked child valid) ++ listing (deeper indent) child
+  listing indent (bit_packed k) = line indent (bit_packed k)
+  listing indent (bit_packed_with k len offset indices values) =
+      line indent (bit_packed_with k len offset indices values) ++ listing (deeper indent) indices ++ listing (deeper indent) values
+  listing indent (frame_of_reference encoded reference) = line indent (frame_of_reference encoded reference) ++ listing (deeper indent) encoded
+  listing indent (zig_zag encoded) = line indent (zig_zag encoded) ++ listing (deeper indent) encoded
+  listing indent (dict places values) = line indent (dict places values) ++ listing (deeper indent) places ++ listing (deeper indent) values
+  listing indent (nulls len) = line indent (nulls len)
+  listing indent (structure names fields len valid n) = line indent (structure names fields len valid n) ++ listings (deeper indent) fields
+  listing indent (list elements offsets valid n) = line indent (list elements offsets valid n) ++ listing (deeper indent) elements ++ listing (deeper indent) offsets
+  listing indent (fixed_size_list elements size len valid n) = line indent (fixed_size_list elements size len valid n) ++ listing (deeper indent) elements
+
+  -- of several trees, one after the other
+  pub listings : List ℕ → Trees → List ℕ
+  listings indent none = []
+  listings indent (more t ts) = listing indent t ++ listings indent ts
 
 -- the bytes of the plain tree and of the compressed one
 unfoldable pub sizes_line : ℕ → ℕ → List ℕ

@@ -25,6 +25,11 @@ abbrev pub all_by : {A : Type 0} → (Data → Option A) → Items → Option (L
 all_by f no_items = Some []
 all_by f (item d ds) = option_and_then (λ x. option_map (λ xs. x ∷ xs) (all_by f ds)) (f d)
 
+-- the two items of a list that has no more
+abbrev pub pair_of : {A : Type 0} → List A → Option (A × A)
+pair_of (a ∷ b ∷ []) = Some (a, b)
+pair_of _ = None
+
 -- the key is one of these
 abbrev pub is_one_of : List (List ℕ) → List ℕ → Bool
 is_one_of names key = list_any (λ name. bytes_eq name key) names

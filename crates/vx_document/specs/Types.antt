@@ -1,14 +1,14 @@
--- The type that a document names: a text, or an object for timestamps with a zone.
-use Rattle.std.specs.Prelude.{ℕ, List, [], ◌∷◌, ◌++◌, find, Bool, true, false, Option, Some, None, option_map, codes}
+-- The type that a document names: a text, or an object for structs, lists, lists of fixed size and timestamps.
+use Rattle.std.specs.Prelude.{ℕ, ◌^◌, nat_lt, List, [], ◌∷◌, ◌++◌, find, Bool, true, false, if◌then◌else◌, Option, Some, None, is_some, option_map, codes}
 use Rattle.std.specs.Str.{bytes_eq}
-use Rattle.serde_json.specs.Data.{Data, string, object, Members}
-use Rattle.serde_json.specs.Find.{get_member, as_bool, as_str}
+use Rattle.serde_json.specs.Data.{Data, string, array, object, Items, no_items, item, Members, no_members, member}
+use Rattle.serde_json.specs.Find.{get_member, as_bool, as_number, as_str, as_u64}
 use Rattle.vx_base.specs.declared.dtype.Nullability.{Nullability}
 use Rattle.vx_base.specs.declared.dtype.Nullability.TheVariants.{NonNullable, Nullable}
 use Rattle.vx_base.specs.declared.ptype.PType.TheVariants.{U8, U16, U32, U64, I8, I16, I32, I64}
 use Rattle.vx_base.specs.declared.timestamp.TimeUnit.{TimeUnit}
 use Rattle.vx_base.specs.declared.timestamp.TimeUnit.TheVariants.{Nanoseconds, Microseconds, Milliseconds, Seconds}
-use Rattle.vx_base.specs.PlainType.{PlainType, boolean, primitive, utf8, binary, timestamp}
+use Rattle.vx_base.specs.PlainType.{PlainType, null_type, boolean, primitive, utf8, binary, timestamp, structure, list, fixed_size_list, of_fields}
 use Rattle.vx_base.specs.Timestamps.{kind}
 use Rattle.vx_base.specs.TypeText.{type_text, unit_text}
 use Rattle.vx_document.specs.Reading.{◌>>=◌, when, has_only}
@@ -21,7 +21,7 @@ named_types n =
 
 -- the one whose text it is
 unfoldable pub type_named : List ℕ → Option PlainType
-type_named text = find (λ t. bytes_eq text (type_text t)) (named_types NonNullable ++ named_types Nullable)
+type_named text = find (λ t. bytes_eq text (type_text t)) (null_type ∷ named_types NonNullable ++ named_types Nullable)
 
 -- the unit whose text it is; days are none
 unfoldable pub unit_named : List ℕ → Option TimeUnit
@@ -55,8 +55,76 @@ timestamp_of members = do
   n ← nullability_in (get_member (codes "nullable") members)
   Some (timestamp (kind unit zone) n)
 
--- a text, or the object of a timestamp
-abbrev pub type_read : Data → Option PlainType
-type_read (string text) = type_named text
-type_read (object members) = timestamp_of members
-type_read _ = None
+-- a whole number from 0 to 2^32 - 1
+abbrev pub size_in : Option Data → Option ℕ
+size_in o = do
+  d ← o
+  number ← as_number d
+  size ← as_u64 number
+  _ ← when (nat_lt size (2 ^ 32))
+  Some size
+
+-- structs of these fields; no other key stands in the object
+abbrev pub structs_of : Members → Option (List (List ℕ × PlainType)) → Option PlainType
+structs_of members fields = do
+  _ ← when (has_only (codes "struct" ∷ codes "nullable" ∷ []) members)
+  fs ← fields
+  n ← nullability_in (get_member (codes "nullable") members)
+  Some (structure (of_fields fs) n)
+
+-- lists of this type
+abbrev pub lists_of : Members → Option PlainType → Option PlainType
+lists_of members items = do
+  _ ← when (has_only (codes "list" ∷ codes "nullable" ∷ []) members)
+  t ← items
+  n ← nullability_in (get_member (codes "nullable") members)
+  Some (list t n)
+
+-- lists of this type and one size
+abbrev pub fixed_lists_of : Members → Option PlainType → Option PlainType
+fixed_lists_of members items = do
+  _ ← when (has_only (codes "fixed" ∷ codes "size" ∷ codes "nullable" ∷ []) members)
+  t ← items
+  size ← size_in (get_member (codes "size") members)
+  n ← nullability_in (get_member (codes "nullable") members)
+  Some (fixed_size_list t size n)
+
+-- the key stands in the object
+abbrev pub has : List ℕ → Members → Bool
+has key members = is_some (get_member key members)
+
+-- A text, or an object: of a struct's fields, each a list of a name and a type; of a list's items, with or without a
+-- size; or of a timestamp.
+abbrev mutual
+  pub type_read : Data → Option PlainType
+  type_read (string text) = type_named text
+  type_read (object members) =
+      if has (codes "struct") members then structs_of members (fields_at (codes "struct") members)
+      else (if has (codes "list") members then lists_of members (type_at (codes "list") members)
+      else (if has (codes "fixed") members then fixed_lists_of members (type_at (codes "fixed") members) else timestamp_of members))
+  type_read _ = None
+
+  -- the type that the key's value is
+  pub type_at : List ℕ → Members → Option PlainType
+  type_at key no_members = None
+  type_at key (member k d ms) = if bytes_eq key k then type_read d else type_at key ms
+
+  -- the fields that the key's value is
+  pub fields_at : List ℕ → Members → Option (List (List ℕ × PlainType))
+  fields_at key no_members = None
+  fields_at key (member k d ms) = if bytes_eq key k then fields_in d else fields_at key ms
+
+  -- a list of fields
+  pub fields_in : Data → Option (List (List ℕ × PlainType))
+  fields_in (array ds) = fields_read ds
+  fields_in _ = None
+
+  -- a field each
+  pub fields_read : Items → Option (List (List ℕ × PlainType))
+  fields_read no_items = Some []
+  fields_read (item d ds) = field_read d >>= (λ f. option_map (λ fs. f ∷ fs) (fields_read ds))
+
+  -- a list of a name and a type
+  pub field_read : Data → Option (List ℕ × PlainType)
+  field_read (array (item (string name) (item d no_items))) = option_map (λ t. (name, t)) (type_read d)
+  field_read _ = None

@@ -4,13 +4,16 @@ ghost use Rattle.std.specs.Prelude.{◌<◌, length, IfOk};
 ghost use Rattle.serde_json.specs.View.{view};
 ghost use Rattle.vx_document.specs.Document.{document_of, document};
 ghost use Rattle.vx_document.specs.Reading.{Gives, value_of};
-ghost use Rattle.vx_model.specs.Column.{column_of};
-ghost use Rattle.vx_model.specs.Plain.{IsPlain};
 
+mod cells;
 mod column;
+mod flat;
 mod kinds;
 mod members;
+mod named_types;
 mod rows;
+mod timestamps;
+mod type_parts;
 mod types;
 mod unread;
 mod words;
@@ -19,17 +22,17 @@ use crate::document::column::read_column;
 use crate::document::members::{has_only, take_member};
 use crate::document::types::read_type;
 use crate::document::words::words_in;
+pub use column::DocumentColumn;
 use serde_json::Value;
 use std::alloc::Global;
 pub use unread::Unread;
-use vx_array::ArrayRef;
 use vx_base::Words;
 
-/// A column as its plain tree, and the words that place its samples.
+/// A column, and the words that place its samples.
 #[derive(Drop)]
 pub struct Document {
-    /// The column, as its plain tree.
-    pub array: ArrayRef,
+    /// The column.
+    pub column: DocumentColumn,
     /// Its sample words, in order.
     pub words: Words,
 }
@@ -61,8 +64,7 @@ fn value_of(alloc: Global, bytes: Vec<u8>) -> Result<Value, Unread>
 // The document that a value is. The list of its rows is let go as they are read.
 #[tactic(auto, unfolding(crate::specs::Document::document_of))]
 fn document_of(alloc: Global, value: Value) -> Result<Document, Unread>
-    ensures document { Gives (λ d. record { column = column_of d.array; words = d.words }) result (document_of (view value)) }
-    ensures plain { IfOk result (λ d. IsPlain d.array) }
+    ensures document { Gives (λ d. record { column = d.column; words = d.words }) result (document_of (view value)) }
     ensures words { IfOk result (λ d. 0 < length d.words) }
 {
     let Value::Object(mut map) = value else {
@@ -79,18 +81,17 @@ fn document_of(alloc: Global, value: Value) -> Result<Document, Unread>
     };
     let words = take_member(&mut map, "words");
     let seed = take_member(&mut map, "seed");
-    let dtype = read_type(dtype)?;
-    let array = read_column(alloc, rows, dtype)?;
+    let dtype = read_type(alloc, dtype)?;
+    let column = read_column(alloc, rows, dtype)?;
     let words = words_in(alloc, words, seed)?;
-    Ok(Document { array, words })
+    Ok(Document { column, words })
 }
 
 /// The document that the bytes are, which are dropped before its rows are made. Refuses BadDocument where they are none,
 /// and NoMemory where memory runs out.
 #[tactic(auto, unfolding(crate::specs::Document::document))]
 pub fn read_document(alloc: Global, bytes: Vec<u8>) -> Result<Document, Unread>
-    ensures document { Gives (λ d. record { column = column_of d.array; words = d.words }) result (document bytes.items) }
-    ensures plain { IfOk result (λ d. IsPlain d.array) }
+    ensures document { Gives (λ d. record { column = d.column; words = d.words }) result (document bytes.items) }
     ensures words { IfOk result (λ d. 0 < length d.words) }
 {
     let value = value_of(alloc, bytes)?;

@@ -4,5 +4,5 @@
 mod document;
 mod listing;
 
-pub use document::{Document, Unread, read_document};
+pub use document::{Document, DocumentColumn, Unread, read_document};
 pub use listing::{listing_text, report_text};

@@ -1,94 +1,15 @@
 //! The text of a tree: a line for each node, and the line of sizes.
 
-ghost use Rattle.std.specs.Prelude.{◌≡◌, ◌<◌, ◌^◌, ◌++◌, IfOk, OnOk, string_bytes, [], codes};
-ghost use Rattle.vx_base.specs.TypeText.{value_text};
-ghost use Rattle.vx_model.specs.Size.{size};
-ghost use Rattle.vx_model.specs.Tree.{PlainPacked, packed_of};
-ghost use Rattle.vx_array.specs.TreeOf.{tree_of, unboxed};
-ghost use Rattle.vx_document.specs.Listing.{packed_numbers, own_numbers, heading, line, deeper, listing, sizes_line};
+ghost use Rattle.std.specs.Prelude.{◌≡◌, ◌<◌, ◌^◌, ◌++◌, IfOk, OnOk, string_bytes, []};
+ghost use Rattle.vx_model.specs.Size.{size, sizes};
+ghost use Rattle.vx_model.specs.Tree.{of_list};
+ghost use Rattle.vx_document.specs.Listing.{deeper, listing, listings, sizes_line};
 
+mod line;
+
+use line::push_line;
 use std::alloc::{AllocError, Global};
-use vx_array::{ArrayRef, Node, Patches};
-use vx_base::Scalar;
-
-// Adds a scalar's value behind a name, as compact JSON.
-fn push_named(
-    alloc: Global,
-    text: &mut String,
-    name: &str,
-    scalar: &Scalar,
-) -> Result<(), AllocError>
-    ensures { OnOk result (string_bytes text.new
-        ≡ string_bytes text.old ++ (codes " " ++ name.now ++ codes "=" ++ value_text scalar.now.dtype scalar.now.value)) }
-{
-    let Ok(value) = scalar.json(alloc) else {
-        return Err(AllocError);
-    };
-    let value = value.as_str();
-    write!(text, " {name}={value}")?;
-    Ok(())
-}
-
-// How many patches there are.
-fn patch_count(patches: &Option<Box<Patches>>) -> u64
-    ensures { (k : PlainPacked) → own_numbers (packed_of k (unboxed patches.now)) ≡ packed_numbers k.width result }
-{
-    match patches {
-        Some(patches) => patches.num_patches(),
-        None => 0,
-    }
-}
-
-// Adds the numbers that only this encoding has.
-fn push_own_numbers(alloc: Global, text: &mut String, node: &Node) -> Result<(), AllocError>
-    ensures { OnOk result (string_bytes text.new
-        ≡ string_bytes text.old ++ own_numbers (tree_of node.now)) }
-{
-    match node {
-        Node::Constant(scalar, _) => push_named(alloc, text, "value", scalar),
-        Node::FoR(_, reference) => push_named(alloc, text, "reference", reference),
-        Node::BitPacked(_, width, _, _, _, patches, _) => {
-            let count = patch_count(patches);
-            write!(text, " width={width} patches={count}")?;
-            Ok(())
-        }
-        Node::Bool(_, _, _) | Node::Primitive(_, _, _) | Node::VarBinView(_, _, _) => Ok(()),
-        Node::VarBin(_, _, _, _) | Node::Timestamp(_, _) | Node::Masked(_, _) => Ok(()),
-        Node::ZigZag(_) | Node::Dict(_, _) => Ok(()),
-    }
-}
-
-// Adds the root's encoding, type, rows and bytes.
-#[tactic(auto, unfolding(crate::specs::Listing::heading))]
-fn push_heading(text: &mut String, tree: &ArrayRef) -> Result<(), AllocError>
-    requires { size tree.now < 2 ^ 128 }
-    ensures { OnOk result (string_bytes text.new ≡ string_bytes text.old ++ heading tree.now) }
-{
-    let id = tree.encoding_id();
-    let dtype = tree.dtype();
-    let len = tree.len();
-    let size = tree.nbytes();
-    write!(text, "{id} {dtype} len={len} size={size}")?;
-    Ok(())
-}
-
-// Adds the root's line.
-#[tactic(auto, unfolding(crate::specs::Listing::line))]
-fn push_line(
-    alloc: Global,
-    text: &mut String,
-    indent: &str,
-    tree: &ArrayRef,
-) -> Result<(), AllocError>
-    requires { size tree.now < 2 ^ 128 }
-    ensures { OnOk result (string_bytes text.new ≡ string_bytes text.old ++ line indent.now tree.now) }
-{
-    write!(text, "{indent}")?;
-    push_heading(text, tree)?;
-    push_own_numbers(alloc, text, tree.node())?;
-    writeln!(text, "")?;
-    Ok(())
-}
+use vx_array::{ArrayRef, Arrays, Node};
 
 // Two spaces more.
 fn deeper(alloc: Global, indent: &str) -> Result<String, AllocError>
@@ -98,6 +19,7 @@ fn deeper(alloc: Global, indent: &str) -> Result<String, AllocError>
 }
 
 // Adds the listing of a tree, in preorder.
+#[cycle(push)]
 fn push_tree(
     alloc: Global,
     text: &mut String,
@@ -114,7 +36,8 @@ fn push_tree(
         | Node::Timestamp(child, _)
         | Node::Masked(child, _)
         | Node::FoR(child, _)
-        | Node::ZigZag(child) => {
+        | Node::ZigZag(child)
+        | Node::FixedSizeList(child, _, _, _, _) => {
             let next = deeper(alloc, indent)?;
             push_tree(alloc, text, next.as_str(), child)
         }
@@ -126,14 +49,37 @@ fn push_tree(
             }
             None => Ok(()),
         },
-        Node::Dict(codes, values) => {
+        Node::Dict(first, second) | Node::List(first, second, _, _) => {
             let next = deeper(alloc, indent)?;
-            push_tree(alloc, text, next.as_str(), codes)?;
-            push_tree(alloc, text, next.as_str(), values)
+            push_tree(alloc, text, next.as_str(), first)?;
+            push_tree(alloc, text, next.as_str(), second)
+        }
+        Node::Struct(_, fields, _, _, _) => {
+            let next = deeper(alloc, indent)?;
+            push_trees(alloc, text, next.as_str(), fields)
         }
         Node::Bool(_, _, _) | Node::Primitive(_, _, _) | Node::VarBinView(_, _, _) => Ok(()),
-        Node::Constant(_, _) => Ok(()),
+        Node::Constant(_, _) | Node::Null(_) => Ok(()),
     }
+}
+
+// Adds the listings of several trees, one after the other.
+#[cycle(push)]
+#[tactic(auto, using(crate::proofs::Listings::several, vx_model::proofs::TreesLemmas::falls))]
+fn push_trees(
+    alloc: Global,
+    text: &mut String,
+    indent: &str,
+    trees: &Arrays,
+) -> Result<(), AllocError>
+    requires { sizes (of_list trees.now) < 2 ^ 128 }
+    ensures { OnOk result (string_bytes text.new
+        ≡ string_bytes text.old ++ listings indent.now (of_list trees.now)) }
+{
+    for tree in trees.as_slice() {
+        push_tree(alloc, text, indent, tree)?;
+    }
+    Ok(())
 }
 
 /// The listing of a tree, whose bytes are below 2^128.

@@ -4,4 +4,6 @@
 #[cfg(test)]
 mod listings;
 #[cfg(test)]
+mod nested;
+#[cfg(test)]
 mod reading;

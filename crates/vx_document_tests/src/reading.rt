@@ -1,4 +1,4 @@
-//! A small document of each type, read whole with ample memory.
+//! A small document of each flat type, read whole with ample memory.
 
 use std::alloc::Global;
 use std::test::Fail;
@@ -7,16 +7,22 @@ use vx_base::Cell;
 use vx_document::{Document, listing_text, read_document};
 
 // The document that the text is.
-fn document(alloc: Global, text: &str) -> Result<Document, Fail> {
+pub(crate) fn document(alloc: Global, text: &str) -> Result<Document, Fail> {
     Ok(read_document(alloc, Vec::from_slice(alloc, text.as_bytes())?)?)
 }
 
-// Whether the listing of the column's plain tree is this text.
-fn lists(alloc: Global, document: &Document, text: &str) -> Result<bool, Fail> {
-    if document.array.nbytes() == u128::MAX {
+// The plain tree of the column of the document that the text is.
+pub(crate) fn plain(alloc: Global, text: &str) -> Result<ArrayRef, Fail> {
+    let Document { column, words: _ } = document(alloc, text)?;
+    Ok(column.into_plain(alloc)?)
+}
+
+// Whether the listing of the tree is this text.
+pub(crate) fn lists(alloc: Global, tree: &ArrayRef, text: &str) -> Result<bool, Fail> {
+    if tree.nbytes() == u128::MAX {
         return Err(Fail::from("too many bytes"));
     }
-    Ok(listing_text(alloc, &document.array)?.as_str() == text)
+    Ok(listing_text(alloc, tree)?.as_str() == text)
 }
 
 // The value in a row, none where there is no such row.
@@ -30,40 +36,41 @@ fn cell(array: &ArrayRef, row: u64) -> Option<Cell<'_>> {
 #[test]
 fn truth_values(rt: HostRuntime) -> Result<(), Fail> {
     let text = "{\"type\":\"bool?\",\"rows\":[true,null,false],\"words\":[5,18446744073709551615]}";
-    let read = document(rt.alloc(), text)?;
+    let read = plain(rt.alloc(), text)?;
     assert!(rt; lists(rt.alloc(), &read, "vortex.bool bool? len=3 size=2\n")?);
-    assert!(rt; matches!(cell(&read.array, 0), Some(Cell::Bool(true))));
-    assert!(rt; matches!(cell(&read.array, 1), Some(Cell::Null)));
-    assert!(rt; matches!(cell(&read.array, 2), Some(Cell::Bool(false))));
-    assert_eq!(rt; read.words.as_slice(), [5, u64::MAX].as_slice());
+    assert!(rt; matches!(cell(&read, 0), Some(Cell::Bool(true))));
+    assert!(rt; matches!(cell(&read, 1), Some(Cell::Null)));
+    assert!(rt; matches!(cell(&read, 2), Some(Cell::Bool(false))));
+    let words = document(rt.alloc(), text)?.words;
+    assert_eq!(rt; words.as_slice(), [5, u64::MAX].as_slice());
     Ok(())
 }
 
 #[test]
 fn integers(rt: HostRuntime) -> Result<(), Fail> {
     let text = "{\"words\":[0],\"rows\":[-128,null,127],\"\\u0074ype\":\"i8?\"}";
-    let read = document(rt.alloc(), text)?;
+    let read = plain(rt.alloc(), text)?;
     assert!(rt; lists(rt.alloc(), &read, "vortex.primitive i8? len=3 size=4\n")?);
-    assert!(rt; matches!(cell(&read.array, 0), Some(Cell::Int(-128))));
-    assert!(rt; matches!(cell(&read.array, 1), Some(Cell::Null)));
-    assert!(rt; matches!(cell(&read.array, 2), Some(Cell::Int(127))));
+    assert!(rt; matches!(cell(&read, 0), Some(Cell::Int(-128))));
+    assert!(rt; matches!(cell(&read, 1), Some(Cell::Null)));
+    assert!(rt; matches!(cell(&read, 2), Some(Cell::Int(127))));
     Ok(())
 }
 
 #[test]
 fn texts(rt: HostRuntime) -> Result<(), Fail> {
     let text = "{\"type\":\"text\",\"rows\":[\"\\u00e9\",\"\",\"thirteen byte\"],\"words\":[0]}";
-    let read = document(rt.alloc(), text)?;
+    let read = plain(rt.alloc(), text)?;
     assert!(rt; lists(rt.alloc(), &read, "vortex.varbinview text len=3 size=61\n")?);
-    assert!(rt; matches!(cell(&read.array, 0), Some(Cell::Bytes(b"\xc3\xa9"))));
-    assert!(rt; matches!(cell(&read.array, 1), Some(Cell::Bytes(b""))));
+    assert!(rt; matches!(cell(&read, 0), Some(Cell::Bytes(b"\xc3\xa9"))));
+    assert!(rt; matches!(cell(&read, 1), Some(Cell::Bytes(b""))));
     Ok(())
 }
 
 #[test]
 fn binaries_of_digits_in_either_case(rt: HostRuntime) -> Result<(), Fail> {
     let text = "{\"type\":\"binary?\",\"rows\":[\"00fF\",null],\"words\":[0]}";
-    let read = document(rt.alloc(), text)?;
+    let read = plain(rt.alloc(), text)?;
     assert!(rt;
         lists(
             rt.alloc(),
@@ -71,8 +78,8 @@ fn binaries_of_digits_in_either_case(rt: HostRuntime) -> Result<(), Fail> {
             "vortex.varbinview binary? len=2 size=33\n"
         )?
     );
-    assert!(rt; matches!(cell(&read.array, 0), Some(Cell::Bytes(b"\x00\xff"))));
-    assert!(rt; matches!(cell(&read.array, 1), Some(Cell::Null)));
+    assert!(rt; matches!(cell(&read, 0), Some(Cell::Bytes(b"\x00\xff"))));
+    assert!(rt; matches!(cell(&read, 1), Some(Cell::Null)));
     Ok(())
 }
 
@@ -80,7 +87,7 @@ fn binaries_of_digits_in_either_case(rt: HostRuntime) -> Result<(), Fail> {
 fn timestamps_with_a_zone(rt: HostRuntime) -> Result<(), Fail> {
     let text =
         "{\"type\":{\"timestamp\":\"ms\",\"zone\":\"UTC\",\"nullable\":true},\"rows\":[-1,null],\"words\":[0]}";
-    let read = document(rt.alloc(), text)?;
+    let read = plain(rt.alloc(), text)?;
     assert!(rt;
         lists(
             rt.alloc(),
@@ -88,7 +95,7 @@ fn timestamps_with_a_zone(rt: HostRuntime) -> Result<(), Fail> {
             "vortex.timestamp timestamp ms<UTC>? len=2 size=17\n  vortex.primitive i64? len=2 size=17\n"
         )?
     );
-    assert!(rt; matches!(cell(&read.array, 0), Some(Cell::Int(-1))));
+    assert!(rt; matches!(cell(&read, 0), Some(Cell::Int(-1))));
     Ok(())
 }
 

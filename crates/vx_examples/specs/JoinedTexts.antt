@@ -1,6 +1,5 @@
 -- What the scheme of joined texts means, and the list that it stands in.
 use Rattle.std.specs.Prelude.{◌≡◌, ◌≤◌, true, false, List, [], ◌∷◌, codes, length, refl}
-use Rattle.std.specs.List.{concat}
 use Rattle.std.proofs.Common.{◌+◌, ◌<◌, ◌^◌, ◌∙◌, map, ap, arith}
 use Rattle.std.proofs.lemmas.List.{length-map}
 use Rattle.vx_base.specs.declared.array_id.ArrayId.TheVariants.{VarBin}
@@ -9,6 +8,7 @@ use Rattle.vx_base.specs.PlainType.{PlainType, is_text, is_bytes}
 use Rattle.vx_base.specs.PlainType as types
 use Rattle.vx_base.specs.PlainValue.{bytes_or_empty}
 use Rattle.vx_model.specs.Column.{Column, IsColumn, column_of}
+use Rattle.vx_model.specs.Nested.{joined}
 use Rattle.vx_model.specs.Offsets.{offsets_column, byte_rows_of}
 use Rattle.vx_model.specs.Plain.{validity}
 use Rattle.vx_model.specs.Tree.{Tree, var_bin}
@@ -32,7 +32,7 @@ text_offsets c = offsets_column (byte_rows_of c)
 
 -- the texts one after the other, over the offsets' tree
 abbrev pub texts_over : Column → Tree → Tree
-texts_over c offsets = var_bin offsets (concat (byte_rows_of c)) (validity c.values) c.dtype
+texts_over c offsets = var_bin offsets (joined (byte_rows_of c)) (validity c.values) c.dtype
 
 -- tried on a sample; the one part is the offsets
 abbrev pub joined_texts : Meaning

@@ -13,7 +13,7 @@ use Rattle.vx_base.specs.PlainType.{PlainType, allows_null, nullability_of, or_n
 use Rattle.vx_base.specs.PlainType as types
 use Rattle.vx_base.specs.PlainValue.{PlainValue, null, int, whole_or_zero}
 use Rattle.vx_base.proofs.NullLemmas.{by_null}
-use Rattle.vx_base.proofs.TypeLemmas.{nullability_of-with, fits-with}
+use Rattle.vx_base.proofs.TypeLemmas.{is_nullable-with, fits-with}
 use Rattle.vx_model.specs.Tree.{Tree, dict}
 use Rattle.vx_model.specs.Refusals.{dict_refusal}
 use Rattle.vx_model.specs.Rows.{rows, row_at, looked_up}
@@ -59,12 +59,12 @@ wider_right Nullable m h = refl
 
 -- a null code
 null_code_fits : (t u : PlainType) → fits t null ≡ true → fits (dict_type t u) null ≡ true
-null_code_fits t u h = ap allows_null (nullability_of-with u _) ∙ wider_right (nullability_of u) (nullability_of t) h
+null_code_fits t u h = is_nullable-with u _ (wider_right (nullability_of u) (nullability_of t) h)
 
 -- a value
 value_fits : (t u : PlainType) (v : PlainValue) → fits u v ≡ true → fits (dict_type t u) v ≡ true
 value_fits t u =
-    by_null (λ v. fits u v ≡ true → fits (dict_type t u) v ≡ true) (λ h. ap allows_null (nullability_of-with u _) ∙ wider_left (nullability_of u) (nullability_of t) h)
+    by_null (λ v. fits u v ≡ true → fits (dict_type t u) v ≡ true) (λ h. is_nullable-with u _ (wider_left (nullability_of u) (nullability_of t) h))
     (λ v e h. fits-with u _ v e ∙ h)
 
 looked_up_fits : (t u : PlainType) (vs : List PlainValue) (r : PlainValue) → list_all (fits u) vs ≡ true → is_place (length vs) r ≡ true → fits t r ≡ true → fits (dict_type t u) (looked_up vs r) ≡ true

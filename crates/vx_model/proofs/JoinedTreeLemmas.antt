@@ -1,7 +1,7 @@
 -- The tree of joined rows over any tree of their offsets: it is made, well formed, and stands for the column.
 use Rattle.std.proofs.Common.{◌≡◌, ◌+◌, ◌-◌, ◌∙◌, length, map, refl, sym, ap, subst, Bool, true, false, Option, None, arith}
 use Rattle.std.specs.Prelude.{not, nat_le, ◌&&◌}
-use Rattle.std.specs.List.{list_all, concat}
+use Rattle.std.specs.List.{list_all}
 use Rattle.std.proofs.lemmas.Bool.{and_from}
 use Rattle.std.proofs.lemmas.Bool.Decides.{nat_tests}
 use Rattle.vx_base.specs.declared.dtype.Nullability.TheVariants.{NonNullable}
@@ -13,6 +13,7 @@ use Rattle.vx_base.specs.PlainType.{PlainType, is_integer, is_nullable, is_bytes
 use Rattle.vx_base.specs.PlainType as types
 use Rattle.vx_base.specs.PlainValue.{bytes, is_short, bytes_or_empty}
 use Rattle.vx_model.specs.Column.{Column, IsColumn, column_of}
+use Rattle.vx_model.specs.Nested.{joined}
 use Rattle.vx_model.specs.Offsets.{offsets_column, offset_values, byte_rows_of}
 use Rattle.vx_model.specs.Plain.{validity}
 use Rattle.vx_model.specs.Refusals.{kept, validity_length, validity_allowed, var_bin_refusal}
@@ -21,6 +22,8 @@ use Rattle.vx_model.specs.Tree.{Tree, var_bin, var_bin_view}
 use Rattle.vx_model.specs.TreeType.{tree_type}
 use Rattle.vx_model.specs.WellFormed.{WellFormed, IsView, are_offsets}
 use Rattle.vx_model.proofs.DecodeLemmas.{kept-validity, length-validity, items_admitted}
+use Rattle.vx_model.proofs.FewLemmas.{few-flat}
+use Rattle.vx_model.proofs.FlatTypeLemmas.{bytes-flat}
 use Rattle.vx_model.proofs.JoinedLemmas.{length-offset_values, cut_joined, joined_offsets}
 use Rattle.vx_model.proofs.PackedLemmas.{passed}
 use Rattle.vx_model.proofs.PlainLemmas.{rows-plain_of, plain_well_formed, short_items}
@@ -35,24 +38,24 @@ module _ (c : Column) (typed : is_bytes c.dtype ≡ true) (h : IsColumn c) (offs
   own_type : tree_type offsets ≡ types.primitive U64 NonNullable
   own_type = ap (λ k. k.dtype) same
 
-  cut_back : cut_at (rows offsets) (concat (byte_rows_of c)) ≡ byte_rows_of c
-  cut_back = ap (λ os. cut_at os (concat (byte_rows_of c))) own_rows ∙ cut_joined (byte_rows_of c)
+  cut_back : cut_at (rows offsets) (joined (byte_rows_of c)) ≡ byte_rows_of c
+  cut_back = ap (λ os. cut_at os (joined (byte_rows_of c))) own_rows ∙ cut_joined (byte_rows_of c)
 
   view_rows : valid_rows (validity c.values) (map bytes (byte_rows_of c)) ≡ c.values
   view_rows = ap rows (sym (plain_of-bytes c.dtype c.values typed)) ∙ rows-plain_of c.dtype c.values h
 
-  pub rows-joined : rows (var_bin offsets (concat (byte_rows_of c)) (validity c.values) c.dtype) ≡ c.values
+  pub rows-joined : rows (var_bin offsets (joined (byte_rows_of c)) (validity c.values) c.dtype) ≡ c.values
   rows-joined = ap (λ rs. valid_rows (validity c.values) (map bytes rs)) cut_back ∙ view_rows
 
   -- it stands for the column
-  pub column_of-joined : column_of (var_bin offsets (concat (byte_rows_of c)) (validity c.values) c.dtype) ≡ c
+  pub column_of-joined : column_of (var_bin offsets (joined (byte_rows_of c)) (validity c.values) c.dtype) ≡ c
   column_of-joined = ap (λ vs. record { dtype = c.dtype; values = vs }) rows-joined
 
   view : WellFormed (var_bin_view (byte_rows_of c) (validity c.values) c.dtype)
-  view = subst WellFormed (plain_of-bytes c.dtype c.values typed) (plain_well_formed c h)
+  view = subst WellFormed (plain_of-bytes c.dtype c.values typed) (plain_well_formed c h (few-flat c.dtype c.values (bytes-flat c.dtype typed)))
 
-  ends : are_offsets (length (concat (byte_rows_of c))) (rows offsets) ≡ true
-  ends = ap (are_offsets (length (concat (byte_rows_of c)))) own_rows ∙ joined_offsets (byte_rows_of c)
+  ends : are_offsets (length (joined (byte_rows_of c))) (rows offsets) ≡ true
+  ends = ap (are_offsets (length (joined (byte_rows_of c)))) own_rows ∙ joined_offsets (byte_rows_of c)
 
   count : length (rows offsets) ≡ length (byte_rows_of c) + 1
   count = ap length own_rows ∙ length-offset_values (byte_rows_of c)
@@ -61,7 +64,7 @@ module _ (c : Column) (typed : is_bytes c.dtype ≡ true) (h : IsColumn c) (offs
   some = rw count (grind (arith, nat_tests))
 
   -- it is well formed
-  pub joined_well_formed : WellFormed offsets → WellFormed (var_bin offsets (concat (byte_rows_of c)) (validity c.values) c.dtype)
+  pub joined_well_formed : WellFormed offsets → WellFormed (var_bin offsets (joined (byte_rows_of c)) (validity c.values) c.dtype)
   joined_well_formed w = (
     w,
     record {
@@ -75,7 +78,7 @@ module _ (c : Column) (typed : is_bytes c.dtype ≡ true) (h : IsColumn c) (offs
   )
 
   -- nothing is refused
-  pub joined_admitted : var_bin_refusal offsets (concat (byte_rows_of c)) (validity c.values) c.dtype ≡ None
+  pub joined_admitted : var_bin_refusal offsets (joined (byte_rows_of c)) (validity c.values) c.dtype ≡ None
   joined_admitted =
       let len : length (rows offsets) - 1 ≡ length (byte_rows_of c) = omega (arith, count) in
       let bits : validity_length (validity c.values) (length (byte_rows_of c)) ≡ true = length-validity bytes_or_empty c.values in

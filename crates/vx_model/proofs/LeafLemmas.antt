@@ -1,30 +1,31 @@
--- The tree of a leaf column is never larger than the plain one.
-use Rattle.std.proofs.Common.{◌≡◌, ◌≢◌, ◌<◌, ◌≤◌, ◌+◌, ◌*◌, ℕ, Bool, true, false, List, [], ◌∷◌, map, length, Option, Some, None, refl, sym, subst, arith, ◌-◌}
-use Rattle.std.specs.Prelude.{◌||◌, ◌==◌, nat_lt, replicate, if◌then◌else◌}
+-- The tree of a column is never larger than the plain one.
+use Rattle.std.proofs.Common.{◌≡◌, ◌≢◌, ◌<◌, ◌≤◌, ◌*◌, pos, Bool, true, false, List, map, length, Option, Some, None, refl, ap, arith}
+use Rattle.std.specs.Prelude.{◌||◌, ◌==◌, nat_lt, if◌then◌else◌, sum_by}
 use Rattle.std.specs.List.{list_all}
+use Rattle.std.proofs.Math.Nat.{mul-le-mul}
 use Rattle.std.proofs.lemmas.Bool.{cond_both, eqb-false, ltb-true}
-use Rattle.std.proofs.lemmas.List.{length-map, length-replicate}
-use Rattle.std.proofs.lemmas.List.FromFn.{length-map-range_with_len}
-use Rattle.vx_base.specs.PlainType.{PlainType, boolean, primitive, utf8, binary, is_leaf}
-use Rattle.vx_base.specs.PlainType as types
-use Rattle.vx_base.specs.Masks.{rows_between}
+use Rattle.vx_base.specs.declared.dtype.Nullability.TheVariants.{NonNullable}
 use Rattle.vx_base.specs.declared.ptype.PType.TheVariants.{I64}
+use Rattle.vx_base.specs.Integers.{bytes_of}
+use Rattle.vx_base.specs.PlainType.{PlainType, PlainFields, boolean, primitive, utf8, binary, is_leaf, is_flat}
+use Rattle.vx_base.specs.PlainType as types
 use Rattle.vx_base.specs.PlainScalar.{scalar}
-use Rattle.vx_base.specs.PlainValue.{PlainValue, null, truth, int, bytes, is_null}
-use Rattle.vx_model.specs.Tree.{Tree, Validity, bool, var_bin_view, var_bin, constant, masked, bit_packed, bit_packed_with, frame_of_reference, zig_zag, dict}
+use Rattle.vx_base.specs.PlainValue.{PlainValue, PlainValues, null, is_null}
+use Rattle.vx_model.specs.Tree.{Tree, constant}
 use Rattle.vx_model.specs.Tree as trees
-use Rattle.vx_model.specs.Rows.{rows, masked_rows, valid_rows, below, patched, packed_at, moved, unzigzagged, looked_up, offset_at, cut_at}
-use Rattle.vx_model.specs.TreeType.{tree_type}
-use Rattle.vx_model.specs.Size.{size}
+use Rattle.vx_model.specs.Size.{size, sizes}
 use Rattle.vx_model.specs.Column.{Column, column}
-use Rattle.vx_model.specs.Extents.{counts, extents}
-use Rattle.vx_model.specs.Plain.{plain}
+use Rattle.vx_model.specs.Nested.{first_within, rest_within, struct_rows, list_rows, elements, fixed_elements, offsets_type}
+use Rattle.vx_model.specs.Offsets.{offsets_of}
+use Rattle.vx_model.specs.Plain.{plain, plain_of, plain_fields, plain_offsets}
 use Rattle.vx_model.specs.Site.{Site, fresh}
 use Rattle.vx_model.specs.Leaf.{Chooses, one_value, one_value_tree, smaller_or_plain, chosen_or_plain, by_value, leaf}
-use Rattle.vx_model.specs.Cascade.{Leaves, cascade, cascade_of, is_one_value, is_better}
-use Rattle.vx_model.specs.Laws.{NeverLarger, AreWithin, CountsWithinExtents}
-use Rattle.vx_model.proofs.CountLemmas.{counts-flat}
-use Rattle.vx_model.proofs.SizeLemmas.{size-plain_of-ge}
+use Rattle.vx_model.specs.Cascade.{Leaves, cascade, cascade_of, cascade_fields, is_one_value, is_better, narrow_offsets, offsets_site}
+use Rattle.vx_model.specs.Laws.{NeverLarger}
+use Rattle.vx_model.proofs.DecodeLemmas.{wholes-map-int, no_null-map-int}
+use Rattle.vx_model.proofs.SizeLemmas.{size-plain_of-ge, bytes_of-range}
+-- the law of counts stands in a file of its own
+pub use Rattle.vx_model.proofs.ExtentLemmas.{counts_within_extents}
 
 -- what holds of each tree that the leaf may be holds of the leaf
 pub leaf-cases : (P : Tree → Type 0) (chooses : Chooses) (c : Column) (site : Site)
@@ -52,10 +53,10 @@ leaf-cases P chooses c site whole nulls one chosen =
     of_sample true = of_choice (chooses c site) refl
     of_sample false = of_value (one_value c.values) refl
 
-pub size-leaf : (chooses : Chooses) (c : Column) (site : Site) → size (leaf chooses c site) ≤ size (plain c)
-size-leaf chooses c site =
+pub size-leaf : (chooses : Chooses) (c : Column) (site : Site) → is_flat c.dtype ≡ true → size (leaf chooses c site) ≤ size (plain c)
+size-leaf chooses c site flat =
     leaf-cases (λ t. size t ≤ size (plain c)) chooses c site (omega arith)
-    (λ some nulls. size-plain_of-ge c.dtype c.values (omega (arith, some)))
+    (λ some nulls. size-plain_of-ge c.dtype c.values flat (omega (arith, some)))
     (λ v e less. omega (arith, less))
     (λ t e less. omega (arith, less))
 
@@ -70,73 +71,46 @@ cascade-leaf leaves c = of_type c.dtype
     of_type (primitive p n) h = refl
     of_type (utf8 n) h = refl
     of_type (binary n) h = refl
-    of_type (types.timestamp k n) h = absurd cc
+    of_type t h = absurd cc
+
+-- the plain tree of the narrowed offsets of lists
+plain-narrow : (rows : List (List PlainValue)) → plain (narrow_offsets rows) ≡ trees.primitive (offsets_type (sum_by length rows)) (map pos (offsets_of rows)) None NonNullable
+plain-narrow rows = rw (wholes-map-int (map pos (offsets_of rows)), no_null-map-int (map pos (offsets_of rows))) refl
+
+-- they are never larger than the plain offsets of 64 bits
+narrow-smaller : (chooses : Chooses) (rows : List (List PlainValue)) → size (leaf chooses (narrow_offsets rows) offsets_site) ≤ size (plain_offsets rows)
+narrow-smaller chooses rows =
+    let own = size-leaf chooses (narrow_offsets rows) offsets_site refl in
+    let narrow = ap size (plain-narrow rows) in
+    let p = offsets_type (sum_by length rows) in
+    let each : length (map pos (offsets_of rows)) * bytes_of p ≤ length (map pos (offsets_of rows)) * 8 = mul-le-mul (omega arith) (bytes_of-range p).1 in
+    omega arith
+
+mutual
+  cascade-smaller : (chooses : Chooses) (t : PlainType) (vs : List PlainValue) → size (cascade_of (leaf chooses) t vs) ≤ size (plain_of t vs)
+  cascade-smaller chooses types.null_type vs = omega arith
+  cascade-smaller chooses (boolean n) vs = size-leaf chooses (column (boolean n) vs) fresh refl
+  cascade-smaller chooses (primitive p n) vs = size-leaf chooses (column (primitive p n) vs) fresh refl
+  cascade-smaller chooses (utf8 n) vs = size-leaf chooses (column (utf8 n) vs) fresh refl
+  cascade-smaller chooses (binary n) vs = size-leaf chooses (column (binary n) vs) fresh refl
+  cascade-smaller chooses (types.timestamp k n) vs =
+      let own = column (types.timestamp k n) vs in
+      let storage = column (primitive I64 n) vs in
+      let over = trees.timestamp (leaf chooses storage fresh) k in
+      cond_both (is_one_value (leaf chooses own fresh) || is_better own (leaf chooses own fresh) over) _ _ (λ t. size t ≤ size (plain own)) (λ stands. size-leaf chooses own fresh refl) (λ other. size-leaf chooses storage fresh refl)
+  cascade-smaller chooses (types.structure fs n) vs = let inside = cascade_fields-smaller chooses fs (struct_rows fs vs) in omega arith
+  cascade-smaller chooses (types.list t n) vs =
+      let inside = cascade-smaller chooses t (elements vs) in
+      let between = narrow-smaller chooses (list_rows vs) in
+      omega arith
+  cascade-smaller chooses (types.fixed_size_list t count n) vs = let inside = cascade-smaller chooses t (fixed_elements t count vs) in omega arith
+
+  cascade_fields-smaller : (chooses : Chooses) (fs : PlainFields) (rs : List PlainValues) → sizes (cascade_fields (leaf chooses) fs rs) ≤ sizes (plain_fields fs rs)
+  cascade_fields-smaller chooses types.none rs = omega arith
+  cascade_fields-smaller chooses (types.more name t fs) rs =
+      let first = cascade-smaller chooses t (map first_within rs) in
+      let rest = cascade_fields-smaller chooses fs (map rest_within rs) in
+      omega arith
 
 pub never_larger : (chooses : Chooses) → NeverLarger (leaf chooses)
-never_larger chooses c = of_type c.dtype
-  where
-    of_type : (t : PlainType) → size (cascade_of (leaf chooses) t c.values) ≤ size (plain (column t c.values))
-    of_type (boolean n) = size-leaf chooses (column (boolean n) c.values) fresh
-    of_type (primitive p n) = size-leaf chooses (column (primitive p n) c.values) fresh
-    of_type (utf8 n) = size-leaf chooses (column (utf8 n) c.values) fresh
-    of_type (binary n) = size-leaf chooses (column (binary n) c.values) fresh
-    of_type (types.timestamp k n) =
-        let own = column (types.timestamp k n) c.values in
-        let storage = column (primitive I64 n) c.values in
-        let over = trees.timestamp (leaf chooses storage fresh) k in
-        cond_both (is_one_value (leaf chooses own fresh) || is_better own (leaf chooses own fresh) over) _ _ (λ t. size t ≤ size (plain own)) (λ stands. size-leaf chooses own fresh) (λ other. size-leaf chooses storage fresh)
-
--- ---- extents
-
-length-masked_rows-le : (bits : List Bool) (rs : List PlainValue) → length (masked_rows bits rs) ≤ length rs
-length-masked_rows-le [] rs = omega arith
-length-masked_rows-le (bit ∷ bits) [] = omega arith
-length-masked_rows-le (bit ∷ bits) (r ∷ rs) = let fewer = length-masked_rows-le bits rs in omega arith
-
-length-valid_rows-le : (valid : Validity) (rs : List PlainValue) → length (valid_rows valid rs) ≤ length rs
-length-valid_rows-le None rs = omega arith
-length-valid_rows-le (Some bits) rs = length-masked_rows-le bits rs
-
--- fewer rows of a column whose values hold no others have no more counts, whatever its type
-counts-fewer : (t u : PlainType) (vs ws : List PlainValue) (es : List ℕ) → length vs ≤ length ws → AreWithin (counts u ws) es → AreWithin (counts t vs) es
-counts-fewer t u vs ws es fewer h =
-    let first : AreWithin (length ws ∷ []) es = subst (λ ns. AreWithin ns es) (counts-flat u ws) h in
-    subst (λ ns. AreWithin ns es) (sym (counts-flat t vs)) (of_one es first)
-  where
-    of_one : (es : List ℕ) → AreWithin (length ws ∷ []) es → AreWithin (length vs ∷ []) es
-    of_one [] h = h
-    of_one (e ∷ es) h = (let here = h.0 in omega arith, h.1)
-
--- rows by their number, some of them null
-counts-below : (valid : Validity) (f : ℕ → PlainValue) (len : ℕ) → length (valid_rows valid (below f len)) ≤ len
-counts-below valid f len = let fewer = length-valid_rows-le valid (below f len) in omega (arith, length-map-range_with_len f 0 len)
-
-pub counts_within_extents : CountsWithinExtents
-counts_within_extents (trees.primitive p xs valid n) w = (let fewer = length-valid_rows-le valid (map int xs) in omega (arith, length-map xs int), tt)
-counts_within_extents (bool bs valid n) w = (let fewer = length-valid_rows-le valid (map truth bs) in omega (arith, length-map bs truth), tt)
-counts_within_extents (var_bin_view vs valid t) w =
-    rw (counts-flat t (valid_rows valid (map bytes vs))) (let fewer = length-valid_rows-le valid (map bytes vs) in omega (arith, length-map vs bytes), tt)
-counts_within_extents (var_bin offsets bs valid t) w =
-    let len = length (rows offsets) - 1 in
-    let cut = length-map-range_with_len (λ i. rows_between bs (offset_at (rows offsets) i) (offset_at (rows offsets) (i + 1))) 0 len in
-    rw (counts-flat t (valid_rows valid (map bytes (cut_at (rows offsets) bs))))
-    (let fewer = length-valid_rows-le valid (map bytes (cut_at (rows offsets) bs)) in omega (arith, length-map (cut_at (rows offsets) bs) bytes, cut), tt)
-counts_within_extents (trees.timestamp storage k) w =
-    counts-fewer (tree_type (trees.timestamp storage k)) (tree_type storage) (rows storage) (rows storage) (extents storage) (omega arith) (counts_within_extents storage w.0)
-counts_within_extents (constant s len) w = of_type s.dtype
-  where
-    of_type : (t : PlainType) → AreWithin (counts t (replicate len s.value)) (map (λ count. len * count) (counts t (s.value ∷ [])))
-    of_type t = rw (counts-flat t (replicate len s.value), counts-flat t (s.value ∷ [])) (let same = length-replicate len s.value in omega arith, tt)
-counts_within_extents (masked child valid) w =
-    counts-fewer (tree_type child) (tree_type child) (masked_rows valid (rows child)) (rows child) (extents child) (length-masked_rows-le valid (rows child)) (counts_within_extents child w.0)
-counts_within_extents (bit_packed k) w = (counts-below k.valid (packed_at k) k.len, tt)
-counts_within_extents (bit_packed_with k len offset indices values) w = (counts-below k.valid (λ i. patched (rows indices) (rows values) (packed_at k i) (offset + i)) k.len, tt)
-counts_within_extents (frame_of_reference encoded reference) w =
-    counts-fewer (tree_type (frame_of_reference encoded reference)) (tree_type encoded) (map (moved reference) (rows encoded)) (rows encoded) (extents encoded)
-    (let same = length-map (rows encoded) (moved reference) in omega arith) (counts_within_extents encoded w.0)
-counts_within_extents (zig_zag encoded) w =
-    counts-fewer (tree_type (zig_zag encoded)) (tree_type encoded) (map unzigzagged (rows encoded)) (rows encoded) (extents encoded)
-    (let same = length-map (rows encoded) unzigzagged in omega arith) (counts_within_extents encoded w.0)
-counts_within_extents (dict codes values) w =
-    counts-fewer (tree_type (dict codes values)) (tree_type codes) (map (looked_up (rows values)) (rows codes)) (rows codes) (extents codes)
-    (let same = length-map (rows codes) (looked_up (rows values)) in omega arith) (counts_within_extents codes w.0)
+never_larger chooses c = cascade-smaller chooses c.dtype c.values

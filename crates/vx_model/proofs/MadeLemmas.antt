@@ -11,7 +11,7 @@ use Rattle.vx_base.specs.PlainScalar.{PlainScalar, fits}
 use Rattle.vx_base.specs.PlainType.{PlainType, is_flat, is_nullable}
 use Rattle.vx_base.specs.PlainType as types
 use Rattle.vx_base.specs.PlainValue.{PlainValue, null, int, is_null}
-use Rattle.vx_model.specs.Tree.{Tree, Validity, bool, primitive, var_bin_view, var_bin, timestamp, constant, masked, bit_packed, bit_packed_with, frame_of_reference, zig_zag, dict}
+use Rattle.vx_model.specs.Tree.{Tree, Validity, bool, primitive, var_bin_view, var_bin, timestamp, constant, masked, bit_packed, bit_packed_with, frame_of_reference, zig_zag, dict, nulls, structure, list, fixed_size_list}
 use Rattle.vx_model.specs.Refusals.{validity_length, validity_allowed, kept}
 use Rattle.vx_model.specs.Rows.{rows, masked_rows, valid_rows}
 use Rattle.vx_model.specs.TreeType.{tree_type}
@@ -26,7 +26,7 @@ pub kept_validity : (valid : Validity) (len : ℕ) (n : Nullability) → validit
 kept_validity None len n l a = tt
 kept_validity (Some bits) len n l a = all_or_allowed (list_all (λ b. b) bits) bits len n refl l a
 
-ints_fit : (p : PType) (n : Nullability) (xs : List ℤ) → list_all (lies_in p) xs ≡ true → list_all (fits (types.primitive p n)) (map int xs) ≡ true
+pub ints_fit : (p : PType) (n : Nullability) (xs : List ℤ) → list_all (lies_in p) xs ≡ true → list_all (fits (types.primitive p n)) (map int xs) ≡ true
 ints_fit p n [] h = refl
 ints_fit p n (x ∷ xs) h = both (lies_in p x) h (ints_fit p n xs)
   where
@@ -54,7 +54,7 @@ primitive_made p xs valid n l a h =
     let v : IsValidityOf (kept valid) (length xs) n = kept_validity valid (length xs) n l a in
     (record { held = h; validity = v }, valid_fit (kept valid) (types.primitive p n) (length xs) (map int xs) v (ints_fit p n xs h))
 
-copies_fit : (t : PlainType) (v : PlainValue) (len : ℕ) → fits t v ≡ true → list_all (fits t) (replicate len v) ≡ true
+pub copies_fit : (t : PlainType) (v : PlainValue) (len : ℕ) → fits t v ≡ true → list_all (fits t) (replicate len v) ≡ true
 copies_fit t v zero h = refl
 copies_fit t v (suc len) h = rw h (copies_fit t v len h)
 
@@ -74,6 +74,10 @@ rows_fit (bit_packed_with k len offset indices values) h = h.5
 rows_fit (frame_of_reference encoded reference) h = h.2
 rows_fit (zig_zag encoded) h = h.2
 rows_fit (dict codes values) h = h.3
+rows_fit (nulls len) h = h
+rows_fit (structure names fields len valid n) h = h.2
+rows_fit (list elements offsets valid n) h = h.3
+rows_fit (fixed_size_list elements size len valid n) h = h.2
 
 pub masked_made : (child : Tree) (valid : List Bool) → is_flat (tree_type child) ≡ true → is_nullable (tree_type child) ≡ true → length valid ≡ length (rows child) → list_any is_null (rows child) ≡ false → WellFormed child → WellFormed (masked child valid)
 masked_made child valid flat nullable lengths no_null h =

@@ -10,7 +10,8 @@ use Rattle.vx_base.specs.PlainScalar.{PlainScalar}
 use Rattle.vx_base.specs.PlainType.{PlainType}
 use Rattle.vx_base.specs.PlainType as types
 use Rattle.vx_base.specs.PlainValue.{PlainValue, int, is_null}
-use Rattle.vx_model.specs.Tree.{Tree, Validity, PlainPacked, bool, primitive, var_bin_view, var_bin, timestamp, constant, masked, bit_packed, bit_packed_with, frame_of_reference, zig_zag, dict}
+use Rattle.vx_model.specs.Tree.{Tree, Validity, PlainPacked, bool, primitive, var_bin_view, var_bin, timestamp, constant, masked, bit_packed, bit_packed_with, frame_of_reference, zig_zag, dict, structure, list, fixed_size_list}
+use Rattle.vx_model.specs.Tree as trees
 use Rattle.vx_model.specs.Decoded.{zeroed_by, zero_beneath_by, is_zero}
 use Rattle.vx_model.specs.Plain.{IsPlain, plain_of}
 use Rattle.vx_model.specs.Rows.{rows}
@@ -58,14 +59,22 @@ is_plain_root (bool bs valid n) = true
 is_plain_root (primitive p xs valid n) = true
 is_plain_root (var_bin_view vs valid t) = true
 is_plain_root (timestamp storage k) = true
+is_plain_root (trees.nulls len) = true
+is_plain_root (structure names fields len valid n) = true
+is_plain_root (list elements offsets valid n) = true
+is_plain_root (fixed_size_list elements size len valid n) = true
 is_plain_root _ = false
 
 plain-root : (t : PlainType) (vs : List PlainValue) → is_plain_root (plain_of t vs) ≡ true
+plain-root types.null_type vs = refl
 plain-root (types.boolean n) vs = refl
 plain-root (types.primitive p n) vs = refl
 plain-root (types.utf8 n) vs = refl
 plain-root (types.binary n) vs = refl
 plain-root (types.timestamp k n) vs = refl
+plain-root (types.structure fs n) vs = refl
+plain-root (types.list t n) vs = refl
+plain-root (types.fixed_size_list t size n) vs = refl
 
 root_of : (t : Tree) → IsPlain t → is_plain_root t ≡ true
 root_of t h = ap is_plain_root h ∙ plain-root (tree_type t) (rows t)

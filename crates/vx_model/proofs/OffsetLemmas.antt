@@ -1,8 +1,8 @@
 -- Offsets: each is at most the next, and lies within the items.
-use Rattle.std.proofs.Common.{◌≡◌, ◌<◌, ◌≤◌, ◌+◌, ℕ, zero, suc, pos, List, [], ◌∷◌, length, true, arith, add-one}
+use Rattle.std.proofs.Common.{◌≡◌, ◌<◌, ◌≤◌, ◌+◌, ◌-◌, ℕ, zero, suc, pos, List, [], ◌∷◌, length, true, arith, add-one}
 use Rattle.std.specs.Prelude.{nat_le, nat_lt, int_le}
 use Rattle.std.specs.List.{list_all}
-use Rattle.std.proofs.lemmas.Bool.{and_parts, ltb-true}
+use Rattle.std.proofs.lemmas.Bool.{and_parts, ltb-true, eqb-true}
 use Rattle.std.proofs.lemmas.Bool.Decides.{nat_tests}
 use Rattle.std.proofs.lemmas.Int.{ints}
 use Rattle.vx_base.specs.PlainValue.{PlainValue, int, whole_or_zero}
@@ -40,6 +40,13 @@ all_between len os h =
     let falls = and_parts _ (never_falls os) h in
     let last = and_parts _ _ falls.0 in
     (and_parts (list_all (lies_between 0 (len + 1)) os) _ last.0).0
+
+-- the first is 0, and the last where the items end
+pub ends_of : (len : ℕ) (os : List PlainValue) → are_offsets len os ≡ true → (offset_at os 0 ≡ 0) × (offset_at os (length os - 1) ≡ len)
+ends_of len os h =
+    let falls = and_parts _ (never_falls os) h in
+    let last = and_parts _ _ falls.0 in
+    (eqb-true _ _ (and_parts (list_all (lies_between 0 (len + 1)) os) _ last.0).1, eqb-true _ _ last.1)
 
 pub offset_step : (len : ℕ) (os : List PlainValue) (i : ℕ) → are_offsets len os ≡ true → i + 1 < length os → IsStep len (offset_at os i) (offset_at os (i + 1))
 offset_step len os i h l =

@@ -9,7 +9,7 @@ use Rattle.std.proofs.Math.Nat.{mul-le-mul}
 use Rattle.vx_base.specs.declared.ptype.PType.{PType}
 use Rattle.vx_base.specs.declared.ptype.PType.TheVariants.{U8, U16, U32, U64, I8, I16, I32, I64}
 use Rattle.vx_base.specs.Integers.{bytes_of}
-use Rattle.vx_base.specs.PlainType.{PlainType, boolean, primitive, utf8, binary, timestamp, is_bytes}
+use Rattle.vx_base.specs.PlainType.{PlainType, boolean, primitive, utf8, binary, timestamp, is_bytes, is_flat}
 use Rattle.vx_base.specs.PlainScalar.{fits}
 use Rattle.vx_base.specs.PlainValue.{PlainValue, is_null, is_short, truth_or_false, whole_or_zero, bytes_or_empty}
 use Rattle.vx_model.specs.Size.{size, validity_size, bit_bytes, long_bytes}
@@ -17,7 +17,7 @@ use Rattle.vx_model.specs.Column.{Column, IsColumn}
 use Rattle.vx_model.specs.Plain.{plain, plain_of, valid_bits, validity}
 use Rattle.vx_model.proofs.PlainLemmas.{length-valid_bits, short_items}
 
-bytes_of-range : (p : PType) → (1 ≤ bytes_of p) × (bytes_of p ≤ 8)
+pub bytes_of-range : (p : PType) → (1 ≤ bytes_of p) × (bytes_of p ≤ 8)
 bytes_of-range U8 = (omega arith, omega arith)
 bytes_of-range U16 = (omega arith, omega arith)
 bytes_of-range U32 = (omega arith, omega arith)
@@ -33,15 +33,16 @@ validity_size-le vs =
     cond_both (list_any is_null vs) (Some (valid_bits vs)) None (λ valid. validity_size valid ≤ bit_bytes (length vs))
     (λ some. rw (length-valid_bits vs) (omega arith)) (λ none. omega arith)
 
--- some rows take a byte at least
-pub size-plain_of-ge : (t : PlainType) (vs : List PlainValue) → 1 ≤ length vs → 1 ≤ size (plain_of t vs)
-size-plain_of-ge (boolean n) vs h = rw (length-map vs truth_or_false) (omega arith)
-size-plain_of-ge (primitive p n) vs h =
+-- some rows of a flat type take a byte at least
+pub size-plain_of-ge : (t : PlainType) (vs : List PlainValue) → is_flat t ≡ true → 1 ≤ length vs → 1 ≤ size (plain_of t vs)
+size-plain_of-ge (boolean n) vs f h = rw (length-map vs truth_or_false) (omega arith)
+size-plain_of-ge (primitive p n) vs f h =
     let each : length vs * 1 ≤ length vs * bytes_of p = mul-le-mul (omega arith) (bytes_of-range p).0 in
     rw (length-map vs whole_or_zero) (omega arith)
-size-plain_of-ge (utf8 n) vs h = rw (length-map vs bytes_or_empty) (omega arith)
-size-plain_of-ge (binary n) vs h = rw (length-map vs bytes_or_empty) (omega arith)
-size-plain_of-ge (timestamp k n) vs h = rw (length-map vs whole_or_zero) (omega arith)
+size-plain_of-ge (utf8 n) vs f h = rw (length-map vs bytes_or_empty) (omega arith)
+size-plain_of-ge (binary n) vs f h = rw (length-map vs bytes_or_empty) (omega arith)
+size-plain_of-ge (timestamp k n) vs f h = rw (length-map vs whole_or_zero) (omega arith)
+size-plain_of-ge t vs f h = absurd cc
 
 long_bytes-le : (bs : List ℕ) → is_short bs ≡ true → long_bytes bs ≤ 2 ^ 32
 long_bytes-le bs h = let short : length bs < 2 ^ 32 = ltb-true _ _ h in cond_both (nat_le (length bs) 12) 0 (length bs) (λ n. n ≤ 2 ^ 32) (λ few. omega arith) (λ many. omega arith)
@@ -68,13 +69,14 @@ size-wholes-le p vs =
     let each : length vs * bytes_of p ≤ length vs * 8 = mul-le-mul (omega arith) (bytes_of-range p).1 in
     rw (length-map vs whole_or_zero) (omega (arith, validity_size-le vs))
 
-pub size-plain_of-le : (t : PlainType) (vs : List PlainValue) → list_all (fits t) vs ≡ true → size (plain_of t vs) ≤ length vs * (2 ^ 32 + 16) + bit_bytes (length vs)
-size-plain_of-le (boolean n) vs h = rw (length-map vs truth_or_false) (omega (arith, validity_size-le vs))
-size-plain_of-le (primitive p n) vs h = size-wholes-le p vs
-size-plain_of-le (utf8 n) vs h = size-views-le (utf8 n) refl vs h
-size-plain_of-le (binary n) vs h = size-views-le (binary n) refl vs h
-size-plain_of-le (timestamp k n) vs h = size-wholes-le I64 vs
+pub size-plain_of-le : (t : PlainType) (vs : List PlainValue) → is_flat t ≡ true → list_all (fits t) vs ≡ true → size (plain_of t vs) ≤ length vs * (2 ^ 32 + 16) + bit_bytes (length vs)
+size-plain_of-le (boolean n) vs f h = rw (length-map vs truth_or_false) (omega (arith, validity_size-le vs))
+size-plain_of-le (primitive p n) vs f h = size-wholes-le p vs
+size-plain_of-le (utf8 n) vs f h = size-views-le (utf8 n) refl vs h
+size-plain_of-le (binary n) vs f h = size-views-le (binary n) refl vs h
+size-plain_of-le (timestamp k n) vs f h = size-wholes-le I64 vs
+size-plain_of-le t vs f h = absurd cc
 
 -- no sum of such sizes comes near the end of 128 bits
-pub small_plain : (c : Column) → IsColumn c → length c.values < 2 ^ 64 → size (plain c) < 2 ^ 100
-small_plain c h few = let most = size-plain_of-le c.dtype c.values h in omega arith
+pub small_plain : (c : Column) → is_flat c.dtype ≡ true → IsColumn c → length c.values < 2 ^ 64 → size (plain c) < 2 ^ 100
+small_plain c f h few = let most = size-plain_of-le c.dtype c.values f h in omega arith

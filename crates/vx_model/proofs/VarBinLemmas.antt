@@ -19,14 +19,14 @@ use Rattle.vx_model.proofs.PackedLemmas.{passed}
 use Rattle.vx_model.proofs.ViewLemmas.{texts_accepted}
 
 -- from each offset to the next
-abbrev piece : List PlainValue → List ℕ → ℕ → List ℕ
-piece offsets bs i = rows_between bs (offset_at offsets i) (offset_at offsets (i + 1))
+abbrev pub piece : {A : Type 0} → List PlainValue → List A → ℕ → List A
+piece offsets all i = rows_between all (offset_at offsets i) (offset_at offsets (i + 1))
 
-pub length-cut_at : (offsets : List PlainValue) (bs : List ℕ) → length (cut_at offsets bs) ≡ length offsets - 1
-length-cut_at offsets bs = length-map-range_with_len (piece offsets bs) 0 (length offsets - 1)
+pub length-cut_at : {A : Type 0} (offsets : List PlainValue) (all : List A) → length (cut_at offsets all) ≡ length offsets - 1
+length-cut_at offsets all = length-map-range_with_len (piece offsets all) 0 (length offsets - 1)
 
-pub cut_at-at : (offsets : List PlainValue) (bs : List ℕ) (i : ℕ) → i < length offsets - 1 → slice_index_or (cut_at offsets bs) i [] ≡ piece offsets bs i
-cut_at-at offsets bs i l = get_or-map-range_with_len (piece offsets bs) 0 (length offsets - 1) i i [] l (zero-add i)
+pub cut_at-at : {A : Type 0} (offsets : List PlainValue) (all : List A) (i : ℕ) → i < length offsets - 1 → slice_index_or (cut_at offsets all) i [] ≡ piece offsets all i
+cut_at-at offsets all i l = get_or-map-range_with_len (piece offsets all) 0 (length offsets - 1) i i [] l (zero-add i)
 
 -- a constructor's tree is well formed, where nothing is refused
 pub var_bin_accepted : (offsets : Tree) (bs : List ℕ) (valid : Validity) (t : PlainType) → var_bin_refusal offsets bs valid t ≡ None → WellFormed offsets → WellFormed (var_bin offsets bs (kept valid) t)

@@ -1,35 +1,56 @@
 -- How many rows a column and each nested column have, and how many a tree as it is given.
-use Rattle.std.specs.Prelude.{ℕ, ◌*◌, ◌^◌, ◌-◌, Bool, List, [], ◌∷◌, map, length, nat_le}
+use Rattle.std.specs.Prelude.{ℕ, ◌*◌, ◌^◌, ◌-◌, Bool, List, [], ◌∷◌, ◌++◌, map, length, nat_le}
 use Rattle.std.specs.List.{list_all}
-use Rattle.vx_base.specs.PlainType.{PlainType, boolean, primitive, utf8, binary}
+use Rattle.vx_base.specs.PlainType.{PlainType, PlainFields, boolean, primitive, utf8, binary}
 use Rattle.vx_base.specs.PlainType as types
-use Rattle.vx_base.specs.PlainValue.{PlainValue}
-use Rattle.vx_model.specs.Tree.{Tree, bool, var_bin_view, var_bin, timestamp, constant, masked, bit_packed, bit_packed_with, frame_of_reference, zig_zag, dict}
+use Rattle.vx_base.specs.PlainValue.{PlainValue, PlainValues}
+use Rattle.vx_model.specs.Tree.{Tree, Trees, bool, var_bin_view, var_bin, timestamp, constant, masked, bit_packed, bit_packed_with, frame_of_reference, zig_zag, dict, nulls, structure, list, fixed_size_list, none, more}
+use Rattle.vx_model.specs.Nested.{first_within, rest_within, struct_rows, elements, fixed_elements}
 use Rattle.vx_model.specs.Tree as trees
 use Rattle.vx_model.specs.Rows.{rows}
 
 -- the rows of the column, then of each nested column in the order of the type
-abbrev pub counts : PlainType → List PlainValue → List ℕ
-counts (boolean n) values = length values ∷ []
-counts (primitive p n) values = length values ∷ []
-counts (utf8 n) values = length values ∷ []
-counts (binary n) values = length values ∷ []
-counts (types.timestamp k n) values = length values ∷ []
+abbrev mutual
+  pub counts : PlainType → List PlainValue → List ℕ
+  counts types.null_type values = length values ∷ []
+  counts (boolean n) values = length values ∷ []
+  counts (primitive p n) values = length values ∷ []
+  counts (utf8 n) values = length values ∷ []
+  counts (binary n) values = length values ∷ []
+  counts (types.timestamp k n) values = length values ∷ []
+  counts (types.structure fs n) values = length values ∷ field_counts fs (struct_rows fs values)
+  counts (types.list t n) values = length values ∷ counts t (elements values)
+  counts (types.fixed_size_list t size n) values = length values ∷ counts t (fixed_elements t size values)
+
+  -- of each field
+  pub field_counts : PlainFields → List PlainValues → List ℕ
+  field_counts types.none rows = []
+  field_counts (types.more name t fs) rows = counts t (map first_within rows) ++ field_counts fs (map rest_within rows)
 
 -- the same of a tree, a constant's value counted once a row
-abbrev pub extents : Tree → List ℕ
-extents (trees.primitive p xs valid n) = length xs ∷ []
-extents (bool bs valid n) = length bs ∷ []
-extents (var_bin_view vs valid t) = length vs ∷ []
-extents (var_bin offsets bs valid t) = (length (rows offsets) - 1) ∷ []
-extents (timestamp storage k) = extents storage
-extents (constant s len) = map (λ count. len * count) (counts s.dtype (s.value ∷ []))
-extents (masked child valid) = extents child
-extents (bit_packed k) = k.len ∷ []
-extents (bit_packed_with k len offset indices values) = k.len ∷ []
-extents (frame_of_reference encoded reference) = extents encoded
-extents (zig_zag encoded) = extents encoded
-extents (dict codes values) = extents codes
+abbrev mutual
+  pub extents : Tree → List ℕ
+  extents (trees.primitive p xs valid n) = length xs ∷ []
+  extents (bool bs valid n) = length bs ∷ []
+  extents (var_bin_view vs valid t) = length vs ∷ []
+  extents (var_bin offsets bs valid t) = (length (rows offsets) - 1) ∷ []
+  extents (timestamp storage k) = extents storage
+  extents (constant s len) = map (λ count. len * count) (counts s.dtype (s.value ∷ []))
+  extents (masked child valid) = extents child
+  extents (bit_packed k) = k.len ∷ []
+  extents (bit_packed_with k len offset indices values) = k.len ∷ []
+  extents (frame_of_reference encoded reference) = extents encoded
+  extents (zig_zag encoded) = extents encoded
+  extents (dict codes values) = extents codes
+  extents (nulls len) = len ∷ []
+  extents (structure names fields len valid n) = len ∷ all_extents fields
+  extents (list elements offsets valid n) = (length (rows offsets) - 1) ∷ extents elements
+  extents (fixed_size_list elements size len valid n) = len ∷ extents elements
+
+  -- of several trees, one after the other
+  pub all_extents : Trees → List ℕ
+  all_extents none = []
+  all_extents (more t ts) = extents t ++ all_extents ts
 
 -- the greatest number of rows that is compressed
 abbrev pub row_limit : ℕ

@@ -4,6 +4,7 @@ pub mod Decoded
 pub mod Extents
 pub mod Laws
 pub mod Leaf
+pub mod Nested
 pub mod Nodes
 pub mod Offsets
 pub mod Plain
@@ -15,3 +16,4 @@ pub mod Tree
 pub mod TreeCode
 pub mod TreeType
 pub mod WellFormed
+pub mod Whole

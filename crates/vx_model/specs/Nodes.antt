@@ -2,7 +2,7 @@
 use Rattle.std.specs.Prelude.{List, [], ◌∷◌}
 use Rattle.vx_base.specs.declared.array_id.ArrayId.{ArrayId}
 use Rattle.vx_base.specs.declared.array_id.ArrayId.TheVariants as ids
-use Rattle.vx_model.specs.Tree.{Tree, bool, primitive, var_bin_view, var_bin, timestamp, constant, masked, bit_packed, bit_packed_with, frame_of_reference, zig_zag, dict}
+use Rattle.vx_model.specs.Tree.{Tree, bool, primitive, var_bin_view, var_bin, timestamp, constant, masked, bit_packed, bit_packed_with, frame_of_reference, zig_zag, dict, nulls, structure, list, fixed_size_list, list_of}
 
 -- the encoding of a tree's root
 abbrev pub encoding : Tree → ArrayId
@@ -18,6 +18,10 @@ encoding (bit_packed_with k len offset indices values) = ids.BitPacked
 encoding (frame_of_reference encoded reference) = ids.FoR
 encoding (zig_zag encoded) = ids.ZigZag
 encoding (dict codes values) = ids.Dict
+encoding (nulls len) = ids.Null
+encoding (structure names fields len valid n) = ids.Struct
+encoding (list elements offsets valid n) = ids.List
+encoding (fixed_size_list elements size len valid n) = ids.FixedSizeList
 
 -- the trees inside, in their order
 abbrev pub children : Tree → List Tree
@@ -33,3 +37,7 @@ children (bit_packed_with k len offset indices values) = indices ∷ values ∷ 
 children (frame_of_reference encoded reference) = encoded ∷ []
 children (zig_zag encoded) = encoded ∷ []
 children (dict codes values) = codes ∷ values ∷ []
+children (nulls len) = []
+children (structure names fields len valid n) = list_of fields
+children (list elements offsets valid n) = elements ∷ offsets ∷ []
+children (fixed_size_list elements size len valid n) = elements ∷ []

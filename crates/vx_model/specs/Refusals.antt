@@ -1,5 +1,5 @@
 -- When the constructors refuse, in the order of their checks, and what they keep.
-use Rattle.std.specs.Prelude.{ℕ, ◌+◌, Bool, true, not, ◌&&◌, ◌||◌, ◌==◌, nat_le, if◌then◌else◌, List, length, map, ◌-◌, Option, Some, None}
+use Rattle.std.specs.Prelude.{ℕ, ◌+◌, ◌*◌, Bool, true, not, ◌&&◌, ◌||◌, ◌==◌, nat_le, if◌then◌else◌, List, length, map, ◌-◌, Option, Some, None}
 use Rattle.std.specs.List.{list_all, list_any}
 use Rattle.vx_base.specs.declared.error.VortexError.{VortexError}
 use Rattle.vx_base.specs.declared.error.VortexError.TheVariants.{MismatchedTypes, LengthMismatch, OutOfBounds, IndicesNotAscending, TooManyRows, ValueTooLong}
@@ -14,11 +14,11 @@ use Rattle.vx_base.specs.PlainScalar.{PlainScalar, fits}
 use Rattle.vx_base.specs.PlainType.{PlainType, is_nullable, is_flat, is_integer, is_bytes, is_unsigned, allows_null, nullability_of, same_type}
 use Rattle.vx_base.specs.PlainType as types
 use Rattle.vx_base.specs.PlainValue.{is_null, bytes, is_short}
-use Rattle.vx_model.specs.Tree.{Tree, Validity, PlainPacked, PlainPatches}
+use Rattle.vx_model.specs.Tree.{Tree, Trees, Validity, PlainPacked, PlainPatches, list_of}
 use Rattle.vx_model.specs.Rows.{rows, valid_rows, cut_at}
 use Rattle.vx_model.specs.TreeType.{tree_type}
 use Rattle.vx_model.specs.Extents.{extents_fit}
-use Rattle.vx_model.specs.WellFormed.{ascend, are_offsets, differences_type, is_place}
+use Rattle.vx_model.specs.WellFormed.{ascend, are_offsets, differences_type, is_place, all_have_rows}
 
 -- validity has a bit a row
 abbrev pub validity_length : Validity → ℕ → Bool
@@ -61,6 +61,26 @@ var_bin_refusal offsets bs valid t =
 -- why whole numbers are no timestamps
 abbrev pub timestamp_refusal : Tree → Option VortexError
 timestamp_refusal storage = unless (same_type (tree_type storage) (types.primitive I64 (nullability_of (tree_type storage)))) MismatchedTypes None
+
+-- why names and trees are no struct
+abbrev pub structure_refusal : List (List ℕ) → Trees → ℕ → Validity → Nullability → Option VortexError
+structure_refusal names fields len valid n =
+    unless (length names == length (list_of fields) && (all_have_rows len fields && validity_length valid len)) LengthMismatch
+    (unless (validity_allowed valid n) MismatchedTypes None)
+
+-- why elements and offsets are no list
+abbrev pub list_refusal : Tree → Tree → Validity → Nullability → Option VortexError
+list_refusal elements offsets valid n =
+    unless (is_integer (tree_type offsets) && not (is_nullable (tree_type offsets))) MismatchedTypes
+    (unless (nat_le 1 (length (rows offsets)) && validity_length valid (length (rows offsets) - 1)) LengthMismatch
+    (unless (are_offsets (length (rows elements)) (rows offsets)) OutOfBounds
+    (unless (validity_allowed valid n) MismatchedTypes None)))
+
+-- why elements are no list of fixed size
+abbrev pub fixed_size_list_refusal : Tree → ℕ → ℕ → Validity → Nullability → Option VortexError
+fixed_size_list_refusal elements size len valid n =
+    unless (length (rows elements) == len * size && validity_length valid len) LengthMismatch
+    (unless (validity_allowed valid n) MismatchedTypes None)
 
 -- why a tree and a mask are no masked node
 abbrev pub masked_refusal : Tree → List Bool → Option VortexError

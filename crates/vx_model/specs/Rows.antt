@@ -1,14 +1,15 @@
 -- The rows of a tree, the values that it stands for; the children are decoded first.
-use Rattle.std.specs.Prelude.{ℕ, ◌+◌, ℤ, pos, unsigned_abs, ◌+ℤ◌, ◌-◌, Bool, true, false, ◌==◌, List, [], ◌∷◌, map, Option, None, Some, position, replicate, slice_index_or, unwrap_or, length, cond}
+use Rattle.std.specs.Prelude.{ℕ, zero, suc, ◌+◌, ℤ, pos, unsigned_abs, ◌+ℤ◌, ◌-◌, Bool, true, false, ◌==◌, List, [], ◌∷◌, map, Option, None, Some, position, replicate, slice_index_or, unwrap_or, length, take, drop, cond}
 use Rattle.std.specs.List.{range_with_len}
 use Rattle.vx_base.specs.Masks.{rows_between}
 use Rattle.vx_base.specs.Packed.{packed_row}
 use Rattle.vx_base.specs.PlainScalar.{PlainScalar}
 use Rattle.vx_base.specs.PlainType.{integer_of}
-use Rattle.vx_base.specs.PlainValue.{PlainValue, null, truth, int, bytes, whole_or_zero}
+use Rattle.vx_base.specs.PlainValue.{PlainValue, PlainValues, null, truth, int, bytes, items, whole_or_zero}
+use Rattle.vx_base.specs.PlainValue as vals
 use Rattle.vx_base.specs.Wrapping.{wrap}
 use Rattle.vx_base.specs.ZigZag.{unzigzag}
-use Rattle.vx_model.specs.Tree.{Tree, Validity, PlainPacked, PlainPatches, bool, primitive, var_bin_view, var_bin, timestamp, constant, masked, bit_packed, bit_packed_with, frame_of_reference, zig_zag, dict}
+use Rattle.vx_model.specs.Tree.{Tree, Trees, Validity, PlainPacked, PlainPatches, bool, primitive, var_bin_view, var_bin, timestamp, constant, masked, bit_packed, bit_packed_with, frame_of_reference, zig_zag, dict, nulls, structure, list, fixed_size_list, none, more}
 
 -- null where the mask is false
 abbrev pub masked_rows : List Bool → List PlainValue → List PlainValue
@@ -90,22 +91,47 @@ offset_at offsets i = unwrap_or (index_of (row_at offsets i)) 0
 
 -- the items from each offset to the next
 abbrev pub cut_at : {A : Type 0} → List PlainValue → List A → List (List A)
-cut_at offsets items = below (λ i. rows_between items (offset_at offsets i) (offset_at offsets (i + 1))) (length offsets - 1)
+cut_at offsets all = below (λ i. rows_between all (offset_at offsets i) (offset_at offsets (i + 1))) (length offsets - 1)
+
+-- a list of items as one value
+abbrev pub list_value : List PlainValue → PlainValue
+list_value vs = items (vals.of_list vs)
+
+-- so many lists of items, one after the other, each of one size
+abbrev pub parts_of : {A : Type 0} → ℕ → ℕ → List A → List (List A)
+parts_of size zero xs = []
+parts_of size (suc len) xs = take size xs ∷ parts_of size len (drop size xs)
+
+-- a column's rows, each before the row beside it
+abbrev pub each_before : List PlainValue → List PlainValues → List PlainValues
+each_before [] rows = []
+each_before (v ∷ column) [] = []
+each_before (v ∷ column) (row ∷ rows) = vals.more v row ∷ each_before column rows
 
 -- the values that a tree stands for, row by row
-abbrev pub rows : Tree → List PlainValue
-rows (bool bs valid n) = valid_rows valid (map truth bs)
-rows (primitive p xs valid n) = valid_rows valid (map int xs)
-rows (var_bin_view vs valid t) = valid_rows valid (map bytes vs)
-rows (var_bin offsets bs valid t) = valid_rows valid (map bytes (cut_at (rows offsets) bs))
-rows (timestamp storage k) = rows storage
-rows (constant s len) = replicate len s.value
-rows (masked child valid) = masked_rows valid (rows child)
-rows (bit_packed k) = valid_rows k.valid (below (packed_at k) k.len)
-rows (bit_packed_with k len offset indices values) = valid_rows k.valid (below (λ i. patched (rows indices) (rows values) (packed_at k i) (offset + i)) k.len)
-rows (frame_of_reference encoded reference) = map (moved reference) (rows encoded)
-rows (zig_zag encoded) = map unzigzagged (rows encoded)
-rows (dict codes values) = map (looked_up (rows values)) (rows codes)
+abbrev mutual
+  pub rows : Tree → List PlainValue
+  rows (bool bs valid n) = valid_rows valid (map truth bs)
+  rows (primitive p xs valid n) = valid_rows valid (map int xs)
+  rows (var_bin_view vs valid t) = valid_rows valid (map bytes vs)
+  rows (var_bin offsets bs valid t) = valid_rows valid (map bytes (cut_at (rows offsets) bs))
+  rows (timestamp storage k) = rows storage
+  rows (constant s len) = replicate len s.value
+  rows (masked child valid) = masked_rows valid (rows child)
+  rows (bit_packed k) = valid_rows k.valid (below (packed_at k) k.len)
+  rows (bit_packed_with k len offset indices values) = valid_rows k.valid (below (λ i. patched (rows indices) (rows values) (packed_at k i) (offset + i)) k.len)
+  rows (frame_of_reference encoded reference) = map (moved reference) (rows encoded)
+  rows (zig_zag encoded) = map unzigzagged (rows encoded)
+  rows (dict codes values) = map (looked_up (rows values)) (rows codes)
+  rows (nulls len) = replicate len null
+  rows (structure names fields len valid n) = valid_rows valid (map items (field_rows fields len))
+  rows (list elements offsets valid n) = valid_rows valid (map list_value (cut_at (rows offsets) (rows elements)))
+  rows (fixed_size_list elements size len valid n) = valid_rows valid (map list_value (parts_of size len (rows elements)))
+
+  -- of so many rows, in each the values of the fields
+  pub field_rows : Trees → ℕ → List PlainValues
+  field_rows none len = replicate len vals.none
+  field_rows (more t ts) len = each_before (rows t) (field_rows ts len)
 
 -- a row of packed integers where it is valid: its patch, else its bits
 abbrev pub packed_or_patch : PlainPacked → Option PlainPatches → ℕ → PlainValue

@@ -2,9 +2,11 @@
 use Rattle.std.specs.Prelude.{ℕ, min, ◌-◌, ◌^◌, ◌+◌, ◌*◌, ◌/◌, nat_le, List, length, sum_by, if◌then◌else◌, Option, Some, None}
 use Rattle.vx_base.specs.Integers.{bytes_of}
 use Rattle.vx_base.specs.Packed.{packed_size}
-use Rattle.vx_base.specs.PlainType.{PlainType, is_integer, integer_of}
-use Rattle.vx_base.specs.PlainValue.{PlainValue, null, truth, int, bytes}
-use Rattle.vx_model.specs.Tree.{Tree, Validity, PlainPatches, bool, var_bin_view, var_bin, timestamp, constant, masked, bit_packed, bit_packed_with, frame_of_reference, zig_zag, dict}
+use Rattle.vx_base.specs.PlainType.{PlainType, PlainFields, is_integer, integer_of}
+use Rattle.vx_base.specs.PlainType as types
+use Rattle.vx_base.specs.PlainValue.{PlainValue, PlainValues, null, truth, int, bytes, items}
+use Rattle.vx_base.specs.PlainValue as vals
+use Rattle.vx_model.specs.Tree.{Tree, Trees, Validity, PlainPatches, bool, var_bin_view, var_bin, timestamp, constant, masked, bit_packed, bit_packed_with, frame_of_reference, zig_zag, dict, nulls, structure, list, fixed_size_list, none, more}
 use Rattle.vx_model.specs.Tree as trees
 
 -- whole bytes that hold this many bits
@@ -16,31 +18,56 @@ abbrev pub validity_size : Validity → ℕ
 validity_size None = 0
 validity_size (Some bits) = bit_bytes (length bits)
 
--- the bytes of a value of a type; none of null
-abbrev pub payload : PlainType → PlainValue → ℕ
-payload t null = 0
-payload t (truth b) = 1
-payload t (int z) = if is_integer t then bytes_of (integer_of t) else 8
-payload t (bytes bs) = length bs
+-- the bytes of a value of a type, with those within; none of null
+abbrev mutual
+  pub payload : PlainType → PlainValue → ℕ
+  payload t null = 0
+  payload t (truth b) = 1
+  payload t (int z) = if is_integer t then bytes_of (integer_of t) else 8
+  payload t (bytes bs) = length bs
+  payload (types.structure fs n) (items vs) = fields_payload fs vs
+  payload (types.list t n) (items vs) = items_payload t vs
+  payload (types.fixed_size_list t size n) (items vs) = items_payload t vs
+  payload _ (items vs) = 0
+
+  -- of each value by the type of its field
+  pub fields_payload : PlainFields → PlainValues → ℕ
+  fields_payload (types.more name t fs) (vals.more v vs) = payload t v + fields_payload fs vs
+  fields_payload _ _ = 0
+
+  -- of each value by one type
+  pub items_payload : PlainType → PlainValues → ℕ
+  items_payload t vals.none = 0
+  items_payload t (vals.more v vs) = payload t v + items_payload t vs
 
 -- what stands beside the 16 bytes of a value: its bytes, where they are more than 12
 abbrev pub long_bytes : List ℕ → ℕ
 long_bytes bs = if nat_le (length bs) 12 then 0 else length bs
 
 -- the bytes of a tree
-abbrev pub size : Tree → ℕ
-size (bool bs valid n) = bit_bytes (length bs) + validity_size valid
-size (var_bin_view vs valid t) = 16 * length vs + sum_by long_bytes vs + validity_size valid
-size (var_bin offsets bs valid t) = size offsets + length bs + validity_size valid
-size (timestamp storage k) = size storage
-size (trees.primitive p xs valid n) = length xs * bytes_of p + validity_size valid
-size (constant s len) = 1 + payload s.dtype s.value
-size (masked child valid) = size child + bit_bytes (length valid)
-size (bit_packed k) = packed_size k.width k.len + validity_size k.valid
-size (bit_packed_with k len offset indices values) = packed_size k.width k.len + (size indices + size values) + validity_size k.valid
-size (frame_of_reference encoded reference) = size encoded
-size (zig_zag encoded) = size encoded
-size (dict codes values) = size codes + size values
+abbrev mutual
+  pub size : Tree → ℕ
+  size (bool bs valid n) = bit_bytes (length bs) + validity_size valid
+  size (var_bin_view vs valid t) = 16 * length vs + sum_by long_bytes vs + validity_size valid
+  size (var_bin offsets bs valid t) = size offsets + length bs + validity_size valid
+  size (timestamp storage k) = size storage
+  size (trees.primitive p xs valid n) = length xs * bytes_of p + validity_size valid
+  size (constant s len) = 1 + payload s.dtype s.value
+  size (masked child valid) = size child + bit_bytes (length valid)
+  size (bit_packed k) = packed_size k.width k.len + validity_size k.valid
+  size (bit_packed_with k len offset indices values) = packed_size k.width k.len + (size indices + size values) + validity_size k.valid
+  size (frame_of_reference encoded reference) = size encoded
+  size (zig_zag encoded) = size encoded
+  size (dict codes values) = size codes + size values
+  size (nulls len) = 0
+  size (structure names fields len valid n) = sizes fields + validity_size valid
+  size (list elements offsets valid n) = size elements + size offsets + validity_size valid
+  size (fixed_size_list elements count len valid n) = size elements + validity_size valid
+
+  -- of several trees together
+  pub sizes : Trees → ℕ
+  sizes none = 0
+  sizes (more t ts) = size t + sizes ts
 
 -- the bytes of patches, where there are patches
 abbrev pub patches_size : Option PlainPatches → ℕ

@@ -1,13 +1,14 @@
 -- How the logic stores a tree: a number for the node, its own data, and the trees inside.
-use Rattle.std.specs.Prelude.{◌≡◌, ℕ, ℤ, Bool, List, [], ◌∷◌, cond, ◌==◌}
-use Rattle.std.specs.Coded.{Coded}
+use Rattle.std.specs.Prelude.{◌≡◌, ℕ, ℤ, Bool, List, cond, ◌==◌, refl}
+use Rattle.std.proofs.Common.{ap}
+use Rattle.std.specs.Coded.{Coded, coded_list}
 use Rattle.vx_base.specs.declared.ptype.PType.{PType}
 use Rattle.vx_base.specs.declared.dtype.Nullability.{Nullability}
 use Rattle.vx_base.specs.PlainType.{PlainType, stored_ptype, stored_nullability, stored_type}
 use Rattle.vx_base.specs.Timestamps.{stored_kind}
 use Rattle.vx_base.specs.PlainScalar.{PlainScalar, stored_scalar}
 use Rattle.vx_base.specs.Storable.{Storable, code_of, first, rest, stored_ℕ, stored_ℤ, stored_bool, stored_bytes, stored_list, stored_option, stored×}
-use Rattle.vx_model.specs.Tree.{Tree, Validity, PlainPacked, PlainPatches, patches, bool, primitive, var_bin_view, var_bin, timestamp, constant, masked, bit_packed, bit_packed_with, frame_of_reference, zig_zag, dict}
+use Rattle.vx_model.specs.Tree.{Tree, Trees, Validity, PlainPacked, PlainPatches, patches, bool, primitive, var_bin_view, var_bin, timestamp, constant, masked, bit_packed, bit_packed_with, frame_of_reference, zig_zag, dict, nulls, structure, list, fixed_size_list, none, more}
 use base.Stored.{Gv, gnil, gnum, gcons, num}
 
 -- truth values are stored as a list
@@ -32,6 +33,18 @@ stored_var_bin = stored× stored_bytes (stored× stored_validity stored_type)
 
 abbrev pub stored_constant : Storable (PlainScalar × ℕ)
 stored_constant = stored× stored_scalar stored_ℕ
+
+-- what a struct has of its own, as pairs
+abbrev pub stored_structure : Storable (List (List ℕ) × (ℕ × (Validity × Nullability)))
+stored_structure = stored× (stored_list stored_bytes) (stored× stored_ℕ (stored× stored_validity stored_nullability))
+
+-- what lists have of their own, as a pair
+abbrev pub stored_lists : Storable (Validity × Nullability)
+stored_lists = stored× stored_validity stored_nullability
+
+-- what lists of fixed size have of their own, as pairs
+abbrev pub stored_fixed : Storable (ℕ × (ℕ × (Validity × Nullability)))
+stored_fixed = stored× stored_ℕ (stored× stored_ℕ (stored× stored_validity stored_nullability))
 
 -- the fields of packed integers, as pairs
 abbrev pub Packed : Type 0
@@ -68,31 +81,40 @@ one a = gcons a gnil
 abbrev pub two : Gv → Gv → Gv
 two a b = gcons a (gcons b gnil)
 
-abbrev pub to : Tree → Gv
-to (primitive p xs valid n) = node 0 (stored_primitive.to (p, (xs, (valid, n)))) gnil
-to (constant s len) = node 1 (stored_constant.to (s, len)) gnil
-to (masked child valid) = node 2 (stored_bits.to valid) (one (to child))
-to (bit_packed k) = node 3 (stored_packed.to k) gnil
-to (bit_packed_with k len offset indices values) = node 4 (stored_packed_with.to (k, (len, offset))) (two (to indices) (to values))
-to (frame_of_reference encoded reference) = node 5 (stored_scalar.to reference) (one (to encoded))
-to (zig_zag encoded) = node 6 gnil (one (to encoded))
-to (dict codes values) = node 7 gnil (two (to codes) (to values))
-to (bool bs valid n) = node 8 (stored_truths.to (bs, (valid, n))) gnil
-to (var_bin_view vs valid t) = node 9 (stored_view.to (vs, (valid, t))) gnil
-to (var_bin offsets bytes valid t) = node 10 (stored_var_bin.to (bytes, (valid, t))) (one (to offsets))
-to (timestamp storage k) = node 11 (stored_kind.to k) (one (to storage))
+abbrev mutual
+  pub to : Tree → Gv
+  to (primitive p xs valid n) = node 0 (stored_primitive.to (p, (xs, (valid, n)))) gnil
+  to (constant s len) = node 1 (stored_constant.to (s, len)) gnil
+  to (masked child valid) = node 2 (stored_bits.to valid) (one (to child))
+  to (bit_packed k) = node 3 (stored_packed.to k) gnil
+  to (bit_packed_with k len offset indices values) = node 4 (stored_packed_with.to (k, (len, offset))) (two (to indices) (to values))
+  to (frame_of_reference encoded reference) = node 5 (stored_scalar.to reference) (one (to encoded))
+  to (zig_zag encoded) = node 6 gnil (one (to encoded))
+  to (dict codes values) = node 7 gnil (two (to codes) (to values))
+  to (bool bs valid n) = node 8 (stored_truths.to (bs, (valid, n))) gnil
+  to (var_bin_view vs valid t) = node 9 (stored_view.to (vs, (valid, t))) gnil
+  to (var_bin offsets bytes valid t) = node 10 (stored_var_bin.to (bytes, (valid, t))) (one (to offsets))
+  to (timestamp storage k) = node 11 (stored_kind.to k) (one (to storage))
+  to (nulls len) = node 12 (stored_ℕ.to len) gnil
+  to (structure names fields len valid n) = node 13 (stored_structure.to (names, (len, (valid, n)))) (to_all fields)
+  to (list elements offsets valid n) = node 14 (stored_lists.to (valid, n)) (two (to elements) (to offsets))
+  to (fixed_size_list elements size len valid n) = node 15 (stored_fixed.to (size, (len, (valid, n)))) (one (to elements))
+
+  pub to_all : Trees → Gv
+  to_all none = gnil
+  to_all (more t ts) = gcons (to t) (to_all ts)
 
 -- any tree, where there is none to read
 abbrev pub some_tree : Tree
 some_tree = constant (stored_scalar.from gnil) 0
 
-abbrev pub tree_1 : List Tree → Tree
-tree_1 [] = some_tree
-tree_1 (t ∷ ts) = t
+abbrev pub tree_1 : Trees → Tree
+tree_1 none = some_tree
+tree_1 (more t ts) = t
 
-abbrev pub tree_2 : List Tree → Tree
-tree_2 [] = some_tree
-tree_2 (t ∷ ts) = tree_1 ts
+abbrev pub tree_2 : Trees → Tree
+tree_2 none = some_tree
+tree_2 (more t ts) = tree_1 ts
 
 abbrev pub primitive_by : PType × (List ℤ × (Validity × Nullability)) → Tree
 primitive_by l = primitive l.0 l.1.0 l.1.1.0 l.1.1.1
@@ -112,7 +134,16 @@ view_by l = var_bin_view l.0 l.1.0 l.1.1
 abbrev pub var_bin_by : List ℕ × (Validity × PlainType) → Tree → Tree
 var_bin_by l offsets = var_bin offsets l.0 l.1.0 l.1.1
 
-abbrev pub tree_at : ℕ → Gv → List Tree → Tree
+abbrev pub structure_by : List (List ℕ) × (ℕ × (Validity × Nullability)) → Trees → Tree
+structure_by l fields = structure l.0 fields l.1.0 l.1.1.0 l.1.1.1
+
+abbrev pub lists_by : Validity × Nullability → Tree → Tree → Tree
+lists_by l elements offsets = list elements offsets l.0 l.1
+
+abbrev pub fixed_by : ℕ × (ℕ × (Validity × Nullability)) → Tree → Tree
+fixed_by l elements = fixed_size_list elements l.0 l.1.0 l.1.1.0 l.1.1.1
+
+abbrev pub tree_at : ℕ → Gv → Trees → Tree
 tree_at number label inside =
     cond (number == 0) (primitive_by (stored_primitive.from label))
     (cond (number == 1) (constant_by (stored_constant.from label))
@@ -125,30 +156,43 @@ tree_at number label inside =
     (cond (number == 8) (bool_by (stored_truths.from label))
     (cond (number == 9) (view_by (stored_view.from label))
     (cond (number == 10) (var_bin_by (stored_var_bin.from label) (tree_1 inside))
-    (timestamp (tree_1 inside) (stored_kind.from label))))))))))))
+    (cond (number == 11) (timestamp (tree_1 inside) (stored_kind.from label))
+    (cond (number == 12) (nulls (stored_ℕ.from label))
+    (cond (number == 13) (structure_by (stored_structure.from label) inside)
+    (cond (number == 14) (lists_by (stored_lists.from label) (tree_1 inside) (tree_2 inside))
+    (fixed_by (stored_fixed.from label) (tree_1 inside))))))))))))))))
 
--- what is read as a tree, and as a list of trees
-abbrev pub read : Gv → Tree × List Tree
-read gnil = (some_tree, [])
-read (gnum n) = (some_tree, [])
-read (gcons label inside) = (tree_at (num (first label)) (rest label) (read inside).1, (read label).0 ∷ (read inside).1)
+-- what is read as a tree, and as trees
+abbrev pub read : Gv → Tree × Trees
+read gnil = (some_tree, none)
+read (gnum n) = (some_tree, none)
+read (gcons label inside) = (tree_at (num (first label)) (rest label) (read inside).1, more (read label).0 (read inside).1)
 
 abbrev pub from : Gv → Tree
 from g = (read g).0
 
-pub from-to : (t : Tree) → from (to t) ≡ t
-from-to (primitive p xs valid n) = λ i. primitive_by (stored_primitive.back (p, (xs, (valid, n))) i)
-from-to (constant s len) = λ i. constant_by (stored_constant.back (s, len) i)
-from-to (masked child valid) = λ i. masked (from-to child i) (stored_bits.back valid i)
-from-to (bit_packed k) = λ i. bit_packed (stored_packed.back k i)
-from-to (bit_packed_with k len offset indices values) = λ i. packed_with_by (stored_packed_with.back (k, (len, offset)) i) (from-to indices i) (from-to values i)
-from-to (frame_of_reference encoded reference) = λ i. frame_of_reference (from-to encoded i) (stored_scalar.back reference i)
-from-to (zig_zag encoded) = λ i. zig_zag (from-to encoded i)
-from-to (dict codes values) = λ i. dict (from-to codes i) (from-to values i)
-from-to (bool bs valid n) = λ i. bool_by (stored_truths.back (bs, (valid, n)) i)
-from-to (var_bin_view vs valid t) = λ i. view_by (stored_view.back (vs, (valid, t)) i)
-from-to (var_bin offsets bytes valid t) = λ i. var_bin_by (stored_var_bin.back (bytes, (valid, t)) i) (from-to offsets i)
-from-to (timestamp storage k) = λ i. timestamp (from-to storage i) (stored_kind.back k i)
+mutual
+  pub from-to : (t : Tree) → from (to t) ≡ t
+  from-to (primitive p xs valid n) = λ i. primitive_by (stored_primitive.back (p, (xs, (valid, n))) i)
+  from-to (constant s len) = λ i. constant_by (stored_constant.back (s, len) i)
+  from-to (masked child valid) = λ i. masked (from-to child i) (stored_bits.back valid i)
+  from-to (bit_packed k) = λ i. bit_packed (stored_packed.back k i)
+  from-to (bit_packed_with k len offset indices values) = λ i. packed_with_by (stored_packed_with.back (k, (len, offset)) i) (from-to indices i) (from-to values i)
+  from-to (frame_of_reference encoded reference) = λ i. frame_of_reference (from-to encoded i) (stored_scalar.back reference i)
+  from-to (zig_zag encoded) = λ i. zig_zag (from-to encoded i)
+  from-to (dict codes values) = λ i. dict (from-to codes i) (from-to values i)
+  from-to (bool bs valid n) = λ i. bool_by (stored_truths.back (bs, (valid, n)) i)
+  from-to (var_bin_view vs valid t) = λ i. view_by (stored_view.back (vs, (valid, t)) i)
+  from-to (var_bin offsets bytes valid t) = λ i. var_bin_by (stored_var_bin.back (bytes, (valid, t)) i) (from-to offsets i)
+  from-to (timestamp storage k) = λ i. timestamp (from-to storage i) (stored_kind.back k i)
+  from-to (nulls len) = ap nulls (stored_ℕ.back len)
+  from-to (structure names fields len valid n) = λ i. structure_by (stored_structure.back (names, (len, (valid, n))) i) (from-to_all fields i)
+  from-to (list elements offsets valid n) = λ i. lists_by (stored_lists.back (valid, n) i) (from-to elements i) (from-to offsets i)
+  from-to (fixed_size_list elements size len valid n) = λ i. fixed_by (stored_fixed.back (size, (len, (valid, n))) i) (from-to elements i)
+
+  pub from-to_all : (ts : Trees) → (read (to_all ts)).1 ≡ ts
+  from-to_all none = refl
+  from-to_all (more t ts) = λ i. more (from-to t i) (from-to_all ts i)
 
 -- a tree is stored as the number of its root, the root's own data, and the trees inside
 abbrev pub stored_tree : Storable Tree
@@ -157,6 +201,10 @@ stored_tree = record { to = to; from = from; back = from-to }
 -- from this code equality of trees is decided
 abbrev pub tree_code : Coded Tree
 tree_code = code_of stored_tree
+
+-- from this code equality of lists of trees is decided
+abbrev pub trees_code : Coded (List Tree)
+trees_code = coded_list tree_code
 
 -- ---- and patches
 

@@ -1,5 +1,5 @@
 -- When a tree is well formed: each node's own conditions hold, and every row fits the type.
-use Rattle.std.specs.Prelude.{◌≡◌, ℕ, ◌+◌, ℤ, pos, ◌-◌, Bool, true, false, ◌&&◌, ◌==◌, nat_lt, nat_le, int_le, int_lt, IsTrue, List, [], ◌∷◌, length, Some, None}
+use Rattle.std.specs.Prelude.{◌≡◌, ℕ, ◌+◌, ◌*◌, ℤ, pos, ◌-◌, Bool, true, false, ◌&&◌, ◌==◌, nat_lt, nat_le, int_le, int_lt, IsTrue, List, [], ◌∷◌, length, Some, None}
 use Rattle.std.specs.List.{list_all, list_any}
 use Rattle.vx_base.specs.declared.ptype.PType.{PType}
 use Rattle.vx_base.specs.declared.ptype.PType.TheVariants.{I64}
@@ -11,7 +11,7 @@ use Rattle.vx_base.specs.PlainType.{PlainType, is_nullable, is_flat, is_integer,
 use Rattle.vx_base.specs.PlainType as types
 use Rattle.vx_base.specs.PlainScalar.{PlainScalar, fits}
 use Rattle.vx_base.specs.PlainValue.{PlainValue, null, int, is_null, is_short, whole_or_zero}
-use Rattle.vx_model.specs.Tree.{Tree, Validity, PlainPacked, PlainPatches, bool, primitive, var_bin_view, var_bin, timestamp, constant, masked, bit_packed, bit_packed_with, frame_of_reference, zig_zag, dict}
+use Rattle.vx_model.specs.Tree.{Tree, Trees, Validity, PlainPacked, PlainPatches, bool, primitive, var_bin_view, var_bin, timestamp, constant, masked, bit_packed, bit_packed_with, frame_of_reference, zig_zag, dict, nulls, structure, list, fixed_size_list, none, more, list_of}
 use Rattle.vx_model.specs.Rows.{rows, offset_at, cut_at}
 use Rattle.vx_model.specs.TreeType.{tree_type}
 
@@ -122,26 +122,60 @@ pub record IsDict (codes values : Tree) : Type 0 where
   pub values_type : IsTrue (is_flat (tree_type values))
   pub places : IsTrue (list_all (is_place (length (rows values))) (rows codes))
 
+-- a tree for each name, each of so many rows
+abbrev pub all_have_rows : ℕ → Trees → Bool
+all_have_rows len none = true
+all_have_rows len (more t ts) = length (rows t) == len && all_have_rows len ts
+
+pub record IsStruct (names : List (List ℕ)) (fields : Trees) (len : ℕ) (valid : Validity) (n : Nullability) : Type 0 where
+  pub named : length names ≡ length (list_of fields)
+  pub lengths : IsTrue (all_have_rows len fields)
+  pub validity : IsValidityOf valid len n
+
+-- the offsets of lists are whole numbers, never null, and lead through all elements
+pub record IsList (elements offsets : Tree) (valid : Validity) (n : Nullability) : Type 0 where
+  pub offsets_type : IsTrue (is_integer (tree_type offsets))
+  pub not_null : is_nullable (tree_type offsets) ≡ false
+  pub some : IsTrue (nat_le 1 (length (rows offsets)))
+  pub ends : IsTrue (are_offsets (length (rows elements)) (rows offsets))
+  pub validity : IsValidityOf valid (length (rows offsets) - 1) n
+
+-- there are as many elements as all lists have together
+pub record IsFixedSizeList (elements : Tree) (size len : ℕ) (valid : Validity) (n : Nullability) : Type 0 where
+  pub lengths : length (rows elements) ≡ len * size
+  pub validity : IsValidityOf valid len n
+
 -- every row fits the tree's type
 abbrev pub RowsFit : Tree → Type 0
 RowsFit t = IsTrue (list_all (fits (tree_type t)) (rows t))
 
 -- each node's own conditions hold, and every row fits the type
-abbrev pub WellFormed : Tree → Type 0
-WellFormed (primitive p xs valid n) = IsPrimitive p xs valid n × RowsFit (primitive p xs valid n)
-WellFormed (bool bs valid n) = IsValidityOf valid (length bs) n × RowsFit (bool bs valid n)
-WellFormed (var_bin_view vs valid t) = IsView vs valid t × RowsFit (var_bin_view vs valid t)
-WellFormed (var_bin offsets bs valid t) = WellFormed offsets × IsVarBin offsets bs valid t × RowsFit (var_bin offsets bs valid t)
-WellFormed (timestamp storage k) = WellFormed storage × IsTimestamp storage × RowsFit (timestamp storage k)
-WellFormed (constant s len) = IsTrue (fits s.dtype s.value) × RowsFit (constant s len)
-WellFormed (masked child valid) = WellFormed child × IsMasked child valid × RowsFit (masked child valid)
-WellFormed (bit_packed k) = IsWellPacked k × RowsFit (bit_packed k)
-WellFormed (bit_packed_with k len offset indices values) =
-    WellFormed indices × WellFormed values × IsPatches len offset indices values × IsWellPacked k × IsPatched k len values
-    × RowsFit (bit_packed_with k len offset indices values)
-WellFormed (frame_of_reference encoded reference) = WellFormed encoded × IsFrame encoded reference × RowsFit (frame_of_reference encoded reference)
-WellFormed (zig_zag encoded) = WellFormed encoded × IsZigZag encoded × RowsFit (zig_zag encoded)
-WellFormed (dict codes values) = WellFormed codes × WellFormed values × IsDict codes values × RowsFit (dict codes values)
+abbrev mutual
+  pub WellFormed : Tree → Type 0
+  WellFormed (primitive p xs valid n) = IsPrimitive p xs valid n × RowsFit (primitive p xs valid n)
+  WellFormed (bool bs valid n) = IsValidityOf valid (length bs) n × RowsFit (bool bs valid n)
+  WellFormed (var_bin_view vs valid t) = IsView vs valid t × RowsFit (var_bin_view vs valid t)
+  WellFormed (var_bin offsets bs valid t) = WellFormed offsets × IsVarBin offsets bs valid t × RowsFit (var_bin offsets bs valid t)
+  WellFormed (timestamp storage k) = WellFormed storage × IsTimestamp storage × RowsFit (timestamp storage k)
+  WellFormed (constant s len) = IsTrue (fits s.dtype s.value) × RowsFit (constant s len)
+  WellFormed (masked child valid) = WellFormed child × IsMasked child valid × RowsFit (masked child valid)
+  WellFormed (bit_packed k) = IsWellPacked k × RowsFit (bit_packed k)
+  WellFormed (bit_packed_with k len offset indices values) =
+      WellFormed indices × WellFormed values × IsPatches len offset indices values × IsWellPacked k × IsPatched k len values
+      × RowsFit (bit_packed_with k len offset indices values)
+  WellFormed (frame_of_reference encoded reference) = WellFormed encoded × IsFrame encoded reference × RowsFit (frame_of_reference encoded reference)
+  WellFormed (zig_zag encoded) = WellFormed encoded × IsZigZag encoded × RowsFit (zig_zag encoded)
+  WellFormed (dict codes values) = WellFormed codes × WellFormed values × IsDict codes values × RowsFit (dict codes values)
+  WellFormed (nulls len) = RowsFit (nulls len)
+  WellFormed (structure names fields len valid n) = AllWellFormed fields × IsStruct names fields len valid n × RowsFit (structure names fields len valid n)
+  WellFormed (list elements offsets valid n) = WellFormed elements × WellFormed offsets × IsList elements offsets valid n × RowsFit (list elements offsets valid n)
+  WellFormed (fixed_size_list elements size len valid n) =
+      WellFormed elements × IsFixedSizeList elements size len valid n × RowsFit (fixed_size_list elements size len valid n)
+
+  -- the same of each of several trees
+  pub AllWellFormed : Trees → Type 0
+  AllWellFormed none = Unit {0}
+  AllWellFormed (more t ts) = WellFormed t × AllWellFormed ts
 
 -- the trees of the patches are well formed, and their indices ascend within the array's rows
 abbrev pub WellFormedPatches : PlainPatches → Type 0

@@ -1,10 +1,8 @@
 //! From words and a source to a status and a text.
 
-ghost use Rattle.std.specs.Prelude.{◌≡◌, ◌≢◌, ◌<◌, ◌+◌, ◌^◌, ◌↔◌, true, List, ℕ, Option, IfOk, IfSome, OnErr, string_bytes, length, map};
+ghost use Rattle.std.specs.Prelude.{◌≡◌, ◌<◌, ◌+◌, ◌^◌, ◌↔◌, true, List, ℕ, Option, IfOk, IfSome, OnErr, string_bytes, length, map};
 ghost use Rattle.std.specs.Cow.{cow_str_bytes};
 ghost use Rattle.std.specs.Io.KnownBytes.{IsAtEnd};
-ghost use Rattle.vx_base.specs.declared.error.VortexError.TheVariants.{NoMemory};
-ghost use Rattle.vx_base.specs.ErrorName.{error_name};
 ghost use Rattle.vx_model.specs.Column.{column_of};
 ghost use Rattle.vx_model.specs.Plain.{IsPlain};
 ghost use Rattle.vx_model.specs.Size.{size};
@@ -13,7 +11,7 @@ ghost use Rattle.vx_program.specs.Reading.{limit, TakesAtMost};
 ghost use Rattle.vx_scheme.specs.NoMeaning.{no_meaning};
 ghost use Rattle.vx_btrblocks.specs.AnyMeaning.{any_meaning};
 ghost use Rattle.vx_btrblocks.specs.Shipped.{shipped_schemes};
-ghost use Rattle.vx_program.specs.Answer.{texts_of, is_built, refusal, report, of_column, of_document, IsReply};
+ghost use Rattle.vx_program.specs.Answer.{texts_of, is_built, counts_fit, report, of_column, of_document, IsReply};
 ghost use Rattle.vx_program.specs.Statuses.{RestsOnAll, IsUsage, IsTooLong};
 
 use crate::outside::Source;
@@ -21,9 +19,9 @@ use crate::reading::{Input, read_all};
 use std::alloc::{AllocError, Global};
 use std::borrow::CowStr;
 use vx_array::ArrayRef;
-use vx_base::{ExecutionCtx, VortexError};
+use vx_base::ExecutionCtx;
 use vx_btrblocks::{BtrBlocksCompressor, NoScheme};
-use vx_document::{Document, Unread, read_document, report_text};
+use vx_document::{Document, DocumentColumn, Unread, read_document, report_text};
 
 /// The whole output is written.
 pub const DONE: u8 = 0;
@@ -89,22 +87,8 @@ fn report(alloc: Global, plain: u128, tree: ArrayRef) -> Result<Reply, AllocErro
     Ok(Reply { status: DONE, text })
 }
 
-// The reply to an error of the library. Want of memory stays one.
-fn refuse_document(alloc: Global, error: VortexError) -> Result<Reply, AllocError>
-    ensures { IfOk result (λ r. (error ≢ NoMemory) × ((r.status, cow_str_bytes r.text)
-        ≡ refusal 4 (error_name error))) }
-{
-    if matches!(error, VortexError::NoMemory) {
-        return Err(AllocError);
-    }
-    let text = CowStr::Owned(format!(in alloc; "refused: {}\n", error.name())?);
-    Ok(Reply {
-        status: REFUSED,
-        text,
-    })
-}
-
-// The reply to a column, by its plain tree, over a compressor of the shipped schemes. The context's words place samples.
+// The reply to a column whose counts fit, by its plain tree, over a compressor of the shipped schemes. The context's
+// words place samples. No memory holds a tree of 2^128 bytes, so one of that size counts as want of it.
 fn reply_over(
     alloc: Global,
     compressor: &BtrBlocksCompressor<NoScheme>,
@@ -113,13 +97,16 @@ fn reply_over(
 ) -> Result<Reply, AllocError>
     requires shipped { map (any_meaning no_meaning) compressor.now.0 ≡ shipped_schemes }
     requires plain { IsPlain array }
+    requires few { counts_fit (column_of array) ≡ true }
     ensures { IfOk result (λ r. (r.status, cow_str_bytes r.text) ≡ of_column ctx.old (column_of array)) }
 {
-    array.known();
     let plain = array.nbytes();
+    if plain == u128::MAX {
+        return Err(AllocError);
+    }
     match compressor.compress_owned(array, ctx) {
         Ok(tree) => report(alloc, plain, tree),
-        Err(error) => refuse_document(alloc, error),
+        Err(_) => Err(AllocError),
     }
 }
 
@@ -129,7 +116,8 @@ fn reply_to_array(
     array: ArrayRef,
     ctx: &mut ExecutionCtx,
 ) -> Result<Reply, AllocError>
-    requires { IsPlain array }
+    requires plain { IsPlain array }
+    requires few { counts_fit (column_of array) ≡ true }
     ensures { IfOk result (λ r. (r.status, cow_str_bytes r.text) ≡ of_column ctx.old (column_of array)) }
 {
     match BtrBlocksCompressor::shipped(alloc) {
@@ -138,16 +126,35 @@ fn reply_to_array(
     }
 }
 
-// The reply to a document.
-fn reply_to_document(alloc: Global, document: Document) -> Result<Reply, AllocError>
-    requires plain { IsPlain document.array }
-    requires words { 0 < length document.words }
-    ensures { IfOk result (λ r. (r.status, cow_str_bytes r.text)
-        ≡ of_column document.words (column_of document.array)) }
+// The reply to a column whose counts fit. Only now its plain tree is made.
+fn reply_to_column(
+    alloc: Global,
+    column: DocumentColumn,
+    ctx: &mut ExecutionCtx,
+) -> Result<Reply, AllocError>
+    requires { counts_fit column ≡ true }
+    ensures { IfOk result (λ r. (r.status, cow_str_bytes r.text) ≡ of_column ctx.old column) }
 {
-    let Document { array, words } = document;
+    column.known();
+    match column.into_plain(alloc) {
+        Ok(array) => reply_to_array(alloc, array, ctx),
+        Err(_) => Err(AllocError),
+    }
+}
+
+// The reply to a document. Counts above the limit are refused before any tree is made.
+#[tactic(auto, unfolding(crate::specs::Answer::of_column))]
+fn reply_to_document(alloc: Global, document: Document) -> Result<Reply, AllocError>
+    requires { 0 < length document.words }
+    ensures { IfOk result (λ r. (r.status, cow_str_bytes r.text)
+        ≡ of_column document.words document.column) }
+{
+    let Document { column, words } = document;
+    if !column.counts_fit() {
+        return Ok(refusal(REFUSED, "refused: TooManyRows\n"));
+    }
     let mut ctx = ExecutionCtx::new(alloc, words);
-    reply_to_array(alloc, array, &mut ctx)
+    reply_to_column(alloc, column, &mut ctx)
 }
 
 // The reply of the built form to these bytes.

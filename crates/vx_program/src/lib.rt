@@ -17,5 +17,5 @@ pub use reading::{Input, LIMIT, read_all};
 pub use running::{run, run_in_memory};
 pub use std_edge::{StdSink, StdSource};
 pub use sure::{SureSink, SureSource};
-pub use vx_document::{Document, Unread, listing_text, read_document};
+pub use vx_document::{Document, DocumentColumn, Unread, listing_text, read_document};
 pub use writing::{Stop, deliver};

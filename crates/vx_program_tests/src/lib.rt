@@ -9,4 +9,6 @@ mod faults;
 #[cfg(test)]
 mod listing;
 #[cfg(test)]
+mod nested;
+#[cfg(test)]
 mod whole;

@@ -7,7 +7,7 @@ use vx_array::{ArrayRef, Patches};
 use vx_base::ArrayId::{Constant, Primitive};
 use vx_base::PType::{I16, U8, U16, U32, U64};
 use vx_base::{DType, Nullability, VortexResult};
-use vx_fixtures::{accepted, byte_rows, column, context};
+use vx_fixtures::{accepted, byte_rows, column, context, flat};
 use vx_schemes::compress_patches;
 
 // The rows that are patched.
@@ -59,12 +59,10 @@ fn equal_values_are_one_scalar(rt: HostRuntime) -> Result<(), Fail> {
     Ok(())
 }
 
-// The bytes of the short form of patches with these texts, where they became one scalar.
-fn shared_bytes(alloc: Global, texts: &[&[u8]]) -> VortexResult<Option<u128>> {
-    let rows = byte_rows(alloc, texts)?;
-    let values = ArrayRef::var_bin_view(rows, None, DType::utf8(Nullability::NonNullable));
+// The bytes of the short form of patches with these two values, where they became one scalar.
+fn shared_bytes(alloc: Global, values: ArrayRef) -> VortexResult<Option<u128>> {
     let places = column(alloc, U64, &[Some(1), Some(300)])?;
-    let patches = accepted(Patches::new(ROWS, 0, places, accepted(values)?))?;
+    let patches = accepted(Patches::new(ROWS, 0, places, values))?;
     let short = compress_patches(&patches, &mut context(alloc)?)?;
     if short.values().encoding_id() != Constant {
         return Ok(None);
@@ -72,15 +70,32 @@ fn shared_bytes(alloc: Global, texts: &[&[u8]]) -> VortexResult<Option<u128>> {
     Ok(Some(short.values().nbytes()))
 }
 
+fn texts(alloc: Global, texts: &[&[u8]]) -> VortexResult<ArrayRef> {
+    let rows = byte_rows(alloc, texts)?;
+    accepted(ArrayRef::var_bin_view(rows, None, DType::utf8(Nullability::NonNullable)))
+}
+
 #[test]
 fn equal_texts_are_one_scalar(rt: HostRuntime) -> Result<(), Fail> {
-    assert_eq!(rt;
-        shared_bytes(rt.alloc(), &[b"thirteen byte", b"thirteen byte"])?,
-        Some(14)
-    );
-    assert_eq!(rt;
-        shared_bytes(rt.alloc(), &[b"thirteen byte", b"thirteen bytE"])?,
-        None
-    );
+    let same = texts(rt.alloc(), &[b"thirteen byte", b"thirteen byte"])?;
+    let other = texts(rt.alloc(), &[b"thirteen byte", b"thirteen bytE"])?;
+    assert_eq!(rt; shared_bytes(rt.alloc(), same)?, Some(14));
+    assert_eq!(rt; shared_bytes(rt.alloc(), other)?, None);
+    Ok(())
+}
+
+// Lists of two numbers each.
+fn pairs(alloc: Global, numbers: &[i128]) -> VortexResult<ArrayRef> {
+    let numbers = flat(alloc, U8, Nullability::NonNullable, numbers)?;
+    let pairs = ArrayRef::fixed_size_list(alloc, numbers, 2, 2, None, Nullability::NonNullable);
+    accepted(pairs)
+}
+
+#[test]
+fn equal_lists_are_one_scalar(rt: HostRuntime) -> Result<(), Fail> {
+    let same = pairs(rt.alloc(), &[7, 8, 7, 8])?;
+    let other = pairs(rt.alloc(), &[7, 8, 7, 9])?;
+    assert_eq!(rt; shared_bytes(rt.alloc(), same)?, Some(3));
+    assert_eq!(rt; shared_bytes(rt.alloc(), other)?, None);
     Ok(())
 }

@@ -2,7 +2,7 @@
 use Rattle.std.proofs.Common.{◌≡◌, ◌≤◌, Bool, true, false, List, length, Option, Some, None, refl, arith}
 use Rattle.std.specs.Prelude.{Ok, nat_lt}
 use Rattle.std.proofs.lemmas.Bool.{lt-ltb}
-use Rattle.vx_base.specs.Answers.{SurelyDecided}
+use Rattle.vx_base.specs.Answers.{Decided, SurelyDecided}
 use Rattle.vx_base.specs.declared.error.VortexError.{VortexError}
 use Rattle.vx_base.specs.PlainValue.{PlainValue}
 use Rattle.vx_scheme.specs.Asked.{most_rows}
@@ -20,3 +20,7 @@ kept_or_decided false (Some e) P a none h = absurd cc
 pub surely_decided : {A : Type 0} (refusal : Option VortexError) (P : A → Type 0) (a : A) → refusal ≡ None → SurelyDecided refusal P (Ok a) → P a
 surely_decided None P a none h = h
 surely_decided (Some e) P a none h = absurd cc
+
+pub decided : {A : Type 0} (refusal : Option VortexError) (P : A → Type 0) (a : A) → refusal ≡ None → Decided refusal P (Ok a) → P a
+decided None P a e h = h
+decided (Some x) P a e h = absurd cc

@@ -1,8 +1,9 @@
 -- Patches in their short form: the type of their indices, and values that are all equal.
-use Rattle.std.proofs.Common.{◌≡◌, ◌<◌, ◌≤◌, ◌+◌, ◌^◌, ◌∙◌, ℕ, zero, suc, ℤ, pos, negsuc, Bool, true, false, List, [], ◌∷◌, length, map, Some, None, cond, refl, sym, ap, subst, arith, inl, inr}
+use Rattle.std.proofs.Common.{◌≡◌, ◌<◌, ◌≤◌, ◌+◌, ◌-◌, ◌^◌, ◌∙◌, ℕ, zero, suc, ℤ, pos, negsuc, Bool, true, false, List, [], ◌∷◌, length, map, Some, None, cond, refl, sym, ap, subst, arith, inl, inr}
 use Rattle.std.specs.Prelude.{◌&&◌, ◌||◌, nat_lt, not, is_some, IsSome, find, unwrap_or, option_map, position}
 use Rattle.std.specs.List.{list_all, list_any}
 use Rattle.std.proofs.lemmas.Bool.{and_from, or_parts, lt-ltb, le-ltb, cases_lt, eq-eqb}
+use Rattle.std.proofs.lemmas.List.{take_all}
 use Rattle.std.proofs.lemmas.List.Quantifiers.{position-Some}
 use Rattle.vx_base.specs.declared.ptype.PType.{PType}
 use Rattle.vx_base.specs.declared.ptype.PType.TheVariants.{U8, U16, U32, U64}
@@ -10,6 +11,7 @@ use Rattle.vx_base.specs.declared.dtype.Nullability.{Nullability}
 use Rattle.vx_base.specs.declared.dtype.Nullability.TheVariants.{NonNullable}
 use Rattle.vx_base.specs.Integers.{natural_bits, lies_in, unsigned_of}
 use Rattle.vx_base.specs.Narrow.{narrow_of}
+use Rattle.vx_base.specs.Masks.{rows_between}
 use Rattle.vx_base.specs.PlainScalar.{fits}
 use Rattle.vx_base.specs.PlainType.{PlainType}
 use Rattle.vx_base.specs.PlainType as types
@@ -31,7 +33,7 @@ use Rattle.vx_model.proofs.PlainLemmas.{type-plain_of, wholes_lie_in}
 use Rattle.vx_schemes.specs.Patches.Compressed.{index_type, shared_value, narrowed, constant_or_plain, compressed_patches}
 use Rattle.vx_model.specs.Refusals.{patches_refusal}
 use Rattle.vx_schemes.specs.BitPacking.Rising.{ascend-words, fit_all}
-use Rattle.vx_schemes.specs.Patches.Laws.{index_type-holds, short_well}
+use Rattle.vx_schemes.specs.Patches.Laws.{index_type-holds, short_patches}
 
 -- ---- the last of them decides
 
@@ -219,8 +221,21 @@ pub shared-none : (vs : List PlainValue) → length vs ≡ 0 → shared_value vs
 shared-none [] h = refl
 shared-none (v ∷ vs) h = absurd (omega arith)
 
+-- ---- row by row, where the first one is at hand
+
+behind : (v : PlainValue) (vs : List PlainValue) → rows_between (v ∷ vs) 1 (length (v ∷ vs)) ≡ vs
+behind v vs = take_all (length (v ∷ vs) - 1) vs (omega arith)
+
+pub shared-each : (vs : List PlainValue) → 0 < length vs → list_all (λ w. same_value w (row_at vs 0)) (rows_between vs 1 (length vs)) ≡ true → shared_value vs ≡ Some (row_at vs 0)
+shared-each [] l h = absurd (omega arith)
+shared-each (v ∷ vs) l h = ap (λ b. cond b (Some v) None) (ap (list_all (λ w. same_value w v)) (sym (behind v vs)) ∙ h)
+
+pub shared-other : (vs : List PlainValue) → list_all (λ w. same_value w (row_at vs 0)) (rows_between vs 1 (length vs)) ≡ false → shared_value vs ≡ None
+shared-other [] h = refl
+shared-other (v ∷ vs) h = ap (λ b. cond b (Some v) None) (ap (list_all (λ w. same_value w v)) (sym (behind v vs)) ∙ h)
+
 -- so the constructor admits them
 pub short_admitted : (p : PlainPatches) → WellFormedPatches p → patches_refusal (compressed_patches p) ≡ None
 short_admitted p h =
-    let w = (short_well p h).2 in
+    let w = short_patches p h in
     rw (eq-eqb (length (rows (narrowed p.indices))) (length (rows (constant_or_plain (column_of p.values)))) w.lengths, w.ascending) refl

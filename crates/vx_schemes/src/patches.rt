@@ -1,13 +1,16 @@
 //! Patches in a short form.
 
-ghost use Rattle.std.specs.Prelude.{◌≡◌, ◌<◌, if◌then◌else◌, length, option_map, false, Some, None};
+ghost use Rattle.std.specs.Prelude.{◌≡◌, ◌<◌, IsTrue, if◌then◌else◌, length, option_map, false, Some, None};
 ghost use Rattle.vx_base.specs.Answers.{Answers, OrMemory};
 ghost use Rattle.vx_base.specs.CellValue.{cell_value};
+ghost use Rattle.vx_base.specs.PlainScalar.{scalar};
+ghost use Rattle.vx_base.specs.PlainType.{is_flat};
 ghost use Rattle.vx_base.specs.PlainValue.{is_null};
 ghost use Rattle.vx_model.specs.Column.{column_of};
 ghost use Rattle.vx_model.specs.Leaf.{each_null_or};
 ghost use Rattle.vx_model.specs.Plain.{IsPlain};
 ghost use Rattle.vx_model.specs.Rows.{rows, row_at};
+ghost use Rattle.vx_model.specs.TreeType.{tree_type};
 ghost use Rattle.vx_schemes.specs.Patches.Compressed.{index_type, narrowed, shared_value, constant_or_plain, compressed_patches, PatchAlike};
 
 use crate::whole::whole_tree;
@@ -64,6 +67,7 @@ fn narrowed(alloc: Global, patches: &Patches) -> VortexResult<ArrayRef>
 #[tactic(auto, using(vx_array::proofs::Flat::flats))]
 fn repeated(plain: &ArrayRef, row: u64) -> Option<Cell<'_>>
     requires plain { IsPlain plain.now }
+    requires flat { IsTrue (is_flat (tree_type plain.now)) }
     requires in_range { row < length (rows plain.now) }
     requires value { is_null (row_at (rows plain.now) row) ≡ false }
     ensures { option_map cell_value result ≡ if each_null_or (row_at (rows plain.now) row) (rows plain.now) then Some (row_at (rows plain.now) row) else None }
@@ -77,7 +81,8 @@ fn repeated(plain: &ArrayRef, row: u64) -> Option<Cell<'_>>
 
 // The value that every row has, where there are rows and no two differ: null in it where all are null.
 fn shared_value(plain: &ArrayRef) -> Option<Cell<'_>>
-    requires { IsPlain plain.now }
+    requires plain { IsPlain plain.now }
+    requires flat { IsTrue (is_flat (tree_type plain.now)) }
     ensures { option_map cell_value result ≡ shared_value (rows plain.now) }
 {
     if plain.len() == 0 {
@@ -92,18 +97,47 @@ fn shared_value(plain: &ArrayRef) -> Option<Cell<'_>>
     repeated(plain, row)
 }
 
+// The same as a scalar, of values of any type.
+fn shared_scalar(alloc: Global, plain: &ArrayRef) -> VortexResult<Option<Scalar>>
+    requires { IsPlain plain.now }
+    ensures { Answers result (option_map (scalar (tree_type plain.now)) (shared_value (rows plain.now))) }
+{
+    plain.known();
+    let dtype = plain.dtype();
+    if !dtype.is_flat() {
+        return shared_row(alloc, plain);
+    }
+    match shared_value(plain) {
+        Some(value) => Ok(Some(Scalar::of_cell(alloc, dtype, value)?)),
+        None => Ok(None),
+    }
+}
+
+// The same, row by row.
+fn shared_row(alloc: Global, plain: &ArrayRef) -> VortexResult<Option<Scalar>>
+    ensures { Answers result (option_map (scalar (tree_type plain.now)) (shared_value (rows plain.now))) }
+{
+    if plain.len() == 0 {
+        return Ok(None);
+    }
+    let first = plain.scalar_at(alloc, 0)?;
+    for row in 1..plain.len() {
+        let next = plain.scalar_at(alloc, row)?;
+        if *next.value() != *first.value() {
+            return Ok(None);
+        }
+    }
+    Ok(Some(first))
+}
+
 // The values as one scalar where all are equal, else plain.
 fn constant_or_plain(alloc: Global, values: &ArrayRef) -> VortexResult<ArrayRef>
     ensures { Answers result (constant_or_plain (column_of values.now)) }
 {
     values.known();
     let plain = values.canonical(alloc)?;
-    match shared_value(&plain) {
-        Some(value) => {
-            plain.known();
-            let value = Scalar::of_cell(alloc, plain.dtype(), value)?;
-            Ok(ArrayRef::constant(value, plain.len()))
-        }
+    match shared_scalar(alloc, &plain)? {
+        Some(value) => Ok(ArrayRef::constant(value, plain.len())),
         None => Ok(plain),
     }
 }

@@ -18,13 +18,15 @@ pub data ValueKind : Type 0 where
   -- texts or binaries
   byte_rows : ValueKind
 
--- the kind of values that a type has: a timestamp's are whole numbers of 64 signed bits
+-- the kind of values that a type has: a timestamp's are whole numbers of 64 signed bits; of flat types alone, nothing asks it
+-- of others
 abbrev pub kind_of : PlainType → ValueKind
 kind_of (boolean n) = truths
 kind_of (primitive p n) = ints p
 kind_of (utf8 n) = byte_rows
 kind_of (binary n) = byte_rows
 kind_of (timestamp k n) = ints ptypes.I64
+kind_of _ = truths
 
 -- the kind that a list holds
 abbrev pub kind_in : Values → ValueKind

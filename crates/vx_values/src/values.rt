@@ -65,6 +65,7 @@ impl Values {
             DType::Timestamp(_, _) => filled_wholes(alloc, cell, PType::I64, len),
             DType::Utf8(_) => Ok(Values::Bytes(byte_rows::filled(alloc, cell.bytes(), len)?)),
             DType::Binary(_) => Ok(Values::Bytes(byte_rows::filled(alloc, cell.bytes(), len)?)),
+            _ => unreachable!(),
         }
     }
 

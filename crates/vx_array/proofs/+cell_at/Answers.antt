@@ -1,9 +1,12 @@
 use Rattle.std.proofs.Common.{◌≡◌, ◌<◌, ◌≤◌, ◌∙◌, ◌+◌, ◌-◌, ◌/◌, length, arith, refl, sym, ap, subst, rules, Some, None}
+use Rattle.vx_base.proofs.IntegerLemmas.{is_unsigned-is_integer}
 use Rattle.vx_base.proofs.PackedLemmas.{packed_size_le}
 use Rattle.vx_model.specs.Rows.{rows, row_at, place_of}
 use Rattle.vx_model.specs.Tree.{plain_packed}
+use Rattle.vx_model.specs.TreeType.{tree_type}
 use Rattle.vx_model.proofs.BoolLemmas.{length-bool, row_at-bool}
 use Rattle.vx_model.proofs.CellLemmas.{IsWord, word-difference, word-encoded}
+use Rattle.vx_model.proofs.DictLemmas.{length-dict}
 use Rattle.vx_model.proofs.OffsetLemmas.{offset_step}
 use Rattle.vx_model.proofs.PackedLemmas.{length-frame_of_reference}
 use Rattle.vx_model.proofs.PackedOfLemmas.{length-packed_of, row_at-packed_of, packed-packed_of}
@@ -15,6 +18,7 @@ use Rattle.vx_model.proofs.ViewLemmas.{length-var_bin_view, row_at-var_bin_view}
 use Rattle.vx_model.proofs.ZigZagLemmas.{length-zig_zag}
 use Rattle.vx_array.specs.TreeOf.{unboxed}
 use Rattle.vx_array.proofs.AtNode.{at_node}
+use Rattle.vx_array.proofs.Flat.{integer_flat, patches_flat}
 use Rattle.vx_array.proofs.Looks.{IsRead, read_of, found-there, half-after, half-before, read-none}
 use Rattle.vx_array.proofs.Unpacked.{width-le}
 use Rattle.vx_array.proofs.+cell_at.Goals as goal
@@ -72,7 +76,7 @@ array::ArrayRef::cell_at-unpacked_at-requires t c =
     let packed = packed-packed_of _ _ a.well_formed in
     let next : c.args.row + 1 ≤ c.in-BitPacked.field-3 = omega (arith, l, rw a.is at c.requires.in_range) in
     let room = packed_size_le c.in-BitPacked.width (c.args.row + 1) c.in-BitPacked.field-3 next in
-    (search rules, (width-le c.in-BitPacked.width c.in-BitPacked.field-0 packed.narrow, omega (arith, room, packed.sized)))
+    (search rules, (width-le c.in-BitPacked.width c.in-BitPacked.field-0 packed.narrow, (omega (arith, room, packed.sized), patches_flat _ _ a.well_formed)))
 
 pub array::ArrayRef::cell_at-returns-in-BitPacked : goal.array::ArrayRef::cell_at-returns-in-BitPacked
 array::ArrayRef::cell_at-returns-in-BitPacked t c =
@@ -89,6 +93,21 @@ array::ArrayRef::cell_at-moved_at-requires-clause-held t c =
     let within : c.args.row < length (rows encoded) = omega (arith, length-frame_of_reference encoded c.in-FoR.reference, rw a.is at c.requires.in_range) in
     let read = c.cell_at-in-FoR.ensures ∙ ap (λ t. row_at (rows t) c.args.row) c.deref-in-FoR.ensures in
     subst IsWord (sym read) (word-difference encoded c.in-FoR.reference c.args.row a.well_formed within)
+
+pub array::ArrayRef::cell_at-cell_at-requires-in-ZigZag : goal.array::ArrayRef::cell_at-cell_at-requires-in-ZigZag
+array::ArrayRef::cell_at-cell_at-requires-in-ZigZag t c =
+    let encoded = c.in-ZigZag.encoded.value in
+    let a = at_node c.self.view_is c.self.invariant c.in-ZigZag.is in
+    let within : c.args.row < length (rows encoded) = omega (arith, length-zig_zag encoded, rw a.is at c.requires.in_range) in
+    (search rules, rw c.deref-in-ZigZag.ensures (integer_flat (tree_type encoded) (is_unsigned-is_integer (tree_type encoded) a.well_formed.1.unsigned), within))
+
+pub array::ArrayRef::cell_at-cell_at-requires-in-Dict : goal.array::ArrayRef::cell_at-cell_at-requires-in-Dict
+array::ArrayRef::cell_at-cell_at-requires-in-Dict t c =
+    let codes = c.in-Dict.codes.value in
+    let values = c.in-Dict.values.value in
+    let a = at_node c.self.view_is c.self.invariant c.in-Dict.is in
+    let within : c.args.row < length (rows codes) = omega (arith, length-dict codes values, rw a.is at c.requires.in_range) in
+    (search rules, rw c.deref-in-Dict-2.ensures (integer_flat (tree_type codes) a.well_formed.2.codes_type, within))
 
 pub array::ArrayRef::cell_at-unzigzagged_at-requires : goal.array::ArrayRef::cell_at-unzigzagged_at-requires
 array::ArrayRef::cell_at-unzigzagged_at-requires t c =

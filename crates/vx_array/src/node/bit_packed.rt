@@ -6,6 +6,7 @@ ghost use Rattle.vx_base.specs.Answers.{Makes, OrMemory};
 ghost use Rattle.vx_base.specs.CellValue.{cell_value};
 ghost use Rattle.vx_base.specs.Integers.{natural_bits};
 ghost use Rattle.vx_base.specs.Packed.{packed_row, packed_size};
+ghost use Rattle.vx_base.specs.PlainType.{is_flat};
 ghost use Rattle.vx_base.specs.PlainType as types;
 ghost use Rattle.vx_base.specs.PlainValue.{int, whole_or_zero, null};
 ghost use Rattle.vx_base.specs.declared.dtype.Nullability.TheVariants.{NonNullable};
@@ -147,6 +148,7 @@ fn known_patches(patches: &Option<Patches>)
 // The patch of a row, where there is one.
 #[cycle(cell_at)]
 fn patch_at(patches: &Option<Box<Patches>>, row: u64) -> Option<Cell<'_>>
+    requires { IfSome (unboxed patches.now) (λ p. IsTrue (is_flat (tree_type p.values))) }
     ensures { (k : PlainPacked) → unwrap_or (option_map cell_value result) (packed_at k row) ≡ packed_or_patch k (unboxed patches.now) row }
 {
     match patches {
@@ -166,6 +168,7 @@ pub(crate) fn unpacked_at<'a>(
 ) -> Cell<'a>
     requires narrow { width ≤ 64 }
     requires block { packed_size width (row + 1) ≤ length packed.now }
+    requires flat { IfSome (unboxed patches.now) (λ p. IsTrue (is_flat (tree_type p.values))) }
     ensures { (k : PlainPacked) → k.width ≡ width → k.bytes ≡ packed.now → cell_value result ≡ (if is_valid_at valid.now row then packed_or_patch k (unboxed patches.now) row else null) }
 {
     if !is_valid(valid, row) {

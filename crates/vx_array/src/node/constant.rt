@@ -1,28 +1,27 @@
 //! One scalar in every row.
 
 ghost use Rattle.std.specs.List.{list_any};
-ghost use Rattle.std.specs.Prelude.{◌≡◌, replicate, ◌<◌, ◌≤◌, ◌+◌, ◌^◌, IsTrue, if◌then◌else◌};
+ghost use Rattle.std.specs.Prelude.{◌≡◌, replicate, ◌+◌, ◌-◌, ◌^◌, min, IsTrue};
 ghost use Rattle.vx_array.specs.IsDecoded.{IsDecoded};
 ghost use Rattle.vx_array.specs.TreeOf.{tree_of};
 ghost use Rattle.vx_base.specs.Answers.{Answers, OrMemory};
-ghost use Rattle.vx_base.specs.Integers.{bytes_of};
-ghost use Rattle.vx_base.specs.PlainType.{is_flat, is_integer, integer_of};
+ghost use Rattle.vx_base.specs.PlainType.{is_flat};
 ghost use Rattle.vx_base.specs.PlainValue.{is_null};
-ghost use Rattle.vx_base.specs.TypeOf.{type_of};
 ghost use Rattle.vx_model.specs.Extents.{extents_fit};
 ghost use Rattle.vx_model.specs.Plain.{validity};
 ghost use Rattle.vx_model.specs.Size.{payload};
 ghost use Rattle.vx_model.specs.Tree.{constant};
 
 use crate::array::{ArrayRef, Node};
-use crate::sizes::is_few;
+use crate::counting::counts_fit;
+use crate::node::payload::payload_bytes;
 use std::alloc::Global;
-use vx_base::{DType, Mask, Scalar, Value, VortexResult};
+use std::slice;
+use vx_base::{Mask, Scalar, VortexResult};
 use vx_values::{Decoded, Values};
 
 impl ArrayRef {
     /// A tree of `len` rows, each the scalar's value.
-    #[tactic(auto, using(crate::proofs::Making::constant_array))]
     pub fn constant(value: Scalar, len: u64) -> ArrayRef
         ensures { result ≡ constant value len }
     {
@@ -43,50 +42,19 @@ pub(crate) fn constant_has_null(value: &Scalar, len: u64) -> bool
     value.is_null() && len > 0
 }
 
-// The bytes of the value, none of null.
-fn payload_bytes(scalar: &Scalar) -> u128
-    ensures value { result ≡ payload scalar.now.dtype scalar.now.value }
-    ensures small { result < 2 ^ 64 }
-{
-    match scalar.value() {
-        Value::Null => 0,
-        Value::Bool(_) => 1,
-        Value::Int(_) => whole_bytes(scalar.dtype()),
-        Value::Bytes(bytes) => u128::from(bytes.len()),
-    }
-}
-
-// The bytes of a whole number: those of an integer type, 8 of a timestamp.
-fn whole_bytes(dtype: &DType) -> u128
-    ensures value { result ≡ (if is_integer (type_of dtype.now) then bytes_of (integer_of (type_of dtype.now)) else 8) }
-    ensures small { result ≤ 8 }
-{
-    if dtype.is_integer() {
-        u128::from(dtype.ptype().byte_width())
-    } else {
-        8
-    }
-}
-
-// The bytes.
+// The bytes, the greatest number of 128 bits where there are more.
 pub(crate) fn constant_bytes(value: &Scalar) -> u128
-    ensures value { result ≡ 1 + payload value.now.dtype value.now.value }
-    ensures small { result < 2 ^ 65 }
+    ensures { result ≡ min (1 + payload value.now.dtype value.now.value) (2 ^ 128 - 1) }
 {
-    1 + payload_bytes(value)
+    payload_bytes(value.dtype(), value.value()).saturating_add(1)
 }
 
 // Whether the rows of it, and of each nested column, are few.
+#[tactic(auto, using(crate::proofs::Payloads::constants))]
 pub(crate) fn constant_extents_fit(value: &Scalar, len: u64) -> bool
     ensures { result ≡ extents_fit (constant value.now len) }
 {
-    match value.dtype() {
-        DType::Bool(_)
-        | DType::Primitive(_, _)
-        | DType::Utf8(_)
-        | DType::Binary(_)
-        | DType::Timestamp(_, _) => is_few(len),
-    }
+    counts_fit(value.dtype(), slice::from_ref(value.value()), len)
 }
 
 // A copy.

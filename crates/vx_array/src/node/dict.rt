@@ -130,7 +130,7 @@ fn is_place(code: Option<i128>, values: u64) -> bool
 }
 
 // Both in boxes, or as they were where memory is wanting.
-fn boxed(
+pub(crate) fn boxed(
     alloc: Global,
     codes: ArrayRef,
     values: ArrayRef,

@@ -1,7 +1,5 @@
 //! Texts and binaries, by their offsets into bytes.
 
-mod offsets;
-
 ghost use Rattle.std.specs.List.{list_all};
 ghost use Rattle.std.specs.Prelude.{◌≡◌, ◌<◌, ◌≤◌, ◌+◌, ◌-◌, ◌^◌, ◌&&◌, IsTrue, not, length, map, min, nat_le, true, [], if◌then◌else◌};
 ghost use Rattle.vx_array.specs.TreeOf.{tree_of};
@@ -24,11 +22,11 @@ ghost use Rattle.vx_model.specs.WellFormed.{are_offsets};
 ghost use Rattle.vx_values.specs.IntsOf.{wholes_of};
 ghost use Rattle.vx_values.specs.ValuesOf.{byte_rows, AreRows};
 
+use super::offsets::{are_integers, are_offsets, offset_at, row_count};
 use super::texts::fits;
 use crate::array::{ArrayRef, Node};
 use crate::node::Made;
 use crate::sizes::{is_few, validity_bytes};
-use offsets::{are_offsets, offset_at};
 use std::alloc::Global;
 use vx_base::{Bytes, Cell, DType, Mask, Refused, VortexError, VortexResult, is_short};
 use vx_values::{
@@ -101,20 +99,6 @@ fn refusal(
         return Some(VortexError::MismatchedTypes);
     }
     None
-}
-
-// Whether the type is one of non-nullable integers.
-fn are_integers(dtype: &DType) -> bool
-    ensures { result ≡ (is_integer (type_of dtype.now) && not (is_nullable (type_of dtype.now))) }
-{
-    dtype.is_integer() && !dtype.is_nullable()
-}
-
-// The rows between so many offsets.
-fn row_count(offsets: &ArrayRef) -> u64
-    ensures { result ≡ length (rows offsets.now) - 1 }
-{
-    offsets.len().saturating_sub(1)
 }
 
 // Whether each value is shorter than 2^32 bytes.

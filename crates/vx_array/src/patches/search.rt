@@ -1,9 +1,11 @@
 //! Which patch stands at a row.
 
-ghost use Rattle.std.specs.Prelude.{◌≡◌, ◌<◌, ◌≤◌, ◌+◌, ◌-◌, ◌*◌, ◌^◌, length, option_map, unwrap_or};
+ghost use Rattle.std.specs.Prelude.{◌≡◌, ◌<◌, ◌≤◌, ◌+◌, ◌-◌, ◌*◌, ◌^◌, IsTrue, length, option_map, unwrap_or};
 ghost use Rattle.vx_base.specs.CellValue.{cell_value};
+ghost use Rattle.vx_base.specs.PlainType.{is_flat};
 ghost use Rattle.vx_base.specs.PlainValue.{PlainValue};
 ghost use Rattle.vx_model.specs.Rows.{rows, place_of, patched};
+ghost use Rattle.vx_model.specs.TreeType.{tree_type};
 ghost use Rattle.vx_array.specs.Look.{Looks};
 
 use super::as_index;
@@ -90,10 +92,11 @@ impl Patches {
         None
     }
 
-    // The row's patch, where there is one.
+    // The row's patch, where there is one, of values of a flat type.
     #[cycle(cell_at)]
     #[tactic(auto, using(crate::proofs::Flat::flats))]
     pub(crate) fn cell_at(&self, row: u64) -> Option<Cell<'_>>
+        requires { IsTrue (is_flat (tree_type self.now.values)) }
         ensures { (fill : PlainValue) → unwrap_or (option_map cell_value result) fill ≡ patched (rows self.now.indices) (rows self.now.values) fill (self.now.offset + row) }
     {
         let place = self.place_of(row)?;

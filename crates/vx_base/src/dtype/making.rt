@@ -2,10 +2,10 @@
 
 ghost use Rattle.std.specs.Prelude.{◌≡◌};
 ghost use Rattle.vx_base.specs.Answers.{OrMemory};
-ghost use Rattle.vx_base.specs.PlainType.{boolean, primitive, utf8, binary, timestamp, with_nullability};
-ghost use Rattle.vx_base.specs.TypeOf.{type_of};
+ghost use Rattle.vx_base.specs.PlainType.{null_type, boolean, primitive, utf8, binary, timestamp, structure, list, fixed_size_list, of_fields, with_nullability};
+ghost use Rattle.vx_base.specs.TypeOf.{type_of, fields_of};
 
-use super::{DType, Nullability};
+use super::{DType, Fields, Nullability};
 use crate::error::VortexResult;
 use crate::ptype::PType;
 use crate::timestamp::TimestampType;
@@ -47,7 +47,37 @@ impl DType {
         DType::Timestamp(kind, nullability)
     }
 
+    /// Nulls alone.
+    pub fn null() -> DType
+        ensures { type_of result ≡ null_type }
+    {
+        DType::Null
+    }
+
+    /// Structs of fields.
+    #[tactic(auto, using(crate::proofs::FieldLemmas::structures))]
+    pub fn structure(fields: Fields, nullability: Nullability) -> DType
+        ensures { type_of result ≡ structure (of_fields (fields_of fields)) nullability }
+    {
+        DType::Struct(fields, nullability)
+    }
+
+    /// Lists of items of a type.
+    pub fn list(items: Box<DType>, nullability: Nullability) -> DType
+        ensures { type_of result ≡ list (type_of items.value) nullability }
+    {
+        DType::List(items, nullability)
+    }
+
+    /// The same, of so many items each.
+    pub fn fixed_size_list(items: Box<DType>, size: u32, nullability: Nullability) -> DType
+        ensures { type_of result ≡ fixed_size_list (type_of items.value) size nullability }
+    {
+        DType::FixedSizeList(items, size, nullability)
+    }
+
     /// The same type.
+    #[cycle(copy)]
     pub fn copy(&self, alloc: Global) -> VortexResult<DType>
         ensures { OrMemory result (λ copy. type_of copy ≡ type_of self.now) }
     {
@@ -55,6 +85,8 @@ impl DType {
     }
 
     /// The same base with this outermost nullability.
+    #[cycle(copy)]
+    #[tactic(auto, using(crate::proofs::FieldLemmas::structures))]
     pub fn with_nullability(&self, alloc: Global, nullability: Nullability) -> VortexResult<DType>
         ensures { OrMemory result (λ made. type_of made ≡ with_nullability (type_of self.now) nullability) }
     {
@@ -64,6 +96,16 @@ impl DType {
             DType::Utf8(_) => Ok(DType::Utf8(nullability)),
             DType::Binary(_) => Ok(DType::Binary(nullability)),
             DType::Timestamp(kind, _) => Ok(DType::Timestamp(kind.copy(alloc)?, nullability)),
+            DType::Null => Ok(DType::Null),
+            DType::Struct(fields, _) => Ok(DType::Struct(fields.copy(alloc)?, nullability)),
+            DType::List(items, _) => {
+                let items = items.copy(alloc)?;
+                Ok(DType::List(Box::new(alloc, items)?, nullability))
+            }
+            DType::FixedSizeList(items, size, _) => {
+                let items = items.copy(alloc)?;
+                Ok(DType::FixedSizeList(Box::new(alloc, items)?, *size, nullability))
+            }
         }
     }
 }

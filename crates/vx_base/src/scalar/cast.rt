@@ -1,17 +1,16 @@
-//! Scalars of a given type: one cast from another type, and a type's default.
+//! Scalars cast to another type.
 
 ghost use Rattle.std.specs.Prelude.{◌≡◌};
-ghost use Rattle.vx_base.specs.Answers.{Answers, Decided};
-ghost use Rattle.vx_base.specs.Casts.{is_cast, cast_refusal, null_or_default};
+ghost use Rattle.vx_base.specs.Answers.{Decided};
+ghost use Rattle.vx_base.specs.Casts.{is_cast, cast_refusal};
 ghost use Rattle.vx_base.specs.PlainScalar.{scalar};
 ghost use Rattle.vx_base.specs.PlainType.{same_base};
-ghost use Rattle.vx_base.specs.TypeOf.{type_of, value_of};
+ghost use Rattle.vx_base.specs.TypeOf.{type_of};
 
-use super::{Scalar, fits};
+use super::Scalar;
+use super::fitting::fits;
 use crate::dtype::DType;
 use crate::error::{VortexError, VortexResult};
-use crate::items::Bytes;
-use crate::value::Value;
 use std::alloc::Global;
 
 impl Scalar {
@@ -30,16 +29,6 @@ impl Scalar {
         let value = self.value.copy(alloc)?;
         Ok(Scalar { dtype, value })
     }
-
-    /// The type's default: null where it is nullable, else false, 0 or empty.
-    #[tactic(auto, using(crate::proofs::FitLemmas::fitting))]
-    pub fn default_value(alloc: Global, dtype: &DType) -> VortexResult<Scalar>
-        ensures { Answers result (scalar (type_of dtype.now) (null_or_default (type_of dtype.now))) }
-    {
-        let dtype = dtype.copy(alloc)?;
-        let value = null_or_default(alloc, &dtype);
-        Ok(Scalar { dtype, value })
-    }
 }
 
 // Whether values of the first type are cast to the second.
@@ -54,18 +43,4 @@ fn has_base(from: &DType, to: &DType) -> bool
     ensures { result ≡ same_base (type_of from.now) (type_of to.now) }
 {
     from.same_base(to)
-}
-
-// The value that stands where a type's column has none.
-fn null_or_default(alloc: Global, dtype: &DType) -> Value
-    ensures { value_of result ≡ null_or_default (type_of dtype.now) }
-{
-    if dtype.is_nullable() {
-        return Value::Null;
-    }
-    match dtype {
-        DType::Bool(_) => Value::Bool(false),
-        DType::Primitive(_, _) | DType::Timestamp(_, _) => Value::Int(0),
-        DType::Utf8(_) | DType::Binary(_) => Value::Bytes(Bytes::new_in(alloc)),
-    }
 }

@@ -10,7 +10,8 @@ ghost use Rattle.vx_base.specs.PlainType.{boolean, primitive, utf8, binary, time
 ghost use Rattle.vx_base.specs.PlainValue.{null, truth, int, bytes, is_short, has_short};
 ghost use Rattle.vx_base.specs.TypeOf.{type_of, value_of};
 
-use super::{Scalar, fits, has_short, is_held, is_short};
+use super::fitting::{fits, has_short};
+use super::{Scalar, is_held, is_short};
 use crate::cell::Cell;
 use crate::dtype::{DType, Nullability};
 use crate::error::{Refused, VortexError, VortexResult};

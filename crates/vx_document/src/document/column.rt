@@ -1,173 +1,117 @@
-//! The column of a document as its plain tree.
+//! The column of a document, and its plain tree.
 
-ghost use Rattle.std.specs.Prelude.{◌≡◌, IfOk, map, pos};
+ghost use Rattle.std.specs.List.{list_all};
+ghost use Rattle.std.specs.Prelude.{◌≡◌, IfOk, nat_le};
 ghost use Rattle.serde_json.specs.View.{view, items_view};
-ghost use Rattle.vx_base.specs.PlainType.{boolean, primitive, utf8, binary, timestamp};
-ghost use Rattle.vx_base.specs.PlainValue.{int};
+ghost use Rattle.vx_base.specs.Answers.{Answers};
 ghost use Rattle.vx_base.specs.TypeOf.{type_of};
-ghost use Rattle.vx_model.specs.Plain.{IsPlain, plain_of};
-ghost use Rattle.vx_model.specs.Rows.{rows};
-ghost use Rattle.vx_model.specs.TreeType.{tree_type};
-ghost use Rattle.vx_values.specs.IntsOf.{ptype_of, wholes_of};
-ghost use Rattle.vx_document.specs.Reading.{Gives, GivesForm, all_by};
-ghost use Rattle.vx_document.specs.RowsOf.{AreRows, plain_rows, row_of, rows_of};
+ghost use Rattle.vx_model.specs.Column.{IsColumn};
+ghost use Rattle.vx_model.specs.Extents.{counts, row_limit};
+ghost use Rattle.vx_model.specs.Plain.{plain};
+ghost use Rattle.vx_document.specs.Reading.{Gives, all_by};
+ghost use Rattle.vx_document.specs.RowsOf.{row_of, rows_of};
 
-use crate::document::kinds::{Binaries, Texts, Truths, Wholes};
-use crate::document::rows::read_rows;
+use crate::document::cells::read_cells;
+use crate::document::flat::read_flat;
 use crate::document::unread::Unread;
-use serde_json::Value;
+use serde_json::Value as Json;
 use std::alloc::Global;
-use vx_array::ArrayRef;
-use vx_base::{DType, Mask, Nullability, PType, TimestampType};
-use vx_values::Ints;
+use std::marker::Model;
+use vx_array::{ArrayRef, counts_fit};
+use vx_base::{DType, Value, VortexResult};
 
-// Truth values.
-fn read_truths(
-    alloc: Global,
-    list: Vec<Value>,
-    nullability: Nullability,
-) -> Result<ArrayRef, Unread>
-    ensures { Gives (λ tree. tree) result (plain_rows (boolean nullability) (items_view list.items)) }
-{
-    let rows = read_rows::<Truths>(alloc, list, nullability)?;
-    match ArrayRef::bool(
-        Mask::from_bits(rows.items.into_vec()),
-        rows.valid,
-        nullability,
-    ) {
-        Ok(tree) => Ok(tree),
-        // Rows that fit their type are never refused.
-        Err(_refused) => Err(Unread::BadDocument),
-    }
-}
-
-// Integers of one type that the value tells.
+// Rows as they are read.
 #[derive(Drop)]
-struct TypedRows {
-    values: Ints,
-    valid: Option<Mask>,
+enum ReadRows {
+    // The plain tree of a type whose values hold no others.
+    Plain(ArrayRef),
+    // A type, and values that fit it.
+    Values(DType, Vec<Value>),
 }
 
-// The rows of the type, by the reader of its integers.
-macro_rules! typed_rows {
-    ($alloc:expr, $list:expr, $nullability:expr, $variant:ident, $integer:ty) => {{
-        let rows = read_rows::<Wholes<$integer>>($alloc, $list, $nullability)?;
-        Ok(TypedRows {
-            values: Ints::$variant(rows.items),
-            valid: rows.valid,
-        })
-    }};
+/// The column of a document. Contracts see it as plain data.
+pub struct DocumentColumn {
+    rows: ReadRows,
 }
 
-// The rows of a list of values, of an integer type.
-#[tactic(auto, using(crate::proofs::DocumentColumns::fused))]
-fn read_typed(
-    alloc: Global,
-    list: Vec<Value>,
-    ptype: PType,
-    nullability: Nullability,
-) -> Result<TypedRows, Unread>
-    ensures { GivesForm (λ rows values. (ptype_of rows.values ≡ ptype) × AreRows (int (pos 0)) nullability (map int (wholes_of rows.values)) rows.valid values) result
-        (all_by (row_of (primitive ptype nullability)) (items_view list.items)) }
-{
-    match ptype {
-        PType::U8 => typed_rows!(alloc, list, nullability, U8, u8),
-        PType::U16 => typed_rows!(alloc, list, nullability, U16, u16),
-        PType::U32 => typed_rows!(alloc, list, nullability, U32, u32),
-        PType::U64 => typed_rows!(alloc, list, nullability, U64, u64),
-        PType::I8 => typed_rows!(alloc, list, nullability, I8, i8),
-        PType::I16 => typed_rows!(alloc, list, nullability, I16, i16),
-        PType::I32 => typed_rows!(alloc, list, nullability, I32, i32),
-        PType::I64 => typed_rows!(alloc, list, nullability, I64, i64),
+impl Model for DocumentColumn {
+    ghost use Rattle.vx_model.specs.Column.{Column};
+    ghost use Rattle.vx_document.specs.ReadColumn.{column_read, column_code, IsHeld};
+
+    ghost Value = { Column };
+
+    ghost coded = { column_code };
+
+    ghost view = { λ a. column_read a.rows };
+
+    ghost invariant = { λ a. IsHeld a.rows };
+}
+
+impl Drop for DocumentColumn {
+    fn drop(self) {
+        let DocumentColumn { rows: _ } = self;
     }
 }
 
-// Integers.
-fn read_integers(
-    alloc: Global,
-    list: Vec<Value>,
-    ptype: PType,
-    nullability: Nullability,
-) -> Result<ArrayRef, Unread>
-    ensures { Gives (λ tree. tree) result (plain_rows (primitive ptype nullability) (items_view list.items)) }
-{
-    let rows = read_typed(alloc, list, ptype, nullability)?;
-    match ArrayRef::primitive(rows.values, rows.valid, nullability) {
-        Ok(tree) => Ok(tree),
-        // Rows that fit their type are never refused.
-        Err(_refused) => Err(Unread::BadDocument),
+impl DocumentColumn {
+    /// Whether the column's rows, and those of each nested column, are at most 2^31. No tree is made for it.
+    #[tactic(auto, using(crate::proofs::ReadColumns::counting))]
+    pub fn counts_fit(&self) -> bool
+        ensures { result ≡ list_all (λ count. nat_le count row_limit) (counts self.now.dtype self.now.values) }
+    {
+        match &self.rows {
+            ReadRows::Plain(tree) => tree.extents_fit(),
+            ReadRows::Values(dtype, values) => counts_fit(dtype, values.as_slice(), 1),
+        }
+    }
+
+    /// Tells a proof that each value fits the type.
+    pub fn known(&self)
+        ensures { IsColumn self.now }
+    {
+        if let ReadRows::Plain(tree) = &self.rows {
+            tree.known();
+        }
+    }
+
+    /// The plain tree, which the values move into. Only want of memory refuses.
+    pub fn into_plain(self, alloc: Global) -> VortexResult<ArrayRef>
+        ensures { Answers result (plain self) }
+    {
+        let DocumentColumn { rows } = self;
+        match rows {
+            ReadRows::Plain(tree) => Ok(tree),
+            ReadRows::Values(dtype, values) => ArrayRef::of_values(alloc, &dtype, values),
+        }
     }
 }
 
-// Texts.
-fn read_texts(alloc: Global, list: Vec<Value>, nullability: Nullability) -> Result<ArrayRef, Unread>
-    ensures { Gives (λ tree. tree) result (plain_rows (utf8 nullability) (items_view list.items)) }
+// The column of a list of rows.
+#[tactic(auto, using(crate::proofs::FlatColumns::reads))]
+fn read_list(alloc: Global, list: Vec<Json>, dtype: DType) -> Result<DocumentColumn, Unread>
+    ensures rows { Gives (λ column. column.values) result (all_by (row_of (type_of dtype)) (items_view list.items)) }
+    ensures dtype { IfOk result (λ column. column.dtype ≡ type_of dtype) }
 {
-    let rows = read_rows::<Texts>(alloc, list, nullability)?;
-    let dtype = DType::utf8(nullability);
-    match ArrayRef::var_bin_view(rows.items, rows.valid, dtype) {
-        Ok(tree) => Ok(tree),
-        // Rows that fit their type are never refused.
-        Err(_refused) => Err(Unread::BadDocument),
+    if dtype.is_flat() {
+        let tree = read_flat(alloc, list, &dtype)?;
+        return Ok(DocumentColumn {
+            rows: ReadRows::Plain(tree),
+        });
     }
+    let values = read_cells(alloc, list, &dtype)?;
+    Ok(DocumentColumn {
+        rows: ReadRows::Values(dtype, values),
+    })
 }
 
-// Binaries.
-fn read_binaries(
-    alloc: Global,
-    list: Vec<Value>,
-    nullability: Nullability,
-) -> Result<ArrayRef, Unread>
-    ensures { Gives (λ tree. tree) result (plain_rows (binary nullability) (items_view list.items)) }
+// The column of a value's rows.
+#[tactic(auto, unfolding(crate::specs::RowsOf::rows_of))]
+pub(crate) fn read_column(alloc: Global, json: Json, dtype: DType) -> Result<DocumentColumn, Unread>
+    ensures rows { Gives (λ column. column.values) result (rows_of (type_of dtype) (view json)) }
+    ensures dtype { IfOk result (λ column. column.dtype ≡ type_of dtype) }
 {
-    let rows = read_rows::<Binaries>(alloc, list, nullability)?;
-    let dtype = DType::binary(nullability);
-    match ArrayRef::var_bin_view(rows.items, rows.valid, dtype) {
-        Ok(tree) => Ok(tree),
-        // Rows that fit their type are never refused.
-        Err(_refused) => Err(Unread::BadDocument),
-    }
-}
-
-// Timestamps, over their whole numbers.
-fn read_timestamps(
-    alloc: Global,
-    list: Vec<Value>,
-    kind: TimestampType,
-    nullability: Nullability,
-) -> Result<ArrayRef, Unread>
-    ensures { Gives (λ tree. tree) result (plain_rows (timestamp kind nullability) (items_view list.items)) }
-{
-    let storage = read_integers(alloc, list, PType::I64, nullability)?;
-    match ArrayRef::timestamp(alloc, storage, kind) {
-        Ok(tree) => Ok(tree),
-        // Integers of 64 signed bits are refused for want of memory alone.
-        Err(_refused) => Err(Unread::NoMemory),
-    }
-}
-
-// The plain tree of a list of values.
-fn read_list(alloc: Global, list: Vec<Value>, dtype: DType) -> Result<ArrayRef, Unread>
-    ensures { Gives (λ tree. tree) result (plain_rows (type_of dtype) (items_view list.items)) }
-{
-    match dtype {
-        DType::Bool(nullability) => read_truths(alloc, list, nullability),
-        DType::Primitive(ptype, nullability) => read_integers(alloc, list, ptype, nullability),
-        DType::Utf8(nullability) => read_texts(alloc, list, nullability),
-        DType::Binary(nullability) => read_binaries(alloc, list, nullability),
-        DType::Timestamp(kind, nullability) => read_timestamps(alloc, list, kind, nullability),
-    }
-}
-
-// The plain tree of a value's rows.
-#[tactic(auto, using(crate::proofs::DocumentColumns::reads), unfolding(crate::specs::RowsOf::rows_of))]
-pub(crate) fn read_column(alloc: Global, value: Value, dtype: DType) -> Result<ArrayRef, Unread>
-    ensures rows { Gives rows result (rows_of (type_of dtype) (view value)) }
-    ensures dtype { IfOk result (λ array. tree_type array ≡ type_of dtype) }
-    ensures plain { IfOk result (λ array. IsPlain array) }
-{
-    match value {
-        Value::Array(list) => read_list(alloc, list, dtype),
+    match json {
+        Json::Array(list) => read_list(alloc, list, dtype),
         _ => Err(Unread::BadDocument),
     }
 }

@@ -6,6 +6,7 @@ ghost use Rattle.vx_base.specs.declared.dtype.Nullability.TheVariants.{NonNullab
 ghost use Rattle.vx_base.specs.Defaults.{default_of};
 ghost use Rattle.vx_base.specs.PlainType.{PlainType, boolean, primitive, utf8, binary, nullability_of};
 ghost use Rattle.vx_base.specs.PlainValue.{PlainValue, truth, int, bytes, is_null, is_short};
+ghost use Rattle.vx_base.specs.TypeOf.{value_of};
 ghost use Rattle.vx_document.specs.Reading.{Gives, when};
 ghost use Rattle.vx_document.specs.RowsOf.{row_of, bytes_of_digits};
 
@@ -35,6 +36,10 @@ pub(crate) trait Kind {
     fn default(alloc: Global) -> Self::Item
         ensures { seen result ≡ default_of dtype };
 
+    // An item as a value.
+    fn into_value(item: Self::Item) -> vx_base::Value
+        ensures { value_of result ≡ seen item };
+
     ghost no_nulls: { nullability_of dtype ≡ NonNullable };
 
     ghost not_null: { (x : Self.Item) → is_null (seen x) ≡ false };
@@ -60,6 +65,10 @@ impl Kind for Truths {
 
     fn default(_alloc: Global) -> bool {
         false
+    }
+
+    fn into_value(item: bool) -> vx_base::Value {
+        vx_base::Value::Bool(item)
     }
 
     ghost no_nulls = { refl };
@@ -94,6 +103,10 @@ impl<T: Integer> Kind for Wholes<T> {
 
     fn default(_alloc: Global) -> T {
         T::zero()
+    }
+
+    fn into_value(item: T) -> vx_base::Value {
+        vx_base::Value::Int(item.to_whole())
     }
 
     ghost no_nulls = { refl };
@@ -134,6 +147,10 @@ impl Kind for Texts {
         Bytes::new_in(alloc)
     }
 
+    fn into_value(item: Bytes) -> vx_base::Value {
+        vx_base::Value::Bytes(item)
+    }
+
     ghost no_nulls = { refl };
 
     ghost not_null = { λ x. refl };
@@ -159,6 +176,10 @@ impl Kind for Binaries {
 
     fn default(alloc: Global) -> Bytes {
         Bytes::new_in(alloc)
+    }
+
+    fn into_value(item: Bytes) -> vx_base::Value {
+        vx_base::Value::Bytes(item)
     }
 
     ghost no_nulls = { refl };

@@ -1,10 +1,11 @@
-//! The members of an object.
+//! The members of an object, and the items of a list.
 
 ghost use Rattle.std.specs.Prelude.{◌≡◌, ℕ, List, map, false, option_map};
 ghost use Rattle.std.specs.Str.{bytes_eq};
 ghost use Rattle.serde_json.specs.Find.{get_member};
 ghost use Rattle.serde_json.specs.View.{view, members_view};
-ghost use Rattle.vx_document.specs.Reading.{is_one_of, has_only};
+ghost use Rattle.vx_document.specs.Reading.{pair_of, is_one_of, has_only};
+ghost use Rattle.vx_document.specs.Types.{has};
 
 use serde_json::{Map, Value};
 
@@ -27,6 +28,13 @@ pub(crate) fn has_only(object: &Map<String, Value>, names: &[&str]) -> bool
     true
 }
 
+// Whether the key stands in the object.
+pub(crate) fn has_member(map: &Map<String, Value>, name: &str) -> bool
+    ensures { result ≡ has name.now (members_view map.now.entries) }
+{
+    map.contains_key(name)
+}
+
 // Takes a member out of the object; the other keys keep theirs.
 pub(crate) fn take_member(map: &mut Map<String, Value>, name: &str) -> Option<Value>
     ensures taken { option_map view result ≡ get_member name.now (members_view map.old.entries) }
@@ -34,4 +42,18 @@ pub(crate) fn take_member(map: &mut Map<String, Value>, name: &str) -> Option<Va
         → get_member key (members_view map.new.entries) ≡ get_member key (members_view map.old.entries) }
 {
     map.remove(name)
+}
+
+// The two items of a list that has no more.
+pub(crate) fn pair_of(list: Vec<Value>) -> Option<(Value, Value)>
+    ensures { result ≡ pair_of list.items }
+{
+    if list.len() != 2 {
+        return None;
+    }
+    let mut items = list.into_iter();
+    match (items.next(), items.next()) {
+        (Some(first), Some(second)) => Some((first, second)),
+        _ => None,
+    }
 }

@@ -45,7 +45,7 @@ use Rattle.vx_schemes.specs.BitPacking.FirstLeast.{first_least-le, narrow_width}
 
 patches_known : (p : PType) (xs : List ℤ) (chosen : List ℕ) → length xs ≤ 2 ^ 64 → list_all (lies_in p) xs ≡ true → ascend 0 (length xs) (map int (map pos chosen)) ≡ true → IfSome (patches_of p xs chosen) WellFormedPatches
 patches_known p xs [] few held a = tt
-patches_known p xs (row ∷ chosen) few held a = short_well (patches_at p xs (row ∷ chosen)) (patches_at-well p xs (row ∷ chosen) few held a)
+patches_known p xs (row ∷ chosen) few held a = short_well (patches_at p xs (row ∷ chosen)) refl (patches_at-well p xs (row ∷ chosen) few held a)
 
 pub packed_tree-well : (p : PType) (n : Nullability) (xs : List ℤ) (valid : List Bool) (width : ℕ) → length xs ≤ 2 ^ 64 → list_all (lies_in p) xs ≡ true → length valid ≡ length xs → validity_allowed (Some valid) n ≡ true
     → nat_le width (natural_bits p) ≡ true → WellFormed (packed_tree p n xs valid width)

@@ -29,6 +29,8 @@ use Rattle.vx_model.specs.WellFormed.{WellFormed, differences_type}
 use Rattle.vx_scheme.specs.Lawful.{IsPart}
 use Rattle.vx_model.proofs.EachIntLemmas.{all_fit-each_int, each_int-back}
 use Rattle.vx_model.proofs.PackedLemmas.{for_made}
+use Rattle.vx_model.proofs.FewLemmas.{few-flat}
+use Rattle.vx_model.proofs.FlatTypeLemmas.{integer-flat}
 use Rattle.vx_model.proofs.PlainLemmas.{column_of-plain, plain_well_formed}
 use Rattle.vx_schemes.specs.BitPacking.Tree.{bit_packing_made}
 use Rattle.vx_schemes.specs.FrameOfReference.Tree as made
@@ -79,7 +81,7 @@ pub packed_or_plain-well : (c : Column) → is_integer c.dtype ≡ true → IsCo
 packed_or_plain-well c i h few = by_made (bit_packing_made c) refl
   where
     by_made : (o : Option Tree) → bit_packing_made c ≡ o → StandsFor (unwrap_or o (plain c)) c
-    by_made None e = (plain_well_formed c h, column_of-plain c h)
+    by_made None e = (plain_well_formed c h (few-flat c.dtype c.values (integer-flat c.dtype i)), column_of-plain c h)
     by_made (Some t) e = bit_packing-lawful c t i h few e
 
 -- under its reference, any well-formed tree of the differences

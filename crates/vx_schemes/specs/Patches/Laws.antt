@@ -8,14 +8,15 @@ use Rattle.vx_base.specs.declared.ptype.PType.TheVariants.{U8, U16, U32, U64}
 use Rattle.vx_base.specs.declared.dtype.Nullability.TheVariants.{NonNullable}
 use Rattle.vx_base.specs.Integers.{lies_in}
 use Rattle.vx_base.specs.PlainScalar.{fits, scalar}
-use Rattle.vx_base.specs.PlainType.{PlainType}
+use Rattle.vx_base.specs.PlainType.{PlainType, is_flat}
 use Rattle.vx_base.specs.PlainValue.{PlainValue, int, whole_or_zero, same_value, stored_value}
 use Rattle.vx_base.specs.Storable.{same_path}
 use Rattle.vx_model.specs.Column.{Column, IsColumn, column, column_of}
 use Rattle.vx_model.specs.Rows.{rows}
 use Rattle.vx_model.specs.Tree.{Tree, PlainPatches}
 use Rattle.vx_model.specs.TreeType.{tree_type}
-use Rattle.vx_model.specs.WellFormed.{WellFormed, ascend, WellFormedPatches}
+use Rattle.vx_model.specs.WellFormed.{WellFormed, IsPatches, ascend, WellFormedPatches}
+use Rattle.vx_model.proofs.FewLemmas.{few-flat}
 use Rattle.vx_model.proofs.MadeLemmas.{rows_fit, primitive_made, constant_made}
 use Rattle.vx_schemes.specs.Patches.Compressed.{index_type, shared_value, narrowed, shared_or_plain, constant_or_plain, compressed_patches, PatchAlike}
 use Rattle.vx_model.proofs.PackedLemmas.{patches_accepted}
@@ -83,32 +84,34 @@ short_alike p h =
 
 -- ---- well formed
 
-constant_or_plain-well : (c : Column) → IsColumn c → WellFormed (constant_or_plain c)
-constant_or_plain-well c h = by_value (shared_value c.values) refl
+constant_or_plain-well : (c : Column) → is_flat c.dtype ≡ true → IsColumn c → WellFormed (constant_or_plain c)
+constant_or_plain-well c flat h = by_value (shared_value c.values) refl
   where
     by_value : (o : Option PlainValue) → shared_value c.values ≡ o → WellFormed (shared_or_plain c o)
-    by_value None e = plain_well_formed c h
+    by_value None e = plain_well_formed c h (few-flat c.dtype c.values flat)
     by_value (Some v) e = constant_made (scalar c.dtype v) (length c.values) (shared-fits c.dtype c.values v h e)
 
 narrowed-well : (t : Tree) (low high : ℕ) → ascend low high (rows t) ≡ true → WellFormed t → WellFormed (narrowed t)
 narrowed-well t low high a w =
     primitive_made (index_type (rows t)) (map whole_or_zero (rows t)) None NonNullable refl refl (wholes_lie_in (index_type (rows t)) NonNullable (rows t) (index_type-holds (rows t) (ascend-words (tree_type t) low high (rows t) a (rows_fit t w))))
 
-pub short_well : (p : PlainPatches) → WellFormedPatches p → WellFormedPatches (compressed_patches p)
-short_well p h =
+pub short_patches : (p : PlainPatches) → WellFormedPatches p → IsPatches p.array_len p.offset (narrowed p.indices) (constant_or_plain (column_of p.values))
+short_patches p h =
     let low = p.offset in
     let high = p.offset + p.array_len in
     let is = rows-narrowed p.indices low high h.2.ascending in
-    let vs = rows-constant_or_plain (column_of p.values) (rows_fit p.values h.1) in (
-      narrowed-well p.indices low high h.2.ascending h.0,
-      constant_or_plain-well (column_of p.values) (rows_fit p.values h.1),
-      record {
-        indices_type = refl;
-        not_null = refl;
-        lengths = ap length is ∙ h.2.lengths ∙ sym (ap length vs);
-        ascending = ap (ascend low high) is ∙ h.2.ascending;
-      },
-    )
+    let vs = rows-constant_or_plain (column_of p.values) (rows_fit p.values h.1) in
+    record {
+      indices_type = refl;
+      not_null = refl;
+      lengths = ap length is ∙ h.2.lengths ∙ sym (ap length vs);
+      ascending = ap (ascend low high) is ∙ h.2.ascending;
+    }
+
+-- where the values hold no others
+pub short_well : (p : PlainPatches) → is_flat (tree_type p.values) ≡ true → WellFormedPatches p → WellFormedPatches (compressed_patches p)
+short_well p flat h =
+    (narrowed-well p.indices p.offset (p.offset + p.array_len) h.2.ascending h.0, constant_or_plain-well (column_of p.values) flat (rows_fit p.values h.1), short_patches p h)
 
 -- ---- the patches at some rows
 

@@ -1,8 +1,8 @@
 //! Rows of bytes, one after the other, and the offsets between them.
 
-ghost use Rattle.std.specs.List.{concat};
 ghost use Rattle.std.specs.Prelude.{◌≡◌, ◌-◌, ◌^◌, length, min};
 ghost use Rattle.vx_base.specs.Answers.{Answers};
+ghost use Rattle.vx_model.specs.Nested.{joined};
 ghost use Rattle.vx_model.specs.Offsets.{offsets_of};
 
 use std::alloc::Global;
@@ -10,7 +10,7 @@ use vx_base::{ByteRows, Bytes, IntList, VortexError, VortexResult};
 
 /// The rows one after the other. Room is taken once.
 pub fn joined(alloc: Global, rows: &ByteRows) -> VortexResult<Bytes>
-    ensures { Answers result (concat rows.now) }
+    ensures { Answers result (joined rows.now) }
 {
     let mut bytes = Vec::with_capacity(alloc, byte_count(rows.as_slice()))?;
     for row in rows.as_slice() {
@@ -21,7 +21,7 @@ pub fn joined(alloc: Global, rows: &ByteRows) -> VortexResult<Bytes>
 
 // The bytes of all rows together.
 fn byte_count(rows: &[Bytes]) -> usize
-    ensures { result ≡ min (length (concat rows.now)) (2 ^ 64 - 1) }
+    ensures { result ≡ min (length (joined rows.now)) (2 ^ 64 - 1) }
 {
     let mut count: usize = 0;
     for row in rows {

@@ -8,7 +8,7 @@ use Rattle.vx_compressor.proofs.ByValueLemmas.{decided-empty, decided-nulls, dec
 use Rattle.vx_compressor.proofs.by_value.by_value.Goals as goal
 
 pub returns-then-len-eq0 : goal.returns-then-len-eq0
-returns-then-len-eq0 c = decided-empty c.args.plain.now (site_of c.args.site.now) c.in_ok-copy.field-0 c.requires (omega arith) c.in_ok-copy.ensures
+returns-then-len-eq0 c = decided-empty c.args.plain.now (site_of c.args.site.now) c.in_ok-copy.field-0 c.requires.plain (omega arith) c.in_ok-copy.ensures
 
 pub returns-in_ok-null_tree-in-Nothing : goal.returns-in_ok-null_tree-in-Nothing
 returns-in_ok-null_tree-in-Nothing c =

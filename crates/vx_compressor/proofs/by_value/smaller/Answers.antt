@@ -6,4 +6,4 @@ use Rattle.vx_compressor.proofs.by_value.smaller.Goals as goal
 pub returns-else-nbytes : goal.returns-else-nbytes
 returns-else-nbytes c =
     let more : nbytes c.args.plain ≤ nbytes c.args.tree = omega arith in
-    not_smaller c.args.plain c.args.tree c.known.ensures c.requires.few c.requires.plain more
+    not_smaller c.args.plain c.args.tree c.known.ensures c.requires.flat c.requires.few c.requires.plain more

@@ -12,4 +12,4 @@ returns-else-is_timestamp-clause-answer g c =
     let leaves = leaf_tree (setting g.S.Scheme.meaning c.args.compressor.now c.args.ctx.now) in
     let here = column_of c.args.made in
     let other : is_timestamp (tree_type c.args.made) ≡ false = ap is_timestamp (sym c.dtype.ensures) ∙ sym c.is_timestamp.ensures ∙ c.if-is_timestamp.false in
-    c.requires.made ∙ ap (leaves here) c.requires.fresh ∙ sym (cascade-leaf leaves here (leaf_type here.dtype other))
+    c.requires.made ∙ ap (leaves here) c.requires.fresh ∙ sym (cascade-leaf leaves here (leaf_type here.dtype c.requires.flat other))

@@ -1,4 +1,5 @@
-use Rattle.std.proofs.Common.{◌≡◌, ◌∙◌, rules, sym, subst}
+use Rattle.std.proofs.Common.{◌≡◌, ◌∙◌, rules, sym, subst, ap}
+use Rattle.vx_base.specs.PlainType.{is_flat}
 use Rattle.vx_model.specs.Column.{column_of}
 use Rattle.vx_model.specs.Plain.{plain, IsPlain}
 use Rattle.vx_model.proofs.MadeLemmas.{rows_fit}
@@ -10,6 +11,16 @@ use Rattle.vx_compressor.proofs.HeldLemmas.{column_of-is, plain-is}
 use Rattle.vx_compressor.proofs.OneValueTrees.{answers_along}
 use Rattle.vx_compressor.proofs.compressor.counted.Goals.{then-is_plain+in_ok-tree+in_default+in_ok-plain, else-is_plain+in_ok-plain-2}
 use Rattle.vx_compressor.proofs.compressor.counted.Goals as goal
+
+pub plain_counted-requires-clause-flat : goal.plain_counted-requires-clause-flat
+plain_counted-requires-clause-flat g c =
+    let here = column_of c.args.array.now in
+    let fits = rows_fit c.args.array.now c.known.ensures in
+    let made : c.if-is_plain.plain ≡ plain here = elim c.if-is_plain.branch [
+      | then-is_plain+in_ok-tree+in_default+in_ok-plain w ↦ let own : IsPlain c.args.array.now = search rules in w.plain-is ∙ w.in_ok-plain.ensures ∙ own
+      | else-is_plain+in_ok-plain-2 w ↦ w.plain-is ∙ w.in_ok-plain-2.ensures
+    ] in
+    ap (λ col. is_flat col.dtype) (column_of-is c.if-is_plain.plain here fits made) ∙ c.requires.flat
 
 pub plain_counted-requires-clause-reach : goal.plain_counted-requires-clause-reach
 plain_counted-requires-clause-reach g c =

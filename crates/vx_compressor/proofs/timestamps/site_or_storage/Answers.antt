@@ -22,6 +22,14 @@ into_storage-storage-requires g c =
     let own : IsPlain c.args.made = search rules in
     ap encoding own ∙ root-stamps (column_of c.args.made) c.requires.stamps
 
+pub storage_tree-requires-clause-flat : goal.storage_tree-requires-clause-flat
+storage_tree-requires-clause-flat g c =
+    let here = column_of c.args.made in
+    let site = site_of c.args.site.now in
+    let own : IsPlain c.args.made = search rules in
+    let parts = c.into_storage-storage in
+    (own_storage here site parts.result.0 parts.result.1 c.requires.stamps (rows_fit c.args.made c.known.ensures) c.requires.reach (parts.ensures ∙ own)).flat
+
 pub storage_tree-requires-clause-reach : goal.storage_tree-requires-clause-reach
 storage_tree-requires-clause-reach g c =
     let here = column_of c.args.made in
@@ -45,10 +53,20 @@ returns-then-is_plain-clause-answer g c =
 
 -- ---- a scheme's tree
 
+pub storage_tree-requires-2-clause-flat : goal.storage_tree-requires-2-clause-flat
+storage_tree-requires-2-clause-flat g c =
+    let parts = c.into_storage-storage-2 in
+    (own_storage (column_of c.args.made) (site_of c.args.site.now) parts.result.0 parts.result.1 c.requires.stamps (rows_fit c.args.made c.known.ensures) c.requires.reach (parts.ensures ∙ c.in_ok-canonical.ensures)).flat
+
 pub storage_tree-requires-2-clause-plain : goal.storage_tree-requires-2-clause-plain
 storage_tree-requires-2-clause-plain g c =
     let parts = c.into_storage-storage-2 in
     (own_storage (column_of c.args.made) (site_of c.args.site.now) parts.result.0 parts.result.1 c.requires.stamps (rows_fit c.args.made c.known.ensures) c.requires.reach (parts.ensures ∙ c.in_ok-canonical.ensures)).plain
+
+pub storage_tree-requires-2-clause-whole : goal.storage_tree-requires-2-clause-whole
+storage_tree-requires-2-clause-whole g c =
+    let parts = c.into_storage-storage-2 in
+    (own_storage (column_of c.args.made) (site_of c.args.site.now) parts.result.0 parts.result.1 c.requires.stamps (rows_fit c.args.made c.known.ensures) c.requires.reach (parts.ensures ∙ c.in_ok-canonical.ensures)).whole
 
 pub storage_tree-requires-2-clause-reach : goal.storage_tree-requires-2-clause-reach
 storage_tree-requires-2-clause-reach g c =
@@ -62,7 +80,7 @@ smaller_of-requires g c =
     let site = site_of c.args.site.now in
     let parts = c.into_storage-storage-2 in
     let storage = own_storage here site parts.result.0 parts.result.1 c.requires.stamps (rows_fit c.args.made c.known.ensures) c.requires.reach (parts.ensures ∙ c.in_ok-canonical.ensures) in
-    small_stamps set (column_of parts.result.0) site parts.result.1 c.in_ok-other.other storage.fits storage.reach c.in_ok-other.ensures.answer
+    small_stamps set (column_of parts.result.0) site parts.result.1 c.in_ok-other.other storage.flat storage.fits storage.reach c.in_ok-other.ensures.answer
 
 pub returns-clause-answer : goal.returns-clause-answer
 returns-clause-answer g c =

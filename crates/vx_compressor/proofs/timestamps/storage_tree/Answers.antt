@@ -8,5 +8,5 @@ pub returns-in-Err-clause-answer : goal.returns-in-Err-clause-answer
 returns-in-Err-clause-answer g c =
     let meaning = g.S.Scheme.meaning in
     let set = setting meaning c.args.compressor.now c.args.ctx.now in
-    let admitted = storage-admitted set (lawful-map meaning g.met.S.Scheme.lawful c.args.compressor.now) c.args.storage c.in_ok-tree.tree (site_of c.args.site.now) c.known.ensures c.requires.reach c.requires.whole c.in_ok-tree.ensures.answer in
+    let admitted = storage-admitted set (lawful-map meaning g.met.S.Scheme.lawful c.args.compressor.now) c.args.storage c.in_ok-tree.tree (site_of c.args.site.now) c.known.ensures c.requires.flat c.requires.reach c.requires.whole c.in_ok-tree.ensures.answer in
     no_memory _ _ _ _ admitted c.in-Err.ensures

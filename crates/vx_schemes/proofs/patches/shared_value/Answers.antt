@@ -22,7 +22,7 @@ returns-then-is_some c =
 pub repeated-requires : goal.repeated-requires
 repeated-requires c =
     let at = first_at (rows c.args.plain.now) c.in-Some.row c.in-Some.ensures in
-    record { plain = c.requires; in_range = at.within; value = at.valid }
+    record { plain = c.requires.plain; flat = c.requires.flat; in_range = at.within; value = at.valid }
 
 pub returns : goal.returns
 returns c =

@@ -1,23 +1,25 @@
 use Rattle.std.proofs.Common.{◌≡◌, ◌≤◌, ◌∙◌, ap, arith, subst, length, sym}
-use Rattle.std.specs.Prelude.{IsTrue}
-use Rattle.std.proofs.lemmas.Bool.{leb-true}
+use Rattle.std.specs.Prelude.{IsTrue, not}
+use Rattle.std.proofs.lemmas.Bool.{leb-true, and_parts}
 use Rattle.std.proofs.lemmas.List.{length-map}
 use Rattle.std.proofs.lemmas.Result.{MatchResult-weaker}
+use Rattle.vx_base.specs.Integers.{is_signed}
 use Rattle.vx_base.specs.PlainType.{is_integer}
 use Rattle.vx_base.specs.PlainValue.{int}
 use Rattle.vx_base.proofs.IntegerLemmas.{is_unsigned-is_integer}
 use Rattle.vx_model.specs.Refusals.{validity_length}
 use Rattle.vx_model.specs.Rows.{rows}
 use Rattle.vx_model.specs.Tree.{plain_packed}
+use Rattle.vx_model.specs.TreeType.{tree_type}
 use Rattle.vx_model.specs.WellFormed.{are_offsets}
 use Rattle.vx_model.proofs.MadeLemmas.{has_length}
+use Rattle.vx_model.proofs.PackedOfLemmas.{packed-packed_of}
 use Rattle.vx_model.proofs.VarBinLemmas.{length-cut_at}
 use Rattle.vx_values.specs.IntsOf.{wholes_of}
 use Rattle.vx_array.specs.IsDecoded.{IsDecoded}
 use Rattle.vx_array.specs.TreeOf.{unboxed}
 use Rattle.vx_array.proofs.AtNode.{at_node}
-use Rattle.vx_array.proofs.Decodings.{integers_of, held_integers, wholes-rows, bool_rows, primitive_rows, view_rows, var_bin_rows, timestamp_rows, masked_rows_of, packed_rows, moved_rows, zig_zag_rows, dict_rows}
-use Rattle.vx_array.proofs.Flat.{flat_type}
+use Rattle.vx_array.proofs.Decodings.{integers_of, bits_of_integers, held_integers, wholes-rows, bool_rows, primitive_rows, view_rows, var_bin_rows, timestamp_rows, masked_rows_of, packed_rows, moved_rows, zig_zag_rows, dict_rows}
 use Rattle.vx_array.proofs.array.ArrayRef.+decoded.Goals as goal
 
 pub decoded_bool-requires : goal.decoded_bool-requires
@@ -77,7 +79,9 @@ returns-in-Timestamp t c =
     rw a.is (MatchResult-weaker c.decoded-in-Timestamp.result c.decoded-in-Timestamp.ensures (λ d r. timestamp_rows c.in-Timestamp.storage.value c.in-Timestamp.field-1 d a.well_formed (subst (λ t. IsDecoded t d) c.deref-in-Timestamp.ensures r)) (λ e n. n))
 
 pub decoded_constant-requires : goal.decoded_constant-requires
-decoded_constant-requires t c = flat_type _
+decoded_constant-requires t c =
+    let a = at_node c.self.view_is c.self.invariant c.in-Constant.is in
+    rw a.is at c.requires
 
 pub returns-in-Primitive : goal.returns-in-Primitive
 returns-in-Primitive t c =
@@ -145,3 +149,30 @@ returns-in_ok-decoded-in-Dict-2 t c =
     rw a.is
     (MatchResult-weaker c.decoded_by_codes.result c.decoded_by_codes.ensures
     (λ d r. dict_rows c.in-Dict.codes.value c.in-Dict.values.value parts.result.0 parts.result.1 have.field-0 d a.well_formed codes values r) (λ e n. n))
+
+pub decoded_packed-requires-clause-narrow : goal.decoded_packed-requires-clause-narrow
+decoded_packed-requires-clause-narrow t c =
+    let a = at_node c.self.view_is c.self.invariant c.in-BitPacked.is in
+    (packed-packed_of _ _ a.well_formed).narrow
+
+pub decoded_packed-requires-clause-sized : goal.decoded_packed-requires-clause-sized
+decoded_packed-requires-clause-sized t c =
+    let a = at_node c.self.view_is c.self.invariant c.in-BitPacked.is in
+    (packed-packed_of _ _ a.well_formed).sized
+
+pub decoded_zig_zag-requires : goal.decoded_zig_zag-requires
+decoded_zig_zag-requires t c =
+    let a = at_node c.self.view_is c.self.invariant c.in-ZigZag.is in
+    let got = c.in_ok-decoded-in-ZigZag in
+    let parts = c.into_integers-zigzags in
+    let encoded = subst (λ t. IsDecoded t got.field-0) c.deref-in-ZigZag.ensures got.ensures in
+    let zigzags = integers_of c.in-ZigZag.encoded.value got.field-0 parts.result.0 parts.result.1 a.well_formed.0 (is_unsigned-is_integer _ a.well_formed.1.unsigned) parts.ensures.values parts.ensures.valid encoded in
+    ap (λ p. not (is_signed p)) zigzags.ptype ∙ (and_parts (is_integer (tree_type c.in-ZigZag.encoded.value)) _ a.well_formed.1.unsigned).1
+
+pub decoded_by_codes-requires : goal.decoded_by_codes-requires
+decoded_by_codes-requires t c =
+    let a = at_node c.self.view_is c.self.invariant c.in-Dict.is in
+    let got = c.in_ok-decoded-in-Dict in
+    let parts = c.into_integers-codes in
+    let codes = integers_of c.in-Dict.codes.value got.field-0 parts.result.0 parts.result.1 a.well_formed.0 a.well_formed.2.codes_type parts.ensures.values parts.ensures.valid (subst (λ t. IsDecoded t got.field-0) c.deref-in-Dict.ensures got.ensures) in
+    bits_of_integers c.in-Dict.codes.value parts.result.0 parts.result.1 codes

@@ -1,18 +1,29 @@
-use Rattle.std.proofs.Common.{◌∙◌, sym, ap}
+use Rattle.std.proofs.Common.{◌≡◌, ◌∙◌, ℕ, zero, suc, refl, sym, ap, arith}
 use Rattle.std.specs.List.{list_any}
-use Rattle.vx_base.specs.PlainValue.{is_null}
+use Rattle.std.specs.Prelude.{nat_lt, replicate}
+use Rattle.std.proofs.lemmas.Bool.{lt-ltb}
+use Rattle.vx_base.specs.PlainValue.{null, is_null}
 use Rattle.vx_model.specs.Rows.{rows}
 use Rattle.vx_model.proofs.BoolLemmas.{any_null-bool}
 use Rattle.vx_model.proofs.DictDecodeLemmas.{any_null-codes, any_null-dict}
+use Rattle.vx_model.proofs.FixedSizeListLemmas.{any_null-fixed_size_list}
+use Rattle.vx_model.proofs.ListLemmas.{any_null-list}
 use Rattle.vx_model.proofs.NullLemmas.{any_null-primitive}
+use Rattle.vx_model.proofs.StructLemmas.{any_null-structure}
+use Rattle.vx_model.specs.TreeType.{tree_type}
 use Rattle.vx_model.proofs.PackedDecodeLemmas.{any_null-frame_of_reference}
 use Rattle.vx_model.proofs.PackedOfLemmas.{any_null-packed_of}
 use Rattle.vx_model.proofs.VarBinLemmas.{any_null-var_bin}
 use Rattle.vx_model.proofs.ViewLemmas.{any_null-var_bin_view}
 use Rattle.vx_model.proofs.ZigZagLemmas.{any_null-zig_zag}
 use Rattle.vx_array.proofs.AtNode.{at_node}
-use Rattle.vx_array.proofs.Flat.{flat_type}
+use Rattle.vx_array.proofs.Flat.{dict_flat}
 use Rattle.vx_array.proofs.array.ArrayRef.+has_null.Goals as goal
+
+-- some row is null where there are rows
+nulls-some : (len : ℕ) → nat_lt 0 len ≡ list_any is_null (replicate len null)
+nulls-some zero = refl
+nulls-some (suc len) = lt-ltb 0 (suc len) (omega arith)
 
 pub returns-in-Bool : goal.returns-in-Bool
 returns-in-Bool t c =
@@ -65,4 +76,26 @@ returns-else-has_null-2 t c =
     rw a.is (c.if-has_null-2.false ∙ sym (any_null-dict codes values a.well_formed none_of_values ∙ none))
 
 pub has_null_row-requires : goal.has_null_row-requires
-has_null_row-requires t c = flat_type _
+has_null_row-requires t c =
+    let a = at_node c.self.view_is c.self.invariant c.in-Dict.is in
+    rw a.is (dict_flat (tree_type c.in-Dict.codes.value) (tree_type c.in-Dict.values.value) a.well_formed.2.values_type)
+
+pub returns-in-Null : goal.returns-in-Null
+returns-in-Null t c =
+    let a = at_node c.self.view_is c.self.invariant c.in-Null.is in
+    rw a.is (nulls-some c.in-Null.len)
+
+pub returns-in-Struct : goal.returns-in-Struct
+returns-in-Struct t c =
+    let a = at_node c.self.view_is c.self.invariant c.in-Struct.is in
+    rw a.is (c.is_some-in-Struct.ensures ∙ sym (any_null-structure _ _ _ _ _ a.well_formed))
+
+pub returns-in-List : goal.returns-in-List
+returns-in-List t c =
+    let a = at_node c.self.view_is c.self.invariant c.in-List.is in
+    rw a.is (c.is_some-in-List.ensures ∙ sym (any_null-list _ _ _ _ a.well_formed))
+
+pub returns-in-FixedSizeList : goal.returns-in-FixedSizeList
+returns-in-FixedSizeList t c =
+    let a = at_node c.self.view_is c.self.invariant c.in-FixedSizeList.is in
+    rw a.is (c.is_some-in-FixedSizeList.ensures ∙ sym (any_null-fixed_size_list _ _ _ _ _ a.well_formed))

@@ -1,6 +1,6 @@
 use Rattle.std.proofs.Common.{◌∙◌, ap, sym, refl, subst}
 use Rattle.vx_base.specs.Answers.{Answers}
-use Rattle.vx_base.specs.PlainType.{nullability_of}
+use Rattle.vx_base.specs.PlainType.{is_flat, nullability_of}
 use Rattle.vx_array.specs.AsType.{as_type}
 use Rattle.vx_array.proofs.Canonicals.{bool_of, view_of, ints_of}
 use Rattle.vx_array.proofs.array.ArrayRef.canonical.Goals as goal
@@ -9,13 +9,15 @@ pub bool_of-requires : goal.bool_of-requires
 bool_of-requires c =
     let d = c.in_ok-values.field-0 in
     let nullability = c.nullability.ensures ∙ ap nullability_of c.dtype-dtype.ensures in
-    (bool_of c.args.self.now d c.in-Bits.bits d.valid c.nullability.result c.known.ensures (sym c.in-Bits.is) refl nullability c.in_ok-values.ensures).admitted
+    let flat = ap is_flat (sym c.dtype.ensures) ∙ sym c.is_flat.ensures ∙ c.if-not-is_flat.false in
+    (bool_of c.args.self.now d c.in-Bits.bits d.valid c.nullability.result c.known.ensures flat (sym c.in-Bits.is) refl nullability c.in_ok-values.ensures).admitted
 
 pub returns-in-Bits : goal.returns-in-Bits
 returns-in-Bits c =
     let d = c.in_ok-values.field-0 in
     let nullability = c.nullability.ensures ∙ ap nullability_of c.dtype-dtype.ensures in
-    c.bool_of.ensures ∙ (bool_of c.args.self.now d c.in-Bits.bits d.valid c.nullability.result c.known.ensures (sym c.in-Bits.is) refl nullability c.in_ok-values.ensures).made
+    let flat = ap is_flat (sym c.dtype.ensures) ∙ sym c.is_flat.ensures ∙ c.if-not-is_flat.false in
+    c.bool_of.ensures ∙ (bool_of c.args.self.now d c.in-Bits.bits d.valid c.nullability.result c.known.ensures flat (sym c.in-Bits.is) refl nullability c.in_ok-values.ensures).made
 
 pub primitive_of-integers-requires : goal.primitive_of-integers-requires
 primitive_of-integers-requires c =

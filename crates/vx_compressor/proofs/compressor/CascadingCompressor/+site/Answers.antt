@@ -1,16 +1,18 @@
-use Rattle.std.proofs.Common.{◌≡◌, ◌<◌, ◌+◌, ◌++◌, ◌-◌, ◌^◌, rules, false, Some, All, refl, sym, ◌∙◌, ap, subst, map, drop, length, option_map}
+use Rattle.std.proofs.Common.{◌≡◌, ◌<◌, ◌+◌, ◌++◌, ◌-◌, ◌^◌, rules, true, false, Some, All, refl, sym, ◌∙◌, ap, subst, map, drop, length, option_map}
 use Rattle.std.specs.Prelude.{◌==◌}
 use Rattle.std.proofs.lemmas.Bool.{eqb-false}
 use Rattle.std.proofs.lemmas.Iterator.Adapters.{YieldsList-from_vec}
 use Rattle.std.proofs.lemmas.Iterator.Consumers.{YieldsList-turn}
 use Rattle.std.proofs.lemmas.List.{length_push}
 use Rattle.vx_base.specs.Answers.{Answers}
+use Rattle.vx_base.specs.PlainType.{is_flat}
 use Rattle.vx_base.specs.TypeOf.{type_of}
 use Rattle.vx_model.specs.Column.{IsColumn, column_of}
 use Rattle.vx_model.specs.Leaf.{smaller_or_plain, chosen_or_plain}
 use Rattle.vx_model.specs.Plain.{plain, IsPlain}
 use Rattle.vx_model.specs.Site.{down}
 use Rattle.vx_model.specs.Size.{size}
+use Rattle.vx_model.specs.TreeType.{tree_type}
 use Rattle.vx_model.proofs.MadeLemmas.{rows_fit}
 use Rattle.vx_scheme.specs.Asked.{HasValue, IsSiteTree, FitParts}
 use Rattle.vx_scheme.specs.Contexts.{site_of, options_of}
@@ -40,7 +42,7 @@ site_tree-best_tree-requires g t c =
     let own = column_of c.args.canonical in
     let here = open-here c.in_ok-tree.field-0 own (site_of c.args.site.now) c.in_ok-tree.ensures c.in-None.is in
     let value : HasValue own = here.value in
-    let askable : IsAskable own = record { column = rows_fit c.args.canonical c.known.ensures; some = here.some; few = few_in_reach own (site_of c.args.site.now).budget c.requires.reach } in
+    let askable : IsAskable own = record { column = rows_fit c.args.canonical c.known.ensures; flat = c.requires.flat; some = here.some; few = few_in_reach own (site_of c.args.site.now).budget c.requires.reach } in
     search rules
 
 pub site_tree-returns-in-Some-clause-answer : goal.site_tree-returns-in-Some-clause-answer
@@ -301,6 +303,7 @@ trial-part_trees-requires g t c =
     let parts = parts_made meaning g.met.S.Scheme.lawful c.args.self.now c.args.words.now c.args.scheme.now c.args.column.now.array c.array.result.now site c.known.ensures c.array.ensures.array c.requires.column c.requires.ready.taken c.requires.reach
     c.in-Parts.parts made in
     let plain : All IsPlain c.in-Parts.parts = parts.plain in
+    let flat : All (λ part. is_flat (tree_type part) ≡ true) c.in-Parts.parts = parts.flat in
     let reach : All (λ part. IsPartInReach (column_of part) c.args.site.now.budget) c.in-Parts.parts = parts.reach in
     search rules
 
@@ -341,6 +344,7 @@ part_trees-part_tree-requires g t c =
     let gives = c.into_iter-part-iterator.ensures.into_iter_gives in
     let turn = YieldsList-turn (YieldsList-from_vec {s = c.into_iter-part-iterator.result} c.args.parts (gives.0 ∙ items.ensures) (gives.1 ∙ items.result.ok.0 ∙ ap length items.ensures)) l.yielded l.part-iterator l.yielded_by c.next.result c.next.new.self part c.in-Some.is c.next.ensures.steps in
     let plain : IsPlain part = subst IsPlain (sym turn.1) (c.requires.plain (length l.yielded) part turn.0) in
+    let flat : is_flat (tree_type part) ≡ true = subst (λ p. is_flat (tree_type p) ≡ true) (sym turn.1) (c.requires.flat (length l.yielded) part turn.0) in
     let reach : IsPartInReach (column_of part) c.args.site.now.budget = subst (λ p. IsPartInReach (column_of p) c.args.site.now.budget) (sym turn.1) (c.requires.reach (length l.yielded) part turn.0) in
     search rules
 

@@ -1,16 +1,14 @@
 use Rattle.std.proofs.Common.{◌≡◌, sym}
 use Rattle.vx_model.specs.Cascade.{cascade}
 use Rattle.vx_model.specs.Column.{column_of}
-use Rattle.vx_model.specs.Site.{fresh}
-use Rattle.std.proofs.Common.{refl}
 use Rattle.vx_compressor.specs.Cascade.{setting, leaf_tree}
 use Rattle.vx_compressor.proofs.CascadeLemmas.{lawful-map}
-use Rattle.vx_compressor.proofs.KeptLemmas.{kept_by}
-use Rattle.vx_compressor.proofs.LimitLemmas.{reach_fresh, decided_within}
+use Rattle.vx_compressor.proofs.KeptLemmas.{column_within, kept_by}
+use Rattle.vx_compressor.proofs.LimitLemmas.{decided_within}
 use Rattle.vx_compressor.proofs.compressor.CascadingCompressor.compress.Goals as goal
 
 pub column_tree-requires : goal.column_tree-requires
-column_tree-requires g c = reach_fresh c.args.array.now fresh c.known.ensures (sym c.if-not-extents_fit.ensures) refl
+column_tree-requires g c = column_within c.args.array.now c.known.ensures (sym c.if-not-extents_fit.ensures)
 
 pub returns-clause-answer : goal.returns-clause-answer
 returns-clause-answer g c =

@@ -1,23 +1,26 @@
-use Rattle.std.proofs.Common.{◌≡◌, sym, refl}
+use Rattle.std.proofs.Common.{◌≡◌, sym, rules}
 use Rattle.vx_model.specs.Cascade.{cascade}
 use Rattle.vx_model.specs.Column.{column_of}
-use Rattle.vx_model.specs.Site.{fresh}
+use Rattle.vx_model.specs.Plain.{IsPlain}
 use Rattle.vx_compressor.specs.Cascade.{setting, leaf_tree}
 use Rattle.vx_compressor.proofs.CascadeLemmas.{lawful-map}
-use Rattle.vx_compressor.proofs.KeptLemmas.{kept_by}
-use Rattle.vx_compressor.proofs.LimitLemmas.{reach_fresh, decided_within}
+use Rattle.vx_compressor.proofs.KeptLemmas.{column_within, kept_by}
+use Rattle.vx_compressor.proofs.LimitLemmas.{decided_within}
+use Rattle.vx_compressor.proofs.WholeLemmas.{whole_of}
 use Rattle.vx_compressor.proofs.compressor.CascadingCompressor.compress_owned.Goals as goal
 
-pub owned_tree-requires-clause-reach : goal.owned_tree-requires-clause-reach
-owned_tree-requires-clause-reach g c = reach_fresh c.args.array fresh c.known.ensures (sym c.if-not-extents_fit.ensures) refl
+pub plain_tree-requires : goal.plain_tree-requires
+plain_tree-requires g c =
+    let own : IsPlain c.args.array = search rules in
+    whole_of c.args.array own (column_within c.args.array c.known.ensures (sym c.if-not-extents_fit.ensures))
 
 pub returns-clause-answer : goal.returns-clause-answer
 returns-clause-answer g c =
     let leaves = leaf_tree (setting g.S.Scheme.meaning c.args.self.now c.args.ctx.now) in
-    decided_within c.args.array (λ tree. tree ≡ cascade leaves (column_of c.args.array)) c.owned_tree.result c.if-not-extents_fit.ensures c.owned_tree.ensures.answer
+    decided_within c.args.array (λ tree. tree ≡ cascade leaves (column_of c.args.array)) c.plain_tree.result c.if-not-extents_fit.ensures c.plain_tree.ensures.answer
 
 pub returns-clause-kept : goal.returns-clause-kept
 returns-clause-kept g c =
     let meaning = g.S.Scheme.meaning in
     let set = setting meaning c.args.self.now c.args.ctx.now in
-    kept_by set (lawful-map meaning g.met.S.Scheme.lawful c.args.self.now) c.args.array c.owned_tree.result c.known.ensures (sym c.if-not-extents_fit.ensures) c.owned_tree.ensures.answer
+    kept_by set (lawful-map meaning g.met.S.Scheme.lawful c.args.self.now) c.args.array c.plain_tree.result c.known.ensures (sym c.if-not-extents_fit.ensures) c.plain_tree.ensures.answer

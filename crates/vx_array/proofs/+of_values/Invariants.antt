@@ -1,0 +1,40 @@
+use Rattle.std.proofs.Common.{◌≡◌, ◌+◌, ◌*◌, ◌++◌, map, true}
+use Rattle.std.specs.List.{list_all}
+use Rattle.std.specs.VecDeque.{deque_items}
+use Rattle.vx_base.specs.PlainScalar.{fields_fit}
+use Rattle.vx_base.specs.PlainType.{of_fields}
+use Rattle.vx_base.specs.TypeOf.{type_of, value_of, fields_of}
+use Rattle.vx_base.proofs.FallLemmas.{type_count, field_list_count}
+use Rattle.vx_model.specs.Nested.{struct_rows}
+use Rattle.vx_model.specs.Plain.{plain_fields}
+use Rattle.vx_model.specs.Tree.{list_of}
+use Rattle.vx_array.specs.Handed.{rows_of}
+use Rattle.vx_array.proofs.FieldTrees.{fields_from}
+use Rattle.vx_array.proofs.+of_values.Given as goal
+
+-- two for each type and each field, and one more where a call of the same comes first
+abbrev pub decreases-array::ArrayRef::of_values : goal.decreases-array::ArrayRef::of_values
+decreases-array::ArrayRef::of_values l = 2 * type_count (type_of l.dtype.now)
+
+abbrev pub decreases-of_values::of_structs : goal.decreases-of_values::of_structs
+decreases-of_values::of_structs l = 2 * field_list_count (fields_of l.fields.now) + 1
+
+abbrev pub decreases-of_values::field_trees : goal.decreases-of_values::field_trees
+decreases-of_values::field_trees l = 2 * field_list_count (fields_of l.fields.now)
+
+abbrev pub decreases-of_values::of_lists : goal.decreases-of_values::of_lists
+decreases-of_values::of_lists l = 2 * type_count (type_of l.dtype.now) + 1
+
+abbrev pub decreases-of_values::of_fixed_lists : goal.decreases-of_values::of_fixed_lists
+decreases-of_values::of_fixed_lists l = 2 * type_count (type_of l.dtype.now) + 1
+
+-- the trees so far, and those of the fields that are left, whose values fit them
+abbrev pub invariant-of_values::field_trees-loop-field : goal.invariant-of_values::field_trees-loop-field
+invariant-of_values::field_trees-loop-field l =
+    let all = of_fields (fields_of l.fields) in
+    let left = fields_from l.field-index l.field-items in
+    let rows = rows_of (map deque_items l.rows.items) in
+    record {
+      fitting : list_all (fields_fit left) rows ≡ true;
+      made : l.trees.items ++ list_of (plain_fields left rows) ≡ list_of (plain_fields all (struct_rows all (map value_of l.fn.values.items)));
+    }

@@ -1,0 +1,10 @@
+use Rattle.std.proofs.Common.{◌≡◌, ◌++◌, map}
+use Rattle.std.specs.Vec.Iter.{into_iter_items}
+use Rattle.vx_base.specs.TypeOf.{type_of, value_of}
+use Rattle.vx_model.specs.Nested.{fixed_elements}
+use Rattle.vx_array.proofs.of_values.within.fixed_items.Given as goal
+
+-- the items, and those of what is left
+abbrev pub invariant-loop-value : goal.invariant-loop-value
+invariant-loop-value l =
+    map value_of l.items.items ++ fixed_elements (type_of l.dtype) l.size (map value_of (into_iter_items l.value-iterator)) ≡ fixed_elements (type_of l.dtype) l.size (map value_of l.fn.values.items)

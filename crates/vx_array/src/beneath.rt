@@ -1,0 +1,187 @@
+//! What stands beneath nulls in trees of nested columns, whose children are plain.
+
+ghost use Rattle.std.specs.List.{list_all};
+ghost use Rattle.std.specs.Prelude.{◌≡◌, ◌↔◌, ◌<◌, ◌≤◌, ◌+◌, ◌*◌, ◌-◌, ◌==◌, IsTrue, None, length, nat_le, nat_lt, true};
+ghost use Rattle.vx_array.specs.Beneath.{ArePlain, defaults_beneath, defaults_within, empty_beneath, has_words, is_default, is_zero};
+ghost use Rattle.vx_base.specs.CellValue.{cell_value};
+ghost use Rattle.vx_base.specs.Masks.{rows_between};
+ghost use Rattle.vx_base.specs.PlainType.{is_integer};
+ghost use Rattle.vx_model.specs.Plain.{IsPlain};
+ghost use Rattle.vx_model.specs.Refusals.{validity_length};
+ghost use Rattle.vx_model.specs.Rows.{rows, row_at, offset_at, cut_at, parts_of};
+ghost use Rattle.vx_model.specs.Tree.{of_list};
+ghost use Rattle.vx_model.specs.TreeType.{tree_type};
+ghost use Rattle.vx_model.specs.WellFormed.{are_offsets};
+
+use crate::array::{ArrayRef, Node};
+use crate::arrays::Arrays;
+use crate::node::offset_at;
+use vx_base::{Cell, Mask};
+use vx_values::Ints;
+
+impl ArrayRef {
+    // Whether a row of a plain tree is what stands in a column of its type where nothing is known.
+    #[cycle(is_default)]
+    fn is_default_at(&self, row: u64) -> bool
+        requires plain { IsPlain self.now }
+        requires in_range { row < length (rows self.now) }
+        ensures { result ≡ is_default (tree_type self.now) (row_at (rows self.now) row) }
+    {
+        self.known();
+        if self.dtype().is_nullable() {
+            return self.is_null_at(row);
+        }
+        match &self.node {
+            Node::Struct(_, fields, _, _, _) => fields.are_default_at(row),
+            Node::List(elements, offsets, _, _) => is_empty_at(elements, offsets, row),
+            Node::FixedSizeList(elements, size, _, _, _) => elements.part_is_default(*size, row),
+            Node::Null(_) | Node::Constant(_, _) => unreachable!(),
+            _ => is_zero(self.cell_at(row)),
+        }
+    }
+
+    // The same of each row of one part, of parts of one size.
+    #[cycle(is_default)]
+    fn part_is_default(&self, size: u32, part: u64) -> bool
+        requires plain { IsPlain self.now }
+        requires in_range { part * size + size ≤ length (rows self.now) }
+        ensures { result ≡ list_all (is_default (tree_type self.now)) (rows_between (rows self.now) (part * size) (part * size + size)) }
+    {
+        let _rows = self.len();
+        let from = part * size as u64;
+        for row in from..from + size as u64 {
+            if !self.is_default_at(row) {
+                return false;
+            }
+        }
+        true
+    }
+
+    // The same of each row where a validity is false.
+    #[tactic(auto, using(vx_model::proofs::ZeroLemmas::zeroing))]
+    fn is_default_beneath(&self, valid: &Option<Mask>) -> bool
+        requires plain { IsPlain self.now }
+        requires lengths { validity_length valid.now (length (rows self.now)) ≡ true }
+        ensures { result ≡ defaults_beneath valid.now self.now }
+    {
+        let Some(bits) = valid else {
+            return true;
+        };
+        for row in 0..bits.len() {
+            if !bits.is_set(row) && !self.is_default_at(row) {
+                return false;
+            }
+        }
+        true
+    }
+
+    // The same of each part where a validity is false.
+    #[tactic(auto, using(vx_model::proofs::ZeroLemmas::zeroing))]
+    pub(crate) fn parts_are_default_beneath(
+        &self,
+        size: u32,
+        len: u64,
+        valid: &Option<Mask>,
+    ) -> bool
+        requires plain { IsPlain self.now }
+        requires lengths { validity_length valid.now len ≡ true }
+        requires sized { length (rows self.now) ≡ len * size }
+        ensures { result ≡ defaults_within (tree_type self.now) valid.now (parts_of size len (rows self.now)) }
+    {
+        let Some(bits) = valid else {
+            return true;
+        };
+        for part in 0..bits.len() {
+            if !bits.is_set(part) && !self.part_is_default(size, part) {
+                return false;
+            }
+        }
+        true
+    }
+}
+
+impl Arrays {
+    // Whether each tree is plain, with the default in each row where a validity is false.
+    #[cycle(is_plain)]
+    pub(crate) fn are_plain(&self, valid: &Option<Mask>) -> bool
+        requires { IsTrue (list_all (λ t. validity_length valid.now (length (rows t))) self.now) }
+        ensures { IsTrue result ↔ ArePlain valid.now (of_list self.now) }
+    {
+        for tree in self.as_slice() {
+            if !tree.is_plain() || !tree.is_default_beneath(valid) {
+                return false;
+            }
+        }
+        true
+    }
+
+    // Whether a row of each tree is the default.
+    #[cycle(is_default)]
+    fn are_default_at(&self, row: u64) -> bool
+        requires plain { ArePlain None (of_list self.now) }
+        requires in_range { IsTrue (list_all (λ t. nat_lt row (length (rows t))) self.now) }
+        ensures { result ≡ list_all (λ t. is_default (tree_type t) (row_at (rows t) row)) self.now }
+    {
+        for tree in self.as_slice() {
+            if !tree.is_default_at(row) {
+                return false;
+            }
+        }
+        true
+    }
+}
+
+// Whether what stands in a cell is false, 0 or empty.
+fn is_zero(cell: Cell<'_>) -> bool
+    ensures { result ≡ is_zero (cell_value cell.entry) }
+{
+    match cell {
+        Cell::Null => false,
+        Cell::Bool(bit) => !bit,
+        Cell::Int(whole) => whole == 0,
+        Cell::Bytes(bytes) => bytes.is_empty(),
+    }
+}
+
+// Whether the list in a row has no elements.
+fn is_empty_at(elements: &ArrayRef, offsets: &ArrayRef, row: u64) -> bool
+    requires integers { IsTrue (is_integer (tree_type offsets.now)) }
+    requires in_range { row + 1 < length (rows offsets.now) }
+    requires ends { IsTrue (are_offsets (length (rows elements.now)) (rows offsets.now)) }
+    ensures { result ≡ (length (rows_between (rows elements.now) (offset_at (rows offsets.now) row) (offset_at (rows offsets.now) (row + 1))) == 0) }
+{
+    let _offsets = offsets.len();
+    let _elements = elements.len();
+    offset_at(offsets, row) == offset_at(offsets, row + 1)
+}
+
+// Whether each list has none where a validity is false.
+#[tactic(auto, using(vx_model::proofs::ZeroLemmas::zeroing))]
+pub(crate) fn are_empty_beneath(
+    elements: &ArrayRef,
+    offsets: &ArrayRef,
+    valid: &Option<Mask>,
+) -> bool
+    requires integers { IsTrue (is_integer (tree_type offsets.now)) }
+    requires some { IsTrue (nat_le 1 (length (rows offsets.now))) }
+    requires lengths { validity_length valid.now (length (rows offsets.now) - 1) ≡ true }
+    requires ends { IsTrue (are_offsets (length (rows elements.now)) (rows offsets.now)) }
+    ensures { result ≡ empty_beneath valid.now (cut_at (rows offsets.now) (rows elements.now)) }
+{
+    let Some(bits) = valid else {
+        return true;
+    };
+    for row in 0..bits.len() {
+        if !bits.is_set(row) && !is_empty_at(elements, offsets, row) {
+            return false;
+        }
+    }
+    true
+}
+
+// Whether the root has integers of 64 unsigned bits.
+pub(crate) fn has_words(tree: &ArrayRef) -> bool
+    ensures { result ≡ has_words tree.now }
+{
+    matches!(&tree.node, Node::Primitive(Ints::U64(_), _, _))
+}

@@ -1,0 +1,114 @@
+//! Lists by their offsets into elements.
+
+ghost use Rattle.std.specs.Prelude.{◌≡◌};
+ghost use Rattle.vx_array.specs.TreeOf.{tree_of};
+ghost use Rattle.vx_base.specs.Answers.{Makes, OrMemory};
+ghost use Rattle.vx_base.specs.PlainType as types;
+ghost use Rattle.vx_base.specs.TypeOf.{type_of};
+ghost use Rattle.vx_model.specs.Refusals.{list_refusal, kept};
+ghost use Rattle.vx_model.specs.Tree.{list};
+ghost use Rattle.vx_model.specs.TreeType.{tree_type};
+
+use super::offsets::{are_integers, are_offsets, row_count};
+use crate::array::{ArrayRef, Node};
+use crate::node::{Made, boxed};
+use std::alloc::Global;
+use vx_base::{DType, Mask, Nullability, Refused, VortexError, VortexResult};
+use vx_values::{copy_validity, has_length, is_allowed, keep};
+
+impl ArrayRef {
+    /// Lists, in each row the elements from its offset to the next one, null where `valid` is false; beneath nulls any
+    /// elements may stand. Child 0: `elements`; child 1: `offsets`, one more than there are rows.
+    ///
+    /// Refuses MismatchedTypes where the offsets aren't non-nullable integers; then LengthMismatch where there is no
+    /// offset or the mask hasn't a bit a row; then OutOfBounds where the offsets don't begin at 0, fall, or don't end at
+    /// the elements' length; then MismatchedTypes where the mask has a false in a non-nullable node.
+    #[tactic(auto, using(crate::proofs::Making::list_array))]
+    pub fn list(
+        alloc: Global,
+        elements: ArrayRef,
+        offsets: ArrayRef,
+        valid: Option<Mask>,
+        nullability: Nullability,
+    ) -> Made<(ArrayRef, ArrayRef, Option<Mask>)>
+        ensures { Makes (list_refusal elements offsets valid nullability) (list elements offsets (kept valid) nullability) (elements, offsets, valid) result }
+    {
+        if let Some(error) = refusal(&elements, &offsets, &valid, nullability) {
+            return Err(Refused {
+                error,
+                inputs: (elements, offsets, valid),
+            });
+        }
+        let own_type = match list_type(alloc, &elements, nullability) {
+            Ok(own_type) => own_type,
+            Err(error) => {
+                return Err(Refused {
+                    error,
+                    inputs: (elements, offsets, valid),
+                });
+            }
+        };
+        let len = row_count(&offsets);
+        elements.known();
+        offsets.known();
+        match boxed(alloc, elements, offsets) {
+            Ok((elements, offsets)) => Ok(ArrayRef {
+                node: Node::List(elements, offsets, keep(valid), nullability),
+                own_type: Some(own_type),
+                len,
+            }),
+            Err((elements, offsets)) => Err(Refused {
+                error: VortexError::NoMemory,
+                inputs: (elements, offsets, valid),
+            }),
+        }
+    }
+}
+
+// Why the node isn't made of these.
+fn refusal(
+    elements: &ArrayRef,
+    offsets: &ArrayRef,
+    valid: &Option<Mask>,
+    nullability: Nullability,
+) -> Option<VortexError>
+    ensures { result ≡ list_refusal elements.now offsets.now valid.now nullability }
+{
+    if !are_integers(offsets.dtype()) {
+        return Some(VortexError::MismatchedTypes);
+    }
+    if offsets.len() == 0 || !has_length(valid, row_count(offsets)) {
+        return Some(VortexError::LengthMismatch);
+    }
+    if !are_offsets(offsets, elements.len()) {
+        return Some(VortexError::OutOfBounds);
+    }
+    if !is_allowed(valid, nullability) {
+        return Some(VortexError::MismatchedTypes);
+    }
+    None
+}
+
+// The type of lists of such elements.
+fn list_type(alloc: Global, elements: &ArrayRef, nullability: Nullability) -> VortexResult<DType>
+    ensures { OrMemory result (λ dtype. type_of dtype ≡ types.list (tree_type elements.now) nullability) }
+{
+    let items = elements.dtype().copy(alloc)?;
+    Ok(DType::list(Box::new(alloc, items)?, nullability))
+}
+
+// A copy, of copies of the elements and the offsets.
+pub(crate) fn copied_list(
+    alloc: Global,
+    elements: ArrayRef,
+    offsets: ArrayRef,
+    valid: &Option<Mask>,
+    nullability: Nullability,
+) -> VortexResult<Node>
+    ensures { OrMemory result (λ copy. tree_of copy ≡ list elements offsets valid.now nullability) }
+{
+    let elements = Box::new(alloc, elements)?;
+    let offsets = Box::new(alloc, offsets)?;
+    let valid = copy_validity(valid, alloc)?;
+    Ok(Node::List(elements, offsets, valid, nullability))
+}

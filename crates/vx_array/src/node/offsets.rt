@@ -1,0 +1,111 @@
+//! Offsets into bytes or elements.
+
+ghost use Rattle.std.specs.List.{list_all};
+ghost use Rattle.std.specs.Prelude.{◌≡◌, ◌<◌, ◌≤◌, ◌+◌, ◌-◌, ◌&&◌, IsTrue, not, int_le, length};
+ghost use Rattle.vx_base.specs.PlainType.{is_integer, is_nullable};
+ghost use Rattle.vx_base.specs.PlainValue.{cell, whole_or_zero};
+ghost use Rattle.vx_base.specs.TypeOf.{type_of};
+ghost use Rattle.vx_model.specs.Rows.{rows, row_at, offset_at};
+ghost use Rattle.vx_model.specs.TreeType.{tree_type};
+ghost use Rattle.vx_model.specs.WellFormed.{are_offsets, lies_between, never_falls};
+
+use crate::array::ArrayRef;
+use crate::patches::as_index;
+use vx_base::DType;
+
+// Whether the type is one of non-nullable integers.
+pub(crate) fn are_integers(dtype: &DType) -> bool
+    ensures { result ≡ (is_integer (type_of dtype.now) && not (is_nullable (type_of dtype.now))) }
+{
+    dtype.is_integer() && !dtype.is_nullable()
+}
+
+// The rows between so many offsets.
+pub(crate) fn row_count(offsets: &ArrayRef) -> u64
+    ensures { result ≡ length (rows offsets.now) - 1 }
+{
+    offsets.len().saturating_sub(1)
+}
+
+// The offset at a place.
+#[cycle(cell_at)]
+#[tactic(auto, using(crate::proofs::Flat::flats))]
+pub(crate) fn offset_at(offsets: &ArrayRef, place: u64) -> u128
+    requires integers { IsTrue (is_integer (tree_type offsets.now)) }
+    requires in_range { place < length (rows offsets.now) }
+    ensures { result ≡ offset_at (rows offsets.now) place }
+{
+    match as_index(offsets.cell_at(place).integer()) {
+        Some(offset) => offset,
+        None => 0,
+    }
+}
+
+// Whether they are offsets into so many items, from the first to the end.
+pub(crate) fn are_offsets(offsets: &ArrayRef, items: u64) -> bool
+    requires integers { IsTrue (is_integer (tree_type offsets.now)) }
+    requires some { 1 ≤ length (rows offsets.now) }
+    ensures { result ≡ are_offsets items (rows offsets.now) }
+{
+    let last = offsets.len() - 1;
+    lie_within(offsets, items)
+        && offset_at(offsets, 0) == 0
+        && offset_at(offsets, last) == u128::from(items)
+        && never_fall(offsets)
+}
+
+// Whether none lies behind so many items.
+fn lie_within(offsets: &ArrayRef, items: u64) -> bool
+    requires { IsTrue (is_integer (tree_type offsets.now)) }
+    ensures { result ≡ list_all (lies_between 0 (items + 1)) (rows offsets.now) }
+{
+    for place in 0..offsets.len() {
+        if !lies_within(offsets.integer_at(place), items) {
+            return false;
+        }
+    }
+    true
+}
+
+fn lies_within(offset: Option<i128>, items: u64) -> bool
+    ensures { result ≡ lies_between 0 (items + 1) (cell offset) }
+{
+    match offset {
+        Some(offset) => offset >= 0 && offset <= i128::from(items),
+        None => false,
+    }
+}
+
+// Whether none is above its neighbour behind.
+#[tactic(auto, using(crate::proofs::Falls::falls))]
+fn never_fall(offsets: &ArrayRef) -> bool
+    requires { IsTrue (is_integer (tree_type offsets.now)) }
+    ensures { result ≡ never_falls (rows offsets.now) }
+{
+    for place in 1..offsets.len() {
+        if !is_at_most(offsets, place) {
+            return false;
+        }
+    }
+    true
+}
+
+// The whole number at a place.
+#[tactic(auto, using(crate::proofs::Flat::flats))]
+fn whole_at(offsets: &ArrayRef, place: u64) -> i128
+    requires integers { IsTrue (is_integer (tree_type offsets.now)) }
+    requires in_range { place < length (rows offsets.now) }
+    ensures { result ≡ whole_or_zero (row_at (rows offsets.now) place) }
+{
+    offsets.cell_at(place).whole()
+}
+
+// Whether the one before a place is at most the one there.
+fn is_at_most(offsets: &ArrayRef, place: u64) -> bool
+    requires integers { IsTrue (is_integer (tree_type offsets.now)) }
+    requires second { 1 ≤ place }
+    requires in_range { place < length (rows offsets.now) }
+    ensures { result ≡ int_le (whole_or_zero (row_at (rows offsets.now) (place - 1))) (whole_or_zero (row_at (rows offsets.now) place)) }
+{
+    whole_at(offsets, place - 1) <= whole_at(offsets, place)
+}

@@ -1,0 +1,142 @@
+//! The plain tree of a column, from its values.
+
+ghost use Rattle.std.specs.List.{list_all};
+ghost use Rattle.std.specs.Prelude.{◌≡◌, IsTrue, map};
+ghost use Rattle.vx_base.specs.Answers.{Answers, OrMemory};
+ghost use Rattle.vx_base.specs.PlainScalar.{fits, fields_fit};
+ghost use Rattle.vx_base.specs.PlainType.{of_fields};
+ghost use Rattle.vx_base.specs.PlainType as types;
+ghost use Rattle.vx_base.specs.TypeOf.{type_of, value_of, fields_of};
+ghost use Rattle.vx_model.specs.Nested.{names_of, struct_rows};
+ghost use Rattle.vx_model.specs.Plain.{plain_fields, plain_of};
+ghost use Rattle.vx_model.specs.Tree.{of_list};
+
+mod flat;
+mod within;
+
+use crate::array::ArrayRef;
+use crate::arrays::Arrays;
+use flat::{of_bytes, of_stamps, of_truths, of_wholes, validity_of};
+use std::alloc::Global;
+use vx_base::{DType, Fields, IntList, Names, Nullability, Value, VortexResult};
+use vx_values::Ints;
+use within::{field_rows, first_column, fixed_items, list_items};
+
+impl ArrayRef {
+    /// The plain tree of the column of a type with these values, each of which is one of the type. They are moved into
+    /// it: of a null struct the fields have their defaults, a null list has no elements, and a null list of fixed size as
+    /// many defaults as it has elements.
+    #[cycle(of_values)]
+    pub fn of_values(alloc: Global, dtype: &DType, values: Vec<Value>) -> VortexResult<ArrayRef>
+        requires { IsTrue (list_all (fits (type_of dtype.now)) (map value_of values.items)) }
+        ensures { Answers result (plain_of (type_of dtype.now) (map value_of values.items)) }
+    {
+        match dtype {
+            DType::Null => Ok(ArrayRef::null(values.len() as u64)),
+            DType::Bool(nullability) => of_truths(alloc, values.as_slice(), *nullability),
+            DType::Primitive(ptype, nullability) => {
+                of_wholes(alloc, values.as_slice(), *ptype, *nullability)
+            }
+            DType::Utf8(_) | DType::Binary(_) => of_bytes(alloc, values, dtype),
+            DType::Timestamp(kind, nullability) => {
+                of_stamps(alloc, values.as_slice(), kind, *nullability)
+            }
+            DType::Struct(fields, nullability) => of_structs(alloc, fields, values, *nullability),
+            DType::List(items, nullability) => of_lists(alloc, items, values, *nullability),
+            DType::FixedSizeList(items, size, nullability) => {
+                of_fixed_lists(alloc, items, *size, values, *nullability)
+            }
+        }
+    }
+}
+
+// Structs, over a tree for each field.
+#[cycle(of_values)]
+fn of_structs(
+    alloc: Global,
+    fields: &Fields,
+    values: Vec<Value>,
+    nullability: Nullability,
+) -> VortexResult<ArrayRef>
+    requires { IsTrue (list_all (fits (types.structure (of_fields (fields_of fields.now)) nullability)) (map value_of values.items)) }
+    ensures { Answers result (plain_of (types.structure (of_fields (fields_of fields.now)) nullability) (map value_of values.items)) }
+{
+    let len = values.len() as u64;
+    let valid = validity_of(alloc, values.as_slice())?;
+    let trees = field_trees(alloc, fields, values)?;
+    let names = field_names(alloc, fields)?;
+    match ArrayRef::structure(alloc, names, trees, len, valid, nullability) {
+        Ok(tree) => Ok(tree),
+        Err(refused) => Err(refused.error),
+    }
+}
+
+// The plain tree of each field's values.
+#[cycle(of_values)]
+fn field_trees(alloc: Global, fields: &Fields, values: Vec<Value>) -> VortexResult<Arrays>
+    requires { IsTrue (list_all (fields_fit (of_fields (fields_of fields.now))) (struct_rows (of_fields (fields_of fields.now)) (map value_of values.items))) }
+    ensures { OrMemory result (λ trees. of_list trees ≡ plain_fields (of_fields (fields_of fields.now)) (struct_rows (of_fields (fields_of fields.now)) (map value_of values.items))) }
+{
+    let mut rows = field_rows(alloc, fields, values)?;
+    let mut trees = Vec::new(alloc);
+    for field in fields.as_slice() {
+        let column = first_column(alloc, &mut rows)?;
+        trees.push(ArrayRef::of_values(alloc, &field.1, column)?)?;
+    }
+    Ok(Arrays::from_vec(trees))
+}
+
+// The names of the fields.
+fn field_names(alloc: Global, fields: &Fields) -> VortexResult<Names>
+    ensures { Answers result (names_of (of_fields (fields_of fields.now))) }
+{
+    let mut names = Vec::new(alloc);
+    for field in fields.as_slice() {
+        names.push(field.0.copy(alloc)?)?;
+    }
+    Ok(Names::from_vec(names))
+}
+
+// Lists, over the tree of their elements and offsets of 64 unsigned bits.
+#[cycle(of_values)]
+fn of_lists(
+    alloc: Global,
+    dtype: &DType,
+    values: Vec<Value>,
+    nullability: Nullability,
+) -> VortexResult<ArrayRef>
+    requires { IsTrue (list_all (fits (types.list (type_of dtype.now) nullability)) (map value_of values.items)) }
+    ensures { Answers result (plain_of (types.list (type_of dtype.now) nullability) (map value_of values.items)) }
+{
+    let valid = validity_of(alloc, values.as_slice())?;
+    let (items, offsets) = list_items(alloc, values)?;
+    let elements = ArrayRef::of_values(alloc, dtype, items)?;
+    let offsets = Ints::U64(IntList::from_vec(offsets));
+    let offsets = ArrayRef::primitive_of(offsets, None, Nullability::NonNullable);
+    match ArrayRef::list(alloc, elements, offsets, valid, nullability) {
+        Ok(tree) => Ok(tree),
+        Err(refused) => Err(refused.error),
+    }
+}
+
+// Lists of one size, over the tree of their elements.
+#[cycle(of_values)]
+fn of_fixed_lists(
+    alloc: Global,
+    dtype: &DType,
+    size: u32,
+    values: Vec<Value>,
+    nullability: Nullability,
+) -> VortexResult<ArrayRef>
+    requires { IsTrue (list_all (fits (types.fixed_size_list (type_of dtype.now) size nullability)) (map value_of values.items)) }
+    ensures { Answers result (plain_of (types.fixed_size_list (type_of dtype.now) size nullability) (map value_of values.items)) }
+{
+    let len = values.len() as u64;
+    let valid = validity_of(alloc, values.as_slice())?;
+    let items = fixed_items(alloc, dtype, size, values)?;
+    let elements = ArrayRef::of_values(alloc, dtype, items)?;
+    match ArrayRef::fixed_size_list(alloc, elements, size, len, valid, nullability) {
+        Ok(tree) => Ok(tree),
+        Err(refused) => Err(refused.error),
+    }
+}

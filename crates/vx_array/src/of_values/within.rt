@@ -1,0 +1,150 @@
+//! The values of the columns within, out of those of structs and lists.
+
+ghost use Rattle.std.specs.Prelude.{◌≡◌, ◌++◌, OnOk, IfErr, map, replicate};
+ghost use Rattle.std.specs.VecDeque.{deque_items};
+ghost use Rattle.vx_array.specs.Handed.{row_of, rows_of};
+ghost use Rattle.vx_base.specs.Answers.{OrMemory};
+ghost use Rattle.vx_base.specs.declared.error.VortexError.TheVariants.{NoMemory};
+ghost use Rattle.vx_base.specs.Defaults.{field_defaults, null_or_default, or_default};
+ghost use Rattle.vx_base.specs.PlainType.{of_fields};
+ghost use Rattle.vx_base.specs.PlainValue.{items, items_or_empty};
+ghost use Rattle.vx_base.specs.TypeOf.{type_of, value_of, fields_of};
+ghost use Rattle.vx_model.specs.Nested.{within, first_within, rest_within, struct_rows, list_rows, elements, fixed_elements};
+ghost use Rattle.vx_model.specs.Offsets.{offsets_of};
+
+use super::flat::is_null;
+use std::alloc::Global;
+use std::collections::VecDeque;
+use vx_base::{DType, Fields, Scalar, Value, VortexResult};
+
+// The values of each struct's fields, of a null those of the default.
+pub(super) fn field_rows(
+    alloc: Global,
+    fields: &Fields,
+    values: Vec<Value>,
+) -> VortexResult<Vec<VecDeque<Value>>>
+    ensures { OrMemory result (λ rows. rows_of (map deque_items rows.items) ≡ struct_rows (of_fields (fields_of fields.now)) (map value_of values.items)) }
+{
+    let mut rows = Vec::with_capacity(alloc, values.len())?;
+    for value in values {
+        rows.push(field_row(alloc, fields, value)?)?;
+    }
+    Ok(rows)
+}
+
+// Those of one struct.
+fn field_row(alloc: Global, fields: &Fields, value: Value) -> VortexResult<VecDeque<Value>>
+    ensures { OrMemory result (λ row. row_of row.items ≡ within (or_default (items (field_defaults (of_fields (fields_of fields.now)))) (value_of value))) }
+{
+    if is_null(&value) {
+        return default_row(alloc, fields);
+    }
+    Ok(VecDeque::from(value.into_values(alloc).into_vec()))
+}
+
+// A default for each field.
+fn default_row(alloc: Global, fields: &Fields) -> VortexResult<VecDeque<Value>>
+    ensures { OrMemory result (λ row. row_of row.items ≡ field_defaults (of_fields (fields_of fields.now))) }
+{
+    let mut values = Vec::new(alloc);
+    for field in fields.as_slice() {
+        values.push(default_value(alloc, &field.1)?)?;
+    }
+    Ok(VecDeque::from(values))
+}
+
+// What stands where a type's column has no value.
+fn default_value(alloc: Global, dtype: &DType) -> VortexResult<Value>
+    ensures { OrMemory result (λ value. value_of value ≡ null_or_default (type_of dtype.now)) }
+{
+    let scalar = Scalar::default_value(alloc, dtype)?;
+    scalar.value().copy(alloc)
+}
+
+// The first value that is left in each row, which is taken.
+pub(super) fn first_column(
+    alloc: Global,
+    rows: &mut Vec<VecDeque<Value>>,
+) -> VortexResult<Vec<Value>>
+    ensures first { OrMemory result (λ column. map value_of column.items ≡ map first_within (rows_of (map deque_items rows.old.items))) }
+    ensures rest { OnOk result (rows_of (map deque_items rows.new.items) ≡ map rest_within (rows_of (map deque_items rows.old.items))) }
+{
+    let mut column = Vec::with_capacity(alloc, rows.len())?;
+    for place in 0..rows.len() {
+        column.push(take_first(&mut rows[place]))?;
+    }
+    Ok(column)
+}
+
+// The first value that is left in a row, null where there is none.
+fn take_first(row: &mut VecDeque<Value>) -> Value
+    ensures first { value_of result ≡ first_within (row_of row.old.items) }
+    ensures rest { row_of row.new.items ≡ rest_within (row_of row.old.items) }
+{
+    match row.pop_front() {
+        Some(value) => value,
+        None => Value::Null,
+    }
+}
+
+// The items of all lists, one list after the other, and the offsets between them. A null list has none.
+pub(super) fn list_items(alloc: Global, values: Vec<Value>) -> VortexResult<(Vec<Value>, Vec<u64>)>
+    ensures { OrMemory result (λ parts. (map value_of parts.0.items ≡ elements (map value_of values.items)) × (parts.1.items ≡ offsets_of (list_rows (map value_of values.items)))) }
+{
+    let mut items = Vec::new(alloc);
+    let mut offsets = Vec::new(alloc);
+    offsets.push(0)?;
+    for value in values {
+        push_items(alloc, &mut items, value)?;
+        offsets.push(items.len() as u64)?;
+    }
+    Ok((items, offsets))
+}
+
+// The items of all lists of one size, one list after the other. A null list has as many defaults.
+pub(super) fn fixed_items(
+    alloc: Global,
+    dtype: &DType,
+    size: u32,
+    values: Vec<Value>,
+) -> VortexResult<Vec<Value>>
+    ensures { OrMemory result (λ items. map value_of items.items ≡ fixed_elements (type_of dtype.now) size (map value_of values.items)) }
+{
+    let mut items = Vec::new(alloc);
+    for value in values {
+        if is_null(&value) {
+            push_defaults(alloc, &mut items, dtype, size)?;
+        } else {
+            push_items(alloc, &mut items, value)?;
+        }
+    }
+    Ok(items)
+}
+
+// Adds the values within a value.
+fn push_items(alloc: Global, items: &mut Vec<Value>, value: Value) -> VortexResult<()>
+    ensures ok { OnOk result (map value_of items.new.items ≡ map value_of items.old.items ++ items_or_empty (value_of value)) }
+    ensures err { IfErr result (λ e. e ≡ NoMemory) }
+{
+    for item in value.into_values(alloc).into_vec() {
+        items.push(item)?;
+    }
+    Ok(())
+}
+
+// Adds so many defaults.
+fn push_defaults(
+    alloc: Global,
+    items: &mut Vec<Value>,
+    dtype: &DType,
+    size: u32,
+) -> VortexResult<()>
+    ensures ok { OnOk result (map value_of items.new.items ≡ map value_of items.old.items ++ replicate size (null_or_default (type_of dtype.now))) }
+    ensures err { IfErr result (λ e. e ≡ NoMemory) }
+{
+    let default = Scalar::default_value(alloc, dtype)?;
+    for _ in 0..size {
+        items.push(default.value().copy(alloc)?)?;
+    }
+    Ok(())
+}

@@ -1,0 +1,131 @@
+//! Structs, lists, fixed-size lists and nulls alone: their rows, their plain trees and their sizes.
+
+use std::alloc::Global;
+use std::test::Fail;
+use vx_array::{ArrayRef, Arrays};
+use vx_base::Nullability::{NonNullable, Nullable};
+use vx_base::PType::{I32, U8};
+use vx_base::{DType, Names, Scalar, Text, Value, Values, VortexError, VortexResult};
+use vx_fixtures::{accepted, bits, flat};
+
+// Whether the rows print so.
+fn prints(alloc: Global, tree: &ArrayRef, rows: &[&str]) -> VortexResult<bool> {
+    if tree.len() != rows.len() as u64 {
+        return Ok(false);
+    }
+    for row in 0..rows.len() {
+        let text = tree.scalar_at(alloc, row as u64)?.json(alloc)?;
+        if text.as_str() != rows[row] {
+            return Ok(false);
+        }
+    }
+    Ok(true)
+}
+
+// A plain tree with these rows and bytes.
+fn is_plain_of(alloc: Global, tree: &ArrayRef, bytes: u128, rows: &[&str]) -> VortexResult<bool> {
+    Ok(tree.is_plain() && tree.nbytes() == bytes && prints(alloc, tree, rows)?)
+}
+
+// Lists of 1 and 2, of nothing, null over 9, and of 3.
+fn lists(alloc: Global) -> VortexResult<ArrayRef> {
+    let elements = flat(alloc, I32, NonNullable, &[1, 2, 9, 3])?;
+    let offsets = flat(alloc, U8, NonNullable, &[0, 2, 2, 3, 4])?;
+    let valid = Some(bits(alloc, &[true, true, false, true])?);
+    accepted(ArrayRef::list(alloc, elements, offsets, valid, Nullable))
+}
+
+#[test]
+fn lists_are_made_plain(rt: HostRuntime) -> Result<(), Fail> {
+    let tree = lists(rt.alloc())?;
+    let rows = ["[1,2]", "[]", "null", "[3]"];
+    assert!(rt; prints(rt.alloc(), &tree, &rows)? && !tree.is_plain());
+    assert_eq!(rt; tree.nbytes(), 22);
+    let plain = tree.copy(rt.alloc())?.canonical(rt.alloc())?;
+    assert!(rt; is_plain_of(rt.alloc(), &plain, 53, &rows)?);
+    Ok(())
+}
+
+// Structs of a number and a list each, of which the second is null over 8 and a list.
+fn structs(alloc: Global) -> VortexResult<ArrayRef> {
+    let mut names = Names::new_in(alloc);
+    let mut fields = Arrays::new_in(alloc);
+    for name in ["a", "b"] {
+        let name = Text::from_string(String::from_str(alloc, name)?);
+        names.push(name).ok().ok_or(VortexError::NoMemory)?;
+    }
+    fields
+        .push(flat(alloc, U8, NonNullable, &[7, 8, 9, 10])?)
+        .ok()
+        .ok_or(VortexError::NoMemory)?;
+    fields
+        .push(lists(alloc)?)
+        .ok()
+        .ok_or(VortexError::NoMemory)?;
+    let valid = Some(bits(alloc, &[true, false, true, true])?);
+    accepted(ArrayRef::structure(alloc, names, fields, 4, valid, Nullable))
+}
+
+#[test]
+fn structs_are_made_plain(rt: HostRuntime) -> Result<(), Fail> {
+    let tree = structs(rt.alloc())?;
+    let rows = ["[7,[1,2]]", "null", "[9,null]", "[10,[3]]"];
+    assert!(rt; prints(rt.alloc(), &tree, &rows)? && !tree.is_plain());
+    let plain = tree.copy(rt.alloc())?.canonical(rt.alloc())?;
+    assert!(rt; is_plain_of(rt.alloc(), &plain, 58, &rows)?);
+    Ok(())
+}
+
+#[test]
+fn fixed_size_lists_are_made_plain(rt: HostRuntime) -> Result<(), Fail> {
+    let elements = flat(rt.alloc(), U8, NonNullable, &[1, 2, 3, 4])?;
+    let valid = Some(bits(rt.alloc(), &[true, false])?);
+    let tree = accepted(ArrayRef::fixed_size_list(rt.alloc(), elements, 2, 2, valid, Nullable))?;
+    assert!(rt; prints(rt.alloc(), &tree, &["[1,2]", "null"])? && !tree.is_plain());
+    let plain = tree.copy(rt.alloc())?.canonical(rt.alloc())?;
+    assert!(rt; is_plain_of(rt.alloc(), &plain, 5, &["[1,2]", "null"])?);
+    Ok(())
+}
+
+#[test]
+fn nulls_alone_are_plain(rt: HostRuntime) -> Result<(), Fail> {
+    let tree = ArrayRef::null(3);
+    assert!(rt; is_plain_of(rt.alloc(), &tree, 0, &["null", "null", "null"])?);
+    let most = ArrayRef::null(2_147_483_648);
+    let more = ArrayRef::null(2_147_483_649);
+    assert!(rt; most.extents_fit() && !more.extents_fit());
+    Ok(())
+}
+
+// The list of 1, 2 and 3 as a scalar.
+fn three(alloc: Global) -> VortexResult<Scalar> {
+    let items = Box::new(alloc, DType::primitive(U8, NonNullable))?;
+    let mut values = Vec::new(alloc);
+    for whole in [1, 2, 3] {
+        values.push(Value::Int(whole))?;
+    }
+    let dtype = DType::list(items, NonNullable);
+    accepted(Scalar::new(dtype, Value::List(Values::from_vec(values))))
+}
+
+#[test]
+fn a_constant_list_counts_its_items_in_each_row(rt: HostRuntime) -> Result<(), Fail> {
+    let tree = ArrayRef::constant(three(rt.alloc())?, 2);
+    assert!(rt; tree.nbytes() == 4 && prints(rt.alloc(), &tree, &["[1,2,3]", "[1,2,3]"])?);
+    let plain = tree.canonical(rt.alloc())?;
+    assert!(rt; is_plain_of(rt.alloc(), &plain, 30, &["[1,2,3]", "[1,2,3]"])?);
+    let many = ArrayRef::constant(three(rt.alloc())?, 1_073_741_824);
+    assert!(rt; !many.extents_fit());
+    Ok(())
+}
+
+#[test]
+fn a_row_behind_the_last_is_refused(rt: HostRuntime) -> Result<(), Fail> {
+    let tree = ArrayRef::null(1);
+    let refused = match tree.scalar_at(rt.alloc(), 1) {
+        Ok(_) => false,
+        Err(error) => error == VortexError::OutOfBounds,
+    };
+    assert!(rt; refused);
+    Ok(())
+}

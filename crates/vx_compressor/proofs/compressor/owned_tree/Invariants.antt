@@ -1,4 +1,0 @@
-use Rattle.vx_compressor.proofs.compressor.owned_tree.Given as goal
-
-abbrev pub ghosts-plain_counted : goal.ghosts-plain_counted
-ghosts-plain_counted g a = record { name = a.blank.name; parts = a.blank.parts }

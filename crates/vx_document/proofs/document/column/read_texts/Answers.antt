@@ -1,9 +1,0 @@
-use Rattle.std.proofs.Common.{refl}
-use Rattle.vx_document.proofs.DocumentColumns.{given, never, views_made}
-use Rattle.vx_document.proofs.document.column.read_texts.Goals as goal
-
-pub returns-in-Ok : goal.returns-in-Ok
-returns-in-Ok c = given _ _ _ _ _ (views_made _ _ _ _ _ refl c.utf8-dtype.ensures c.in_ok-rows.ensures) c.in-Ok.tree c.in-Ok.ensures
-
-pub returns-in-Err : goal.returns-in-Err
-returns-in-Err c = absurd (never _ _ _ _ _ (views_made _ _ _ _ _ refl c.utf8-dtype.ensures c.in_ok-rows.ensures) c.in-Err._refused c.in-Err.ensures)

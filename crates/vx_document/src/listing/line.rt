@@ -1,0 +1,96 @@
+//! The line of a node.
+
+ghost use Rattle.std.specs.Prelude.{◌≡◌, ◌<◌, ◌^◌, ◌++◌, OnOk, string_bytes, codes};
+ghost use Rattle.vx_base.specs.TypeText.{value_text};
+ghost use Rattle.vx_model.specs.Size.{size};
+ghost use Rattle.vx_model.specs.Tree.{PlainPacked, packed_of};
+ghost use Rattle.vx_array.specs.TreeOf.{tree_of, unboxed};
+ghost use Rattle.vx_document.specs.Listing.{packed_numbers, own_numbers, heading, line};
+
+use std::alloc::{AllocError, Global};
+use vx_array::{ArrayRef, Node, Patches};
+use vx_base::Scalar;
+
+// Adds a scalar's value behind a name, as compact JSON.
+fn push_named(
+    alloc: Global,
+    text: &mut String,
+    name: &str,
+    scalar: &Scalar,
+) -> Result<(), AllocError>
+    ensures { OnOk result (string_bytes text.new
+        ≡ string_bytes text.old ++ (codes " " ++ name.now ++ codes "=" ++ value_text scalar.now.dtype scalar.now.value)) }
+{
+    let Ok(value) = scalar.json(alloc) else {
+        return Err(AllocError);
+    };
+    let value = value.as_str();
+    write!(text, " {name}={value}")?;
+    Ok(())
+}
+
+// How many patches there are.
+fn patch_count(patches: &Option<Box<Patches>>) -> u64
+    ensures { (k : PlainPacked) → own_numbers (packed_of k (unboxed patches.now)) ≡ packed_numbers k.width result }
+{
+    match patches {
+        Some(patches) => patches.num_patches(),
+        None => 0,
+    }
+}
+
+// Adds the numbers that only this encoding has.
+fn push_own_numbers(alloc: Global, text: &mut String, node: &Node) -> Result<(), AllocError>
+    ensures { OnOk result (string_bytes text.new
+        ≡ string_bytes text.old ++ own_numbers (tree_of node.now)) }
+{
+    match node {
+        Node::Constant(scalar, _) => push_named(alloc, text, "value", scalar),
+        Node::FoR(_, reference) => push_named(alloc, text, "reference", reference),
+        Node::BitPacked(_, width, _, _, _, patches, _) => {
+            let count = patch_count(patches);
+            write!(text, " width={width} patches={count}")?;
+            Ok(())
+        }
+        Node::FixedSizeList(_, list_size, _, _, _) => {
+            write!(text, " list_size={list_size}")?;
+            Ok(())
+        }
+        Node::Bool(_, _, _) | Node::Primitive(_, _, _) | Node::VarBinView(_, _, _) => Ok(()),
+        Node::VarBin(_, _, _, _) | Node::Timestamp(_, _) | Node::Masked(_, _) => Ok(()),
+        Node::ZigZag(_) | Node::Dict(_, _) | Node::Null(_) => Ok(()),
+        Node::Struct(_, _, _, _, _) | Node::List(_, _, _, _) => Ok(()),
+    }
+}
+
+// Adds the root's encoding, type, rows and bytes.
+#[tactic(auto, unfolding(crate::specs::Listing::heading))]
+fn push_heading(text: &mut String, tree: &ArrayRef) -> Result<(), AllocError>
+    requires { size tree.now < 2 ^ 128 }
+    ensures { OnOk result (string_bytes text.new ≡ string_bytes text.old ++ heading tree.now) }
+{
+    let id = tree.encoding_id();
+    let dtype = tree.dtype();
+    let len = tree.len();
+    let size = tree.nbytes();
+    write!(text, "{id} {dtype} len={len} size={size}")?;
+    Ok(())
+}
+
+// Adds the root's line.
+#[tactic(auto, unfolding(crate::specs::Listing::line))]
+pub(super) fn push_line(
+    alloc: Global,
+    text: &mut String,
+    indent: &str,
+    tree: &ArrayRef,
+) -> Result<(), AllocError>
+    requires { size tree.now < 2 ^ 128 }
+    ensures { OnOk result (string_bytes text.new ≡ string_bytes text.old ++ line indent.now tree.now) }
+{
+    write!(text, "{indent}")?;
+    push_heading(text, tree)?;
+    push_own_numbers(alloc, text, tree.node())?;
+    writeln!(text, "")?;
+    Ok(())
+}
