@@ -145,7 +145,7 @@ fn four(alloc: Global) -> VortexResult<ArrayRef> {
 #[test]
 fn ranges_of_plain_texts_are_plain(rt: HostRuntime) -> Result<(), Fail> {
     let tree = four(rt.alloc())?;
-    assert!(rt; tree.is_plain() && tree.len() == 4);
+    assert!(rt; tree.is_plain() && tree.dtype().is_flat() && tree.len() == 4);
     let some = tree.gather(rt.alloc(), &[(2, 4), (0, 1)])?;
     assert!(rt; some.is_plain() && some.len() == 3 && some.nbytes() == 48);
     assert!(rt; is_row(&some, 1, Some(b"c")) && is_row(&some, 2, Some(b"ab")));

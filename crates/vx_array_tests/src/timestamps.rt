@@ -20,6 +20,7 @@ fn timestamps_are_copied_and_made_plain(rt: HostRuntime) -> Result<(), Fail> {
     assert!(rt; tree.nbytes() == 17 && tree.num_children() == 1 && !tree.is_plain());
     let plain = tree.copy(rt.alloc())?.canonical(rt.alloc())?;
     assert!(rt; plain.is_plain() && plain.dtype() == tree.dtype() && plain.len() == 2);
+    assert!(rt; plain.dtype().is_flat());
     assert!(rt; plain.cell_at(0).integer() == Some(5) && plain.cell_at(1).is_null());
     Ok(())
 }
@@ -39,7 +40,7 @@ fn other_integers_are_no_timestamps(rt: HostRuntime) -> Result<(), Fail> {
 fn ranges_of_plain_timestamps_are_plain(rt: HostRuntime) -> Result<(), Fail> {
     let storage = with_nulls(rt.alloc(), I64, &[5, 0, 5], &[true, false, true])?;
     let tree = accepted(ArrayRef::timestamp(rt.alloc(), storage, seconds(rt.alloc())?))?;
-    assert!(rt; tree.is_plain() && tree.len() == 3);
+    assert!(rt; tree.is_plain() && tree.dtype().is_flat() && tree.len() == 3);
     let some = tree.gather(rt.alloc(), &[(1, 3)])?;
     assert!(rt; some.is_plain() && some.dtype() == tree.dtype() && some.nbytes() == 17);
     Ok(())

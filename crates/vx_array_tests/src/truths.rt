@@ -54,7 +54,7 @@ fn ranges_of_plain_truth_values_are_plain(rt: HostRuntime) -> Result<(), Fail> {
     let values = bits(rt.alloc(), &[true, false, true])?;
     let valid = Some(bits(rt.alloc(), &[true, false, true])?);
     let tree = accepted(ArrayRef::bool(values, valid, Nullable))?;
-    assert!(rt; tree.is_plain() && tree.len() == 3);
+    assert!(rt; tree.is_plain() && tree.dtype().is_flat() && tree.len() == 3);
     let some = tree.gather(rt.alloc(), &[(2, 3), (0, 1)])?;
     assert!(rt; some.is_plain() && has_truths(&some, &[Some(true), Some(true)]));
     assert_eq!(rt; some.nbytes(), 1);
