@@ -1,4 +1,5 @@
 pub mod AtNode
+pub mod ByteLists
 pub mod Canonicals
 pub mod Decodings
 pub mod DefaultLemmas

@@ -1,18 +1,16 @@
 -- Values one by one: each lies in the type that all do, and the rows of structs and lists are handed out in their order.
 use Rattle.std.proofs.Common.{◌≡◌, ◌∙◌, ◌<◌, ◌+◌, ◌++◌, ℕ, zero, suc, List, [], ◌∷◌, length, map, take, drop, get_or, set, refl, sym, ap, true, false, arith, add-one}
-use Rattle.std.specs.Prelude.{replicate}
 use Rattle.std.specs.List.{list_all}
 use Rattle.std.proofs.lemmas.Bool.{and_parts}
 use Rattle.std.proofs.lemmas.List.{append_assoc, map-append, map-set, get_or-map, take_more, length-append, length-map}
 use Rattle.vx_base.specs.declared.ptype.PType.{PType}
 use Rattle.vx_base.specs.declared.value.Value.{Value}
-use Rattle.vx_base.specs.Defaults.{null_or_default, or_default}
+use Rattle.vx_base.specs.Defaults.{or_default}
 use Rattle.vx_base.specs.Integers.{lies_in}
-use Rattle.vx_base.specs.PlainType.{PlainType}
 use Rattle.vx_base.specs.PlainValue.{PlainValue, PlainValues, null, truth, int, bytes, items, is_null, of_list, whole_or_zero, items_or_empty}
 use Rattle.vx_base.specs.TypeOf.{value_of}
-use Rattle.vx_base.proofs.WithinLemmas.{list_of-of_list, of_list-list_of}
-use Rattle.vx_model.specs.Nested.{within, first_within, rest_within, list_rows, elements, fixed_elements}
+use Rattle.vx_base.proofs.WithinLemmas.{of_list-list_of}
+use Rattle.vx_model.specs.Nested.{within, first_within, rest_within, list_rows, elements}
 use Rattle.vx_model.specs.Offsets.{offsets_from, offsets_of}
 use Rattle.vx_array.specs.Handed.{row_of, rows_of}
 
@@ -103,14 +101,12 @@ module _ (items new : List Value) (left rest : List Value) (v : Value) (all : Li
       ∙ ap (λ n. offsets ++ n ∷ ends_from n (list_rows (map value_of rest))) (sym long)
       ∙ ap (λ vs. offsets ++ ends_from (length items) (list_rows (map value_of vs))) (sym next) ∙ h
 
--- of lists of one size, where one is null
-pub fixed_elements-null : (t : PlainType) (size : ℕ) (v : PlainValue) (vs : List PlainValue) → is_null v ≡ true → fixed_elements t size (v ∷ vs) ≡ replicate size (null_or_default t) ++ fixed_elements t size vs
-fixed_elements-null t size null vs e = ap (λ ws. ws ++ fixed_elements t size vs) (list_of-of_list (replicate size (null_or_default t)))
-fixed_elements-null t size v vs e = absurd cc
+-- in place of a null stands the default
+pub default-null : (default v : PlainValue) → is_null v ≡ true → or_default default v ≡ default
+default-null default null e = refl
+default-null default v e = absurd cc
 
-module _ (t : PlainType) (size : ℕ) (before new left rest : List Value) (v : Value) (whole : List PlainValue) where
-  pub fixed_elements-more : left ≡ v ∷ rest → is_null (value_of v) ≡ true → map value_of new ≡ map value_of before ++ replicate size (null_or_default t)
-      → map value_of before ++ fixed_elements t size (map value_of left) ≡ whole → map value_of new ++ fixed_elements t size (map value_of rest) ≡ whole
-  fixed_elements-more next none more h =
-      ap (λ vs. vs ++ fixed_elements t size (map value_of rest)) more ∙ append_assoc (map value_of before) (replicate size (null_or_default t)) (fixed_elements t size (map value_of rest))
-      ∙ ap (λ vs. map value_of before ++ vs) (sym (ap (λ ws. fixed_elements t size (map value_of ws)) next ∙ fixed_elements-null t size (value_of v) (map value_of rest) none)) ∙ h
+-- and any other value stays
+pub default-some : (default v : PlainValue) → is_null v ≡ false → or_default default v ≡ v
+default-some default null e = absurd cc
+default-some default v e = refl

@@ -7,20 +7,23 @@ ghost use Rattle.vx_base.specs.PlainScalar.{fits, fields_fit};
 ghost use Rattle.vx_base.specs.PlainType.{of_fields};
 ghost use Rattle.vx_base.specs.PlainType as types;
 ghost use Rattle.vx_base.specs.TypeOf.{type_of, value_of, fields_of};
-ghost use Rattle.vx_model.specs.Nested.{names_of, struct_rows};
+ghost use Rattle.vx_model.specs.Nested.{names_of, struct_rows, list_rows, elements};
+ghost use Rattle.vx_model.specs.Offsets.{offsets_of};
 ghost use Rattle.vx_model.specs.Plain.{plain_fields, plain_of};
 ghost use Rattle.vx_model.specs.Tree.{of_list};
 
+mod byte_lists;
 mod flat;
 mod within;
 
 use crate::array::ArrayRef;
 use crate::arrays::Arrays;
+use byte_lists::of_byte_lists;
 use flat::{of_bytes, of_stamps, of_truths, of_wholes, validity_of};
 use std::alloc::Global;
 use vx_base::{DType, Fields, IntList, Names, Nullability, Value, VortexResult};
 use vx_values::Ints;
-use within::{field_rows, first_column, fixed_items, list_items};
+use within::{field_rows, filled_lists, first_column, list_items};
 
 impl ArrayRef {
     /// The plain tree of the column of a type with these values, each of which is one of the type. They are moved into
@@ -109,14 +112,32 @@ fn of_lists(
     ensures { Answers result (plain_of (types.list (type_of dtype.now) nullability) (map value_of values.items)) }
 {
     let valid = validity_of(alloc, values.as_slice())?;
-    let (items, offsets) = list_items(alloc, values)?;
-    let elements = ArrayRef::of_values(alloc, dtype, items)?;
+    let (elements, offsets) = list_elements(alloc, dtype, values)?;
     let offsets = Ints::U64(IntList::from_vec(offsets));
     let offsets = ArrayRef::primitive_of(offsets, None, Nullability::NonNullable);
     match ArrayRef::list(alloc, elements, offsets, valid, nullability) {
         Ok(tree) => Ok(tree),
         Err(refused) => Err(refused.error),
     }
+}
+
+// The tree of the elements of all lists, one list after the other, and the offsets between them. The bytes of texts and
+// binaries move straight into their rows.
+#[cycle(of_values)]
+fn list_elements(
+    alloc: Global,
+    dtype: &DType,
+    values: Vec<Value>,
+) -> VortexResult<(ArrayRef, Vec<u64>)>
+    requires { IsTrue (list_all (fits (type_of dtype.now)) (elements (map value_of values.items))) }
+    ensures { OrMemory result (λ parts. (parts.0 ≡ plain_of (type_of dtype.now) (elements (map value_of values.items))) × (parts.1.items ≡ offsets_of (list_rows (map value_of values.items)))) }
+{
+    if dtype.is_bytes() {
+        return of_byte_lists(alloc, dtype, values);
+    }
+    let (items, offsets) = list_items(alloc, values)?;
+    let tree = ArrayRef::of_values(alloc, dtype, items)?;
+    Ok((tree, offsets))
 }
 
 // Lists of one size, over the tree of their elements.
@@ -133,8 +154,8 @@ fn of_fixed_lists(
 {
     let len = values.len() as u64;
     let valid = validity_of(alloc, values.as_slice())?;
-    let items = fixed_items(alloc, dtype, size, values)?;
-    let elements = ArrayRef::of_values(alloc, dtype, items)?;
+    let lists = filled_lists(alloc, dtype, size, values)?;
+    let (elements, _) = list_elements(alloc, dtype, lists)?;
     match ArrayRef::fixed_size_list(alloc, elements, size, len, valid, nullability) {
         Ok(tree) => Ok(tree),
         Err(refused) => Err(refused.error),

@@ -23,6 +23,7 @@ pub mod Storable
 pub mod Timestamps
 pub mod TypeOf
 pub mod TypeText
+pub mod Undelta
 pub mod ValueFalls
 pub mod Wrapping
 pub mod Writes

@@ -7,4 +7,14 @@ pub mod Counts
 pub mod RowsRead
 pub mod Kept
 pub mod Eights
+pub mod StandardFacts
+pub mod Ranges
 pub mod WideRows
+pub mod Sequences
+pub mod OptionalRows
+pub mod RunEnds
+pub mod WrapsAgain
+pub mod DeltaSums
+pub mod DeltaRows
+pub mod DeltasBack
+pub mod HeadsOfRuns

@@ -1,10 +1,13 @@
--- Unpacking gives back what was packed, and unzigzag what zigzag was given.
-use Rattle.std.specs.Prelude.{ℕ, ◌+◌, ◌-◌, ◌^◌, ◌≡◌, ◌<◌, ◌≤◌, ℤ, pos, Bool, true, false, List, length, map, slice_index, slice_index_or}
+-- Unpacking gives back what was packed, undelta what became deltas, and unzigzag what zigzag was given.
+use Rattle.std.specs.Prelude.{ℕ, ◌+◌, ◌-◌, ◌^◌, ◌≡◌, ◌<◌, ◌≤◌, ℤ, pos, Bool, true, false, List, length, map, slice_index, slice_index_or, All}
 use Rattle.vx_base.specs.declared.ptype.PType.{PType}
-use Rattle.vx_base.specs.Integers.{bits_in}
+use Rattle.vx_base.specs.Integers.{bits_in, lies_in}
 use Rattle.vx_base.specs.Packed.{kept_row, kept_rows}
 use Rattle.vx_base.specs.ZigZag.{zigzag, unzigzag}
+use Rattle.vx_base.specs.Undelta.{undelta}
+use Rattle.vx_blocks.specs.Deltas.{bases, deltas, filled}
 use Rattle.vx_blocks.specs.IsPacked.{IsPacked, IsUnpacked}
+use Rattle.vx_blocks.specs.Optional.{optional_rows}
 
 -- rows of a column of integers that was packed
 pub record Unpacks (kind : PType) (values : List ℤ) (valid : List Bool) (width start end : ℕ) (rows : List ℕ) : Type 0 where
@@ -35,3 +38,9 @@ GivesBackKeptRows = (kind : PType) (values : List ℤ) (valid : List Bool) (widt
 -- each number comes back from its zigzag
 abbrev pub GivesBackZigZag : Type 0
 GivesBackZigZag = (v : ℤ) → unzigzag (zigzag v) ≡ v
+
+-- each valid value comes back from the bases and deltas of its column
+abbrev pub GivesBackDeltas : Type 0
+GivesBackDeltas = (kind : PType) (values : List ℤ) (valid : List Bool) → length valid ≡ length values → All (λ z. lies_in kind z ≡ true) values
+    → let rows = filled (optional_rows values valid) in
+    (i : ℕ) → i < length values → is_set_at valid i ≡ true → slice_index_or (undelta kind (bases rows) (deltas kind rows)) i (pos 0) ≡ slice_index_or values i (pos 0)

@@ -4,3 +4,7 @@ pub mod GivesBack
 pub mod Histogram
 pub mod Holds
 pub mod IsPacked
+pub mod Sequence
+pub mod Optional
+pub mod Runs
+pub mod Deltas

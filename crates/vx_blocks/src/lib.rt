@@ -1,20 +1,31 @@
-//! Integer kernels over slices: packing at a width in bits, reading it back, and which width or type is narrowest.
+//! Integer kernels over slices: packing at a width in bits, reading it back, which width or type is narrowest, and runs,
+//! sequences and deltas of rows.
 #![tactic(auto)]
 
+mod deltas;
 mod filling;
 mod groups;
 mod laws;
 mod narrowing;
 mod packing;
 mod reading;
+mod run_ends;
+mod runs_in_blocks;
+mod sequence;
+mod undeltas;
 mod unpacking;
 mod widths;
 mod zig_zag;
 
-pub use laws::{digits_are_fewest, unpack_gives_back, unzigzag_gives_back};
+pub use deltas::delta_blocks;
+pub use laws::{digits_are_fewest, undelta_gives_back, unpack_gives_back, unzigzag_gives_back};
 pub use narrowing::narrow_type;
 pub use packing::pack;
 pub use reading::get;
+pub use run_ends::runs;
+pub use runs_in_blocks::{BlockRuns, block_runs};
+pub use sequence::sequence_of;
+pub use undeltas::undelta;
 pub use unpacking::{unpack, unpack_integers};
 pub use widths::{best_width, bit_width_histogram, wide_rows};
 pub use zig_zag::{unzigzag, zigzag};

@@ -6,7 +6,7 @@ use vx_base::{IntList, Mask, VortexResult};
 use vx_values::Ints;
 
 // Whether the integers are these and of this type.
-fn are_wholes(values: &Ints, ptype: PType, wholes: &[i128]) -> bool {
+pub(crate) fn are_wholes(values: &Ints, ptype: PType, wholes: &[i128]) -> bool {
     if values.ptype() != ptype || values.len() != wholes.len() as u64 {
         return false;
     }
@@ -19,7 +19,7 @@ fn are_wholes(values: &Ints, ptype: PType, wholes: &[i128]) -> bool {
 }
 
 // The same of integers that are made.
-fn shows(made: VortexResult<Ints>, ptype: PType, wholes: &[i128]) -> VortexResult<bool> {
+pub(crate) fn shows(made: VortexResult<Ints>, ptype: PType, wholes: &[i128]) -> VortexResult<bool> {
     Ok(are_wholes(&made?, ptype, wholes))
 }
 

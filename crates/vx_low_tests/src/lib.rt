@@ -4,11 +4,15 @@
 #[cfg(test)]
 mod bounds;
 #[cfg(test)]
+mod int_rows;
+#[cfg(test)]
 mod ints;
 #[cfg(test)]
 mod lists;
 #[cfg(test)]
 mod packing;
+#[cfg(test)]
+mod rows;
 #[cfg(test)]
 mod scalars;
 #[cfg(test)]

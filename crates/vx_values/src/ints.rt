@@ -57,10 +57,13 @@ pub(crate) use with_ints;
 
 mod bit_packing;
 mod converting;
+mod deltas;
 mod dictionary;
 mod frame_of_reference;
 mod gathering;
 mod one_value;
+mod runs;
+mod sequences;
 mod zeroing;
 mod zig_zag;
 

@@ -9,6 +9,7 @@ use Rattle.vx_base.specs.PlainType.{of_fields}
 use Rattle.vx_base.specs.TypeOf.{type_of, value_of, fields_of}
 use Rattle.vx_base.proofs.FallLemmas.{field_falls, field_list_count}
 use Rattle.vx_base.proofs.MakesLemmas.{Makes_ok, Makes_err}
+use Rattle.vx_model.specs.Nested.{elements}
 use Rattle.vx_model.specs.Plain.{validity, plain_of, plain_fields}
 use Rattle.vx_model.specs.Refusals.{kept, structure_refusal, list_refusal, fixed_size_list_refusal}
 use Rattle.vx_model.specs.Tree.{primitive, structure, list, fixed_size_list, of_list, list_of}
@@ -73,17 +74,21 @@ of_values::field_trees-returns t c =
 
 -- ---- lists
 
-pub of_values::of_lists-of_values-requires : goal.of_values::of_lists-of_values-requires
-of_values::of_lists-of_values-requires t c =
-    let s = type_of c.args.dtype.now in
-    (omega arith, ap (list_all (fits s)) c.in_ok-items.ensures.0 ∙ elements-fit s c.args.nullability (map value_of c.args.values.items) c.requires)
+pub of_values::list_elements-of_values-requires : goal.of_values::list_elements-of_values-requires
+of_values::list_elements-of_values-requires t c = (omega arith, ap (list_all (fits (type_of c.args.dtype.now))) c.in_ok-items.ensures.0 ∙ c.requires)
+
+pub of_values::list_elements-returns : goal.of_values::list_elements-returns
+of_values::list_elements-returns t c = (c.in_ok-tree.ensures ∙ ap (plain_of (type_of c.args.dtype.now)) c.in_ok-items.ensures.0, c.in_ok-items.ensures.1)
+
+pub of_values::of_lists-list_elements-requires : goal.of_values::of_lists-list_elements-requires
+of_values::of_lists-list_elements-requires t c = (omega arith, elements-fit (type_of c.args.dtype.now) c.args.nullability (map value_of c.args.values.items) c.requires)
 
 pub of_values::of_lists-returns-in-Ok : goal.of_values::of_lists-returns-in-Ok
 of_values::of_lists-returns-in-Ok t c =
     let vs = map value_of c.args.values.items in
     let valid = ap kept (c.in_ok-valid.ensures ∙ ap (λ ws. validity (map value_of ws)) c.as_slice.ensures.value) ∙ kept-validity vs in
-    let inside = c.in_ok-elements.ensures ∙ ap (plain_of (type_of c.args.dtype.now)) c.in_ok-items.ensures.0 in
-    let offsets = c.primitive_of-offsets.ensures ∙ ap (λ os. primitive U64 (map pos os) None NonNullable) (c.from_vec.ensures ∙ c.in_ok-items.ensures.1) in
+    let inside = c.in_ok-elements.ensures.0 in
+    let offsets = c.primitive_of-offsets.ensures ∙ ap (λ os. primitive U64 (map pos os) None NonNullable) (c.from_vec.ensures ∙ c.in_ok-elements.ensures.1) in
     Makes_ok _ _ _ _ c.in-Ok.ensures ∙ (λ i. list (inside i) (offsets i) (valid i) c.args.nullability)
 
 pub of_values::of_lists-returns-in-Err : goal.of_values::of_lists-returns-in-Err
@@ -91,23 +96,23 @@ of_values::of_lists-returns-in-Err t c =
     let vs = map value_of c.args.values.items in
     let s = type_of c.args.dtype.now in
     let valid = c.in_ok-valid.ensures ∙ ap (λ ws. validity (map value_of ws)) c.as_slice.ensures.value in
-    let inside = c.in_ok-elements.ensures ∙ ap (plain_of s) c.in_ok-items.ensures.0 in
-    let offsets = c.primitive_of-offsets.ensures ∙ ap (λ os. primitive U64 (map pos os) None NonNullable) (c.from_vec.ensures ∙ c.in_ok-items.ensures.1) in
+    let inside = c.in_ok-elements.ensures.0 in
+    let offsets = c.primitive_of-offsets.ensures ∙ ap (λ os. primitive U64 (map pos os) None NonNullable) (c.from_vec.ensures ∙ c.in_ok-elements.ensures.1) in
     Makes_err _ _ _ _ ((λ i. list_refusal (inside i) (offsets i) (valid i) c.args.nullability) ∙ list_admitted s c.args.nullability vs c.requires) c.in-Err.ensures
 
 -- ---- lists of one size
 
-pub of_values::of_fixed_lists-of_values-requires : goal.of_values::of_fixed_lists-of_values-requires
-of_values::of_fixed_lists-of_values-requires t c =
+pub of_values::of_fixed_lists-list_elements-requires : goal.of_values::of_fixed_lists-list_elements-requires
+of_values::of_fixed_lists-list_elements-requires t c =
     let s = type_of c.args.dtype.now in
-    (omega arith, ap (list_all (fits s)) c.in_ok-items.ensures ∙ fixed_elements-fit s c.args.size c.args.nullability (map value_of c.args.values.items) c.requires)
+    (omega arith, ap (λ vs. list_all (fits s) (elements vs)) c.in_ok-lists.ensures ∙ fixed_elements-fit s c.args.size c.args.nullability (map value_of c.args.values.items) c.requires)
 
 pub of_values::of_fixed_lists-returns-in-Ok : goal.of_values::of_fixed_lists-returns-in-Ok
 of_values::of_fixed_lists-returns-in-Ok t c =
     let vs = map value_of c.args.values.items in
     let len : c.len-len.result ≡ length vs = c.len-len.ensures ∙ sym c.as_slice.ensures.len ∙ ap length c.as_slice.ensures.value ∙ sym (length-map c.args.values.items value_of) in
     let valid = ap kept (c.in_ok-valid.ensures ∙ ap (λ ws. validity (map value_of ws)) c.as_slice.ensures.value) ∙ kept-validity vs in
-    let inside = c.in_ok-elements.ensures ∙ ap (plain_of (type_of c.args.dtype.now)) c.in_ok-items.ensures in
+    let inside = c.in_ok-elements.ensures.0 ∙ ap (λ vs. plain_of (type_of c.args.dtype.now) (elements vs)) c.in_ok-lists.ensures in
     Makes_ok _ _ _ _ c.in-Ok.ensures ∙ (λ i. fixed_size_list (inside i) c.args.size (len i) (valid i) c.args.nullability)
 
 pub of_values::of_fixed_lists-returns-in-Err : goal.of_values::of_fixed_lists-returns-in-Err
@@ -116,5 +121,5 @@ of_values::of_fixed_lists-returns-in-Err t c =
     let s = type_of c.args.dtype.now in
     let len : c.len-len.result ≡ length vs = c.len-len.ensures ∙ sym c.as_slice.ensures.len ∙ ap length c.as_slice.ensures.value ∙ sym (length-map c.args.values.items value_of) in
     let valid = c.in_ok-valid.ensures ∙ ap (λ ws. validity (map value_of ws)) c.as_slice.ensures.value in
-    let inside = c.in_ok-elements.ensures ∙ ap (plain_of s) c.in_ok-items.ensures in
+    let inside = c.in_ok-elements.ensures.0 ∙ ap (λ vs. plain_of s (elements vs)) c.in_ok-lists.ensures in
     Makes_err _ _ _ _ ((λ i. fixed_size_list_refusal (inside i) c.args.size (len i) (valid i) c.args.nullability) ∙ fixed_size_list_admitted s c.args.size c.args.nullability vs c.requires) c.in-Err.ensures

@@ -12,21 +12,24 @@ use Rattle.vx_array.specs.Handed.{rows_of}
 use Rattle.vx_array.proofs.FieldTrees.{fields_from}
 use Rattle.vx_array.proofs.+of_values.Given as goal
 
--- two for each type and each field, and one more where a call of the same comes first
+-- three for each type and each field, and more where a call of the same comes first
 abbrev pub decreases-array::ArrayRef::of_values : goal.decreases-array::ArrayRef::of_values
-decreases-array::ArrayRef::of_values l = 2 * type_count (type_of l.dtype.now)
+decreases-array::ArrayRef::of_values l = 3 * type_count (type_of l.dtype.now)
 
 abbrev pub decreases-of_values::of_structs : goal.decreases-of_values::of_structs
-decreases-of_values::of_structs l = 2 * field_list_count (fields_of l.fields.now) + 1
+decreases-of_values::of_structs l = 3 * field_list_count (fields_of l.fields.now) + 1
 
 abbrev pub decreases-of_values::field_trees : goal.decreases-of_values::field_trees
-decreases-of_values::field_trees l = 2 * field_list_count (fields_of l.fields.now)
+decreases-of_values::field_trees l = 3 * field_list_count (fields_of l.fields.now)
 
 abbrev pub decreases-of_values::of_lists : goal.decreases-of_values::of_lists
-decreases-of_values::of_lists l = 2 * type_count (type_of l.dtype.now) + 1
+decreases-of_values::of_lists l = 3 * type_count (type_of l.dtype.now) + 2
+
+abbrev pub decreases-of_values::list_elements : goal.decreases-of_values::list_elements
+decreases-of_values::list_elements l = 3 * type_count (type_of l.dtype.now) + 1
 
 abbrev pub decreases-of_values::of_fixed_lists : goal.decreases-of_values::of_fixed_lists
-decreases-of_values::of_fixed_lists l = 2 * type_count (type_of l.dtype.now) + 1
+decreases-of_values::of_fixed_lists l = 3 * type_count (type_of l.dtype.now) + 2
 
 -- the trees so far, and those of the fields that are left, whose values fit them
 abbrev pub invariant-of_values::field_trees-loop-field : goal.invariant-of_values::field_trees-loop-field

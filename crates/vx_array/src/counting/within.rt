@@ -114,8 +114,9 @@ fn values_in<'a>(value: Option<&'a Value>) -> &'a [Value]
     }
 }
 
+// Those within one.
 #[tactic(auto, using(crate::proofs::ValueWayLemmas::lent))]
-fn values_of(value: &Value) -> &[Value]
+pub(crate) fn values_of(value: &Value) -> &[Value]
     ensures { map value_of result.now ≡ items_or_empty (value_of value.now) }
 {
     match value {

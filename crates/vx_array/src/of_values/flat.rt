@@ -87,7 +87,8 @@ pub(super) fn validity_of(alloc: Global, values: &[Value]) -> VortexResult<Optio
     Ok(Some(Mask::from_bits(bits)))
 }
 
-fn has_null(values: &[Value]) -> bool
+// Whether some value is null.
+pub(super) fn has_null(values: &[Value]) -> bool
     ensures { result ≡ list_any is_null (map value_of values.now) }
 {
     for value in values {

@@ -4,18 +4,19 @@ ghost use Rattle.std.specs.Prelude.{◌≡◌, ◌++◌, OnOk, IfErr, map, repli
 ghost use Rattle.std.specs.VecDeque.{deque_items};
 ghost use Rattle.vx_array.specs.Handed.{row_of, rows_of};
 ghost use Rattle.vx_base.specs.Answers.{OrMemory};
+ghost use Rattle.vx_base.specs.declared.dtype.Nullability.TheVariants.{NonNullable};
 ghost use Rattle.vx_base.specs.declared.error.VortexError.TheVariants.{NoMemory};
-ghost use Rattle.vx_base.specs.Defaults.{field_defaults, null_or_default, or_default};
-ghost use Rattle.vx_base.specs.PlainType.{of_fields};
+ghost use Rattle.vx_base.specs.Defaults.{default_of, field_defaults, null_or_default, or_default};
+ghost use Rattle.vx_base.specs.PlainType.{of_fields, fixed_size_list};
 ghost use Rattle.vx_base.specs.PlainValue.{items, items_or_empty};
 ghost use Rattle.vx_base.specs.TypeOf.{type_of, value_of, fields_of};
-ghost use Rattle.vx_model.specs.Nested.{within, first_within, rest_within, struct_rows, list_rows, elements, fixed_elements};
+ghost use Rattle.vx_model.specs.Nested.{within, first_within, rest_within, struct_rows, list_rows, elements, fixed_rows};
 ghost use Rattle.vx_model.specs.Offsets.{offsets_of};
 
 use super::flat::is_null;
 use std::alloc::Global;
 use std::collections::VecDeque;
-use vx_base::{DType, Fields, Scalar, Value, VortexResult};
+use vx_base::{DType, Fields, Scalar, Value, Values, VortexResult};
 
 // The values of each struct's fields, of a null those of the default.
 pub(super) fn field_rows(
@@ -101,24 +102,39 @@ pub(super) fn list_items(alloc: Global, values: Vec<Value>) -> VortexResult<(Vec
     Ok((items, offsets))
 }
 
-// The items of all lists of one size, one list after the other. A null list has as many defaults.
-pub(super) fn fixed_items(
+// Lists of one size. In place of each that is null stands one of as many defaults.
+pub(super) fn filled_lists(
     alloc: Global,
     dtype: &DType,
     size: u32,
     values: Vec<Value>,
 ) -> VortexResult<Vec<Value>>
-    ensures { OrMemory result (λ items. map value_of items.items ≡ fixed_elements (type_of dtype.now) size (map value_of values.items)) }
+    ensures { OrMemory result (λ lists. map value_of lists.items ≡ fixed_rows (type_of dtype.now) size (map value_of values.items)) }
 {
-    let mut items = Vec::new(alloc);
+    let mut lists = Vec::with_capacity(alloc, values.len())?;
     for value in values {
-        if is_null(&value) {
-            push_defaults(alloc, &mut items, dtype, size)?;
-        } else {
-            push_items(alloc, &mut items, value)?;
-        }
+        lists.push(list_or_default(alloc, dtype, size, value)?)?;
     }
-    Ok(items)
+    Ok(lists)
+}
+
+// A list, or in place of null one of so many defaults.
+fn list_or_default(alloc: Global, dtype: &DType, size: u32, value: Value) -> VortexResult<Value>
+    ensures { OrMemory result (λ list. value_of list ≡ or_default (default_of (fixed_size_list (type_of dtype.now) size NonNullable)) (value_of value)) }
+{
+    if is_null(&value) {
+        return default_list(alloc, dtype, size);
+    }
+    Ok(value)
+}
+
+// A list of so many defaults.
+fn default_list(alloc: Global, dtype: &DType, size: u32) -> VortexResult<Value>
+    ensures { OrMemory result (λ list. value_of list ≡ default_of (fixed_size_list (type_of dtype.now) size NonNullable)) }
+{
+    let mut items = Vec::with_capacity(alloc, size as usize)?;
+    push_defaults(alloc, &mut items, dtype, size)?;
+    Ok(Value::List(Values::from_vec(items)))
 }
 
 // Adds the values within a value.

@@ -1,8 +1,8 @@
 -- The tree of a packed column: its patches, and the packing of a plain tree.
 use Rattle.std.proofs.Common.{◌≡◌, ◌∙◌, ℕ, zero, suc, ℤ, Bool, true, false, List, [], ◌∷◌, length, map, Some, None, cond, refl, sym, ap, subst}
-use Rattle.std.specs.Prelude.{not, replicate, unwrap_or}
+use Rattle.std.specs.Prelude.{is_some, not, replicate, unwrap_or}
 use Rattle.std.proofs.lemmas.List.{length-map}
-use Rattle.std.specs.List.{list_any}
+use Rattle.std.specs.List.{list_all, list_any}
 use Rattle.vx_base.specs.declared.ptype.PType.{PType}
 use Rattle.vx_base.specs.declared.dtype.Nullability.{Nullability}
 use Rattle.vx_base.specs.declared.dtype.Nullability.TheVariants.{NonNullable, Nullable}
@@ -23,6 +23,12 @@ use Rattle.vx_schemes.proofs.ColumnLemmas.{wholes_are, validity_is, length_is}
 pub patches_of-some : (p : PType) (xs : List ℤ) (chosen : List ℕ) → (length chosen ≡ 0 → ⊥) → patches_of p xs chosen ≡ Some (compressed_patches (patches_at p xs chosen))
 patches_of-some p xs [] h = absurd (h refl)
 patches_of-some p xs (row ∷ chosen) h = refl
+
+-- without bits each row is valid
+pub all_bits-true : (valid : Validity) (count : ℕ) → is_some valid ≡ false → list_all (λ bit. bit) (unwrap_or valid (replicate count true)) ≡ true
+all_bits-true (Some bits) count e = absurd cc
+all_bits-true None zero e = refl
+all_bits-true None (suc count) e = all_bits-true None count e
 
 -- ---- the packing of a plain tree is that of its column
 

@@ -13,10 +13,10 @@ use Rattle.vx_base.specs.PlainType as types
 use Rattle.vx_base.specs.PlainValue.{PlainValue, int}
 use Rattle.vx_base.specs.Storable.{same_refl}
 use Rattle.vx_base.proofs.BytesLemmas.{length-bytes_in}
-use Rattle.vx_model.specs.Tree.{plain_packed}
+use Rattle.vx_model.specs.Tree.{Validity, plain_packed}
 use Rattle.vx_model.specs.TreeType.{tree_type}
 use Rattle.vx_model.specs.Column.{Column, column_of}
-use Rattle.vx_model.specs.Refusals.{validity_allowed, patches_refusal, bit_packed_refusal, patches_of_type, patches_length}
+use Rattle.vx_model.specs.Refusals.{validity_allowed, validity_length, patches_refusal, bit_packed_refusal, patches_of_type, patches_length}
 use Rattle.vx_model.specs.WellFormed.{ascend}
 use Rattle.vx_model.proofs.PlainLemmas.{type-plain_of}
 use Rattle.vx_schemes.specs.Patches.Compressed.{shared_value, shared_or_plain, constant_or_plain}
@@ -47,14 +47,19 @@ patches_long : (p : PType) (xs : List ℤ) (chosen : List ℕ) → patches_lengt
 patches_long p xs [] = refl
 patches_long p xs (row ∷ chosen) = eq-eqb (length xs) (length xs) refl
 
-pub packed_admitted : (p : PType) (n : Nullability) (xs : List ℤ) (valid : List Bool) (width : ℕ) (chosen : List ℕ) → length valid ≡ length xs → validity_allowed (Some valid) n ≡ true → nat_le width (natural_bits p) ≡ true
-    → bit_packed_refusal (plain_packed p width (packed_bytes p width xs valid) (length xs) (Some valid) n) (patches_of p xs chosen) ≡ None
-packed_admitted p n xs valid width chosen same allowed narrow =
+-- bits, and the validity of the tree: the bits, or none where each is true
+pub packed_admitted_by : (p : PType) (n : Nullability) (xs : List ℤ) (bits : List Bool) (valid : Validity) (width : ℕ) (chosen : List ℕ) → validity_length valid (length xs) ≡ true → validity_allowed valid n ≡ true → nat_le width (natural_bits p) ≡ true
+    → bit_packed_refusal (plain_packed p width (packed_bytes p width xs bits) (length xs) valid n) (patches_of p xs chosen) ≡ None
+packed_admitted_by p n xs bits valid width chosen same allowed narrow =
     rw (
       patches_typed p xs chosen,
-      eq-eqb (length (packed_bytes p width xs valid)) (packed_size width (length xs)) (length-bytes_in (packed_size width (length xs)) _),
-      eq-eqb (length valid) (length xs) same,
+      eq-eqb (length (packed_bytes p width xs bits)) (packed_size width (length xs)) (length-bytes_in (packed_size width (length xs)) _),
+      same,
       patches_long p xs chosen,
       narrow,
       allowed,
     ) refl
+
+pub packed_admitted : (p : PType) (n : Nullability) (xs : List ℤ) (valid : List Bool) (width : ℕ) (chosen : List ℕ) → length valid ≡ length xs → validity_allowed (Some valid) n ≡ true → nat_le width (natural_bits p) ≡ true
+    → bit_packed_refusal (plain_packed p width (packed_bytes p width xs valid) (length xs) (Some valid) n) (patches_of p xs chosen) ≡ None
+packed_admitted p n xs valid width chosen same allowed narrow = packed_admitted_by p n xs valid (Some valid) width chosen (eq-eqb (length valid) (length xs) same) allowed narrow

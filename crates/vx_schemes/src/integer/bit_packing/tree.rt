@@ -3,13 +3,14 @@
 ghost use Rattle.std.specs.Prelude.{◌≡◌, ◌<◌, ◌≤◌, ◌+◌, ◌^◌, ◌==◌, not, [], Some, pos, length, map, replicate, drop, true, false, nat_le, unwrap_or, IsTrue};
 ghost use Rattle.std.specs.List.{list_all, list_any};
 ghost use Rattle.vx_base.specs.Answers.{Answers, OrMemory};
+ghost use Rattle.vx_base.specs.declared.dtype.Nullability.{Nullability};
 ghost use Rattle.vx_base.specs.Integers.{bits_in, lies_in, natural_bits};
 ghost use Rattle.vx_base.specs.Packed.{wide_rows};
 ghost use Rattle.vx_base.specs.PlainType.{is_integer};
 ghost use Rattle.vx_base.specs.PlainValue.{int};
 ghost use Rattle.vx_model.specs.Column.{column_of};
 ghost use Rattle.vx_model.specs.Plain.{IsPlain};
-ghost use Rattle.vx_model.specs.Refusals.{validity_allowed};
+ghost use Rattle.vx_model.specs.Refusals.{kept, validity_allowed, validity_length};
 ghost use Rattle.vx_model.specs.Rows.{rows};
 ghost use Rattle.vx_model.specs.TreeType.{tree_type};
 ghost use Rattle.vx_model.specs.WellFormed.{ascend};
@@ -40,8 +41,9 @@ pub(crate) fn bit_packing_tree(
     ensures ctx { ctx.new ≡ ctx.old }
 {
     let (values, valid, nullability) = plain.as_primitive();
+    let has_null = valid.is_some();
     let valid = mask_of(ctx.alloc(), valid, values.len())?;
-    packing(values, valid, nullability, ctx)
+    packing(values, valid, has_null, nullability, ctx)
 }
 
 // The validity with a bit for each row.
@@ -54,10 +56,11 @@ fn mask_of(alloc: Global, valid: &Option<Mask>, len: u64) -> VortexResult<Mask>
     }
 }
 
-// The same of integers and their validity.
+// The same of integers and their validity, which has a false only where some row is null.
 fn packing(
     values: &Ints,
     valid: Mask,
+    has_null: bool,
     nullability: Nullability,
     ctx: &mut ExecutionCtx,
 ) -> VortexResult<Option<ArrayRef>>
@@ -66,6 +69,7 @@ fn packing(
     requires same { length valid ≡ length (wholes_of values.now) }
     requires few { length (wholes_of values.now) ≤ 2 ^ 32 }
     requires allowed { validity_allowed (Some valid) nullability ≡ true }
+    requires no_null { has_null ≡ false → list_all (λ bit. bit) valid ≡ true }
     ensures answer { Answers result (packing_of (ptype_of values.now) nullability (wholes_of values.now) valid) }
     ensures ctx { ctx.new ≡ ctx.old }
 {
@@ -73,7 +77,8 @@ fn packing(
     if width == values.ptype().bit_width() {
         return Ok(None);
     }
-    Ok(Some(packed_tree(values, valid, width, wider, nullability, ctx)?))
+    let tree = packed_tree(values, valid, has_null, width, wider, nullability, ctx)?;
+    Ok(Some(tree))
 }
 
 // The width of least cost, and whether some row is wider.
@@ -109,6 +114,7 @@ fn some_counted(counts: &[u64]) -> bool
 fn packed_tree(
     values: &Ints,
     valid: Mask,
+    has_null: bool,
     width: u32,
     wider: bool,
     nullability: Nullability,
@@ -117,6 +123,7 @@ fn packed_tree(
     requires wider { wider ≡ false → wide_rows width (map (bits_in (ptype_of values.now)) (wholes_of values.now)) valid ≡ [] }
     requires same { length valid ≡ length (wholes_of values.now) }
     requires allowed { validity_allowed (Some valid) nullability ≡ true }
+    requires no_null { has_null ≡ false → list_all (λ bit. bit) valid ≡ true }
     requires narrow { nat_le width (natural_bits (ptype_of values.now)) ≡ true }
     ensures answer { Answers result (packed_tree (ptype_of values.now) nullability (wholes_of values.now) valid width) }
     ensures ctx { ctx.new ≡ ctx.old }
@@ -131,13 +138,23 @@ fn packed_tree(
         width,
         packed,
         values.len(),
-        Some(valid),
+        validity(valid, has_null),
         patches,
         nullability,
     ) {
         Ok(tree) => Ok(tree),
         Err(refused) => Err(refused.error),
     }
+}
+
+// The bits, or none where each is true: a tree without nulls needn't look at them.
+fn validity(valid: Mask, has_null: bool) -> Option<Mask>
+    requires { has_null ≡ false → list_all (λ bit. bit) valid ≡ true }
+    ensures kept { kept result ≡ kept (Some valid) }
+    ensures length { validity_length result (length valid) ≡ true }
+    ensures allowed { (n : Nullability) → validity_allowed (Some valid) n ≡ true → validity_allowed result n ≡ true }
+{
+    if has_null { Some(valid) } else { None }
 }
 
 // The rows that are wider than a width as patches in their short form, where there are such rows.

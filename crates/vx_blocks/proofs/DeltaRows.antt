@@ -1,0 +1,82 @@
+-- Rows that are filled, and their bases and deltas, one after another.
+use Rattle.std.proofs.Common.{◌≡◌, ◌≢◌, ℕ, zero, suc, ◌+◌, ◌-◌, ◌*◌, ◌%◌, ◌<◌, ◌≤◌, ℤ, pos, ◌-ℤ◌, Bool, true, false, cond, List, [], ◌∷◌, ◌++◌, length, map, get_or, take, replicate, refl, sym, ap, ◌∙◌, arith, add-one}
+use Rattle.std.specs.Prelude.{◌==◌, nat_le, ◌||◌, Option, Some, None}
+use Rattle.std.specs.List.{range_with_len}
+use Rattle.std.proofs.lemmas.Bool.{eq-eqb, ne_eqb}
+use Rattle.std.proofs.lemmas.Bool.Decides.{nat_tests}
+use Rattle.std.proofs.lemmas.List.{length-map}
+use Rattle.std.proofs.lemmas.List.FromFn.{length-map-range_with_len}
+use Rattle.vx_base.specs.declared.ptype.PType.{PType}
+use Rattle.vx_base.specs.Packed.{block_count}
+use Rattle.vx_base.specs.Wrapping.{wrap}
+use Rattle.vx_blocks.specs.Deltas.{filled_after, filled, bases, delta, deltas}
+use Rattle.vx_blocks.specs.Optional.{optional_row}
+use Rattle.vx_blocks.proofs.Ranges.{resized}
+
+pub length-filled_after : (last : ℤ) (rows : List (Option ℤ)) → length (filled_after last rows) ≡ length rows
+length-filled_after last [] = refl
+length-filled_after last (None ∷ rows) = let ih = length-filled_after last rows in omega arith
+length-filled_after last (Some z ∷ rows) = let ih = length-filled_after z rows in omega arith
+
+-- the whole number of a row, or the last one before it
+abbrev pub or_last : Option ℤ → ℤ → ℤ
+or_last None last = last
+or_last (Some z) last = z
+
+-- what lies before a row: a given number before the first
+abbrev pub before : ℤ → List ℤ → ℕ → ℤ
+before last rows i = get_or (last ∷ rows) i (pos 0)
+
+pub filled-row : (last : ℤ) (rows : List (Option ℤ)) (i : ℕ) → i < length rows → get_or (filled_after last rows) i (pos 0) ≡ or_last (get_or rows i None) (before last (filled_after last rows) i)
+filled-row last [] i h = absurd (omega arith)
+filled-row last (None ∷ rows) zero h = refl
+filled-row last (Some z ∷ rows) zero h = refl
+filled-row last (None ∷ rows) (suc i) h = filled-row last rows i (omega arith)
+filled-row last (Some z ∷ rows) (suc i) h = filled-row z rows i (omega arith)
+
+or_last-row : (valid : Bool) (z last : ℤ) → or_last (optional_row z valid) last ≡ cond valid z last
+or_last-row true z last = refl
+or_last-row false z last = refl
+
+-- the row that a loop makes of its item
+pub filled-item : (rows : List (Option ℤ)) (i : ℕ) (valid : Bool) (z last item : ℤ) → i < length rows → optional_row z valid ≡ get_or rows i None → last ≡ before (pos 0) (filled rows) i → item ≡ cond valid z last
+    → item ≡ get_or (filled rows) i (pos 0)
+filled-item rows i valid z last item h is so_far made = made ∙ sym (or_last-row valid z last) ∙ (λ k. or_last (is k) (so_far k)) ∙ sym (filled-row (pos 0) rows i h)
+
+pub before-next : (last : ℤ) (rows : List ℤ) (i : ℕ) → before last rows (i + 1) ≡ get_or rows i (pos 0)
+before-next last rows i = ap (before last rows) (add-one i)
+
+module _ (kind : PType) (rows : List ℤ) where
+  before-at : (i : ℕ) → i % 1024 ≢ 0 → before (pos 0) rows i ≡ get_or rows (i - 1) (pos 0)
+  before-at zero h = absurd (h refl)
+  before-at (suc i) h = let same : i ≡ suc i - 1 = omega arith in ap (λ k. get_or rows k (pos 0)) same
+
+  -- the delta that a loop makes of a row, at a block's first and at another
+  pub delta-first : (i : ℕ) → i % 1024 ≡ 0 → pos 0 ≡ delta kind rows i
+  delta-first i first = rw (eq-eqb (i % 1024) 0 first) refl
+
+  pub delta-next : (i : ℕ) (item last made : ℤ) → i < length rows → i % 1024 ≢ 0 → item ≡ get_or rows i (pos 0) → last ≡ before (pos 0) rows i → made ≡ wrap kind (item -ℤ last) → made ≡ delta kind rows i
+  delta-next i item last made h other is so_far e =
+      let within : nat_le (length rows) i ≡ false = grind (arith, nat_tests) in
+      let more = before-at i other in
+      e ∙ rw (ne_eqb (i % 1024) 0 other, within) (λ k. wrap kind (is k -ℤ (so_far ∙ more) k))
+
+  -- no row is left
+  delta-none : (i : ℕ) → length rows ≤ i → delta kind rows i ≡ pos 0
+  delta-none i h = let e : nat_le (length rows) i ≡ true = grind (arith, nat_tests) in by_test (i % 1024 == 0) (nat_le (length rows) i) e
+    where
+      by_test : (b c : Bool) → c ≡ true → cond (b || c) (pos 0) (wrap kind (get_or rows i (pos 0) -ℤ get_or rows (i - 1) (pos 0))) ≡ pos 0
+      by_test true c f = refl
+      by_test false c f = rw f refl
+
+  pub deltas-filled : {X : Type 0} (g : X → ℤ) (items made : List X) (x : X) (n size len : ℕ) → n ≡ length rows → size ≡ 1024 * block_count (length rows) → len ≡ length items → g x ≡ pos 0
+      → map g items ≡ map (delta kind rows) (range_with_len 0 n) → made ≡ take size items ++ replicate (size - len) x → map g made ≡ deltas kind rows
+  deltas-filled g items made x n size len all room long is so_far made-is =
+      resized (delta kind rows) (pos 0) g items made x n size len (omega arith) (λ k h. delta-none k (omega arith)) long is so_far made-is ∙ ap (λ m. map (delta kind rows) (range_with_len 0 m)) room
+
+  -- 1,024 deltas for each base
+  pub deltas-for-bases : {X : Type 0} (g : X → ℤ) (few many : List X) → map g few ≡ bases rows → map g many ≡ deltas kind rows → length many ≡ 1024 * length few
+  deltas-for-bases g few many a b =
+      let few-len : length few ≡ block_count (length rows) = sym (length-map few g) ∙ ap length a ∙ length-map-range_with_len (λ block. get_or rows (1024 * block) (pos 0)) 0 (block_count (length rows)) in
+      let many-len : length many ≡ 1024 * block_count (length rows) = sym (length-map many g) ∙ ap length b ∙ length-map-range_with_len (delta kind rows) 0 (1024 * block_count (length rows)) in
+      omega (arith, few-len, many-len)

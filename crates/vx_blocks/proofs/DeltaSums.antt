@@ -1,0 +1,80 @@
+-- Rows that come back from bases and deltas, one after another.
+use Rattle.std.proofs.Common.{◌≡◌, ◌≢◌, ℕ, ◌+◌, ◌-◌, ◌*◌, ◌/◌, ◌%◌, ◌<◌, ◌≤◌, ℤ, pos, ◌+ℤ◌, true, List, [], ◌∷◌, ◌++◌, length, get_or, take, drop, sym, ap, ◌∙◌, arith, length-drop}
+use Rattle.std.proofs.lemmas.Int.{ints}
+use Rattle.std.proofs.lemmas.List.{take_more, take-take, get_or-drop}
+use Rattle.vx_base.specs.declared.ptype.PType.{PType}
+use Rattle.vx_base.specs.Integers.{lies_in}
+use Rattle.vx_base.specs.Masks.{rows_between}
+use Rattle.vx_base.specs.Wrapping.{wrap}
+use Rattle.vx_base.proofs.WrapLemmas.{wrap-same}
+use Rattle.vx_base.specs.Undelta.{total, undelta_row}
+use Rattle.vx_blocks.proofs.WrapsAgain.{wrap-sum_left}
+
+total-push : (zs : List ℤ) (z : ℤ) → total (zs ++ z ∷ []) ≡ total zs +ℤ z
+total-push [] z = omega (arith, ints)
+total-push (y ∷ ys) z = let ih = total-push ys z in omega (arith, ints, ih)
+
+between-more : (zs : List ℤ) (start i : ℕ) → start ≤ i → i < length zs → rows_between zs start (i + 1) ≡ rows_between zs start i ++ get_or zs i (pos 0) ∷ []
+between-more zs start i first last =
+    let long : i - start < length (drop start zs) = omega (arith, length-drop start zs) in
+    let more : i + 1 - start ≡ i - start + 1 = omega arith in
+    let place : start + (i - start) ≡ i = omega arith in
+    ap (λ n. take n (drop start zs)) more ∙ take_more (drop start zs) (i - start) (pos 0) long
+    ∙ ap (λ z. rows_between zs start i ++ z ∷ []) (get_or-drop start zs (i - start) (pos 0) ∙ ap (λ k. get_or zs k (pos 0)) place)
+
+total-more : (zs : List ℤ) (start i : ℕ) → start ≤ i → i < length zs → total (rows_between zs start (i + 1)) ≡ total (rows_between zs start i) +ℤ get_or zs i (pos 0)
+total-more zs start i first last = ap total (between-more zs start i first last) ∙ total-push (rows_between zs start i) (get_or zs i (pos 0))
+
+-- ---- the rows of a block, by its base and its deltas
+
+abbrev pub sums : PType → ℤ → List ℤ → ℕ → ℤ
+sums kind base deltas k = wrap kind (base +ℤ total (take k deltas))
+
+pub sums-none : (kind : PType) (base : ℤ) (deltas : List ℤ) → lies_in kind base ≡ true → base ≡ sums kind base deltas 0
+sums-none kind base deltas held = let same : base +ℤ pos 0 ≡ base = omega (arith, ints) in sym (ap (wrap kind) same ∙ wrap-same kind base held)
+
+pub sums-next : (kind : PType) (base : ℤ) (deltas : List ℤ) (k : ℕ) (last delta made : ℤ) → k < length deltas → last ≡ sums kind base deltas k → delta ≡ get_or deltas k (pos 0) → made ≡ wrap kind (last +ℤ delta) → made ≡ sums kind base deltas (k + 1)
+sums-next kind base deltas k last delta made h so_far is e =
+    let row = get_or deltas k (pos 0) in
+    let more = ap total (take_more deltas k (pos 0) h) ∙ total-push (take k deltas) row in
+    let same : (base +ℤ total (take k deltas)) +ℤ row ≡ base +ℤ total (take (k + 1) deltas) = omega (arith, ints, more) in
+    e ∙ (λ i. wrap kind (so_far i +ℤ is i)) ∙ wrap-sum_left kind (base +ℤ total (take k deltas)) row ∙ ap (wrap kind) same
+
+-- a block's rows are those of the column
+pub sums-in_block : (kind : PType) (bases deltas part : List ℤ) (base : ℤ) (block k : ℕ) → k < 1024 → base ≡ get_or bases block (pos 0) → part ≡ take 1024 (drop (1024 * block) deltas) → sums kind base part (k + 1) ≡ undelta_row kind bases deltas (1024 * block + k)
+sums-in_block kind bases deltas part base block k h is are =
+    let same : block ≡ (1024 * block + k) / 1024 = omega arith in
+    let count : k + 1 ≡ 1024 * block + k + 1 - 1024 * block = omega arith in
+    let rows : take (k + 1) part ≡ rows_between deltas (1024 * block) (1024 * block + k + 1) =
+    ap (take (k + 1)) are ∙ take-take (k + 1) 1024 (drop (1024 * block) deltas) (omega arith) ∙ ap (λ n. take n (drop (1024 * block) deltas)) count
+    in
+    (λ i. wrap kind (is i +ℤ total (rows i))) ∙ (λ i. wrap kind (get_or bases (same i) (pos 0) +ℤ total (rows_between deltas (1024 * same i) (1024 * block + k + 1))))
+
+-- ---- a row of the column, by the row before it
+
+module _ (kind : PType) (bases deltas : List ℤ) where
+  -- a block's first row
+  pub undelta-first : (i : ℕ) → i % 1024 ≡ 0 → i < length deltas → wrap kind (get_or bases (i / 1024) (pos 0) +ℤ get_or deltas i (pos 0)) ≡ undelta_row kind bases deltas i
+  undelta-first i first within =
+      let start : 1024 * (i / 1024) ≡ i = omega arith in
+      let none : i - i ≡ 0 = omega arith in
+      let some : total (rows_between deltas i i) ≡ pos 0 = ap (λ n. total (take n (drop i deltas))) none in
+      let more = total-more deltas i i (omega arith) within in
+      let base = get_or bases (i / 1024) (pos 0) in
+      let same : base +ℤ total (rows_between deltas i (i + 1)) ≡ base +ℤ get_or deltas i (pos 0) = omega (arith, ints, some, more) in
+      ap (wrap kind) (sym same) ∙ ap (λ s. wrap kind (base +ℤ total (rows_between deltas s (i + 1)))) (sym start)
+
+  -- a row behind another of its block
+  pub undelta-next : (i : ℕ) → i % 1024 ≢ 0 → i < length deltas → wrap kind (undelta_row kind bases deltas (i - 1) +ℤ get_or deltas i (pos 0)) ≡ undelta_row kind bases deltas i
+  undelta-next i other within =
+      let block : (i - 1) / 1024 ≡ i / 1024 = omega arith in
+      let end : i - 1 + 1 ≡ i = omega arith in
+      let base = get_or bases (i / 1024) (pos 0) in
+      let start = 1024 * (i / 1024) in
+      let delta = get_or deltas i (pos 0) in
+      let before : undelta_row kind bases deltas (i - 1) ≡ wrap kind (base +ℤ total (rows_between deltas start i)) =
+      λ k. wrap kind (get_or bases (block k) (pos 0) +ℤ total (rows_between deltas (1024 * block k) (end k)))
+      in
+      let more = total-more deltas start i (omega arith) within in
+      let same : (base +ℤ total (rows_between deltas start i)) +ℤ delta ≡ base +ℤ total (rows_between deltas start (i + 1)) = omega (arith, ints, more) in
+      ap (λ z. wrap kind (z +ℤ delta)) before ∙ wrap-sum_left kind (base +ℤ total (rows_between deltas start i)) delta ∙ ap (wrap kind) same

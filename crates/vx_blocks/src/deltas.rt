@@ -1,0 +1,104 @@
+//! Differences from row to row, in blocks of 1,024 rows.
+
+ghost use Rattle.std.specs.Prelude.{◌≡◌, ◌<◌, ◌≤◌, ◌+◌, ◌*◌, ◌%◌, ◌-ℤ◌, ◌∷◌, ℕ, pos, if◌then◌else◌, length, map, slice_index_or};
+ghost use Rattle.vx_base.specs.Answers.{OrMemory};
+ghost use Rattle.vx_base.specs.Wrapping.{wrap};
+ghost use Rattle.vx_blocks.specs.Deltas.{bases, delta, deltas, filled};
+ghost use Rattle.vx_blocks.specs.Optional.{optional_rows};
+
+use std::alloc::Global;
+use vx_base::{Integer, Mask, VortexError, VortexResult};
+
+// The difference of an integer from another, wrapped into their type.
+#[inline(always)]
+fn difference<T: Integer>(a: T, b: T) -> T
+    ensures { T.whole result ≡ wrap T.kind (T.whole a -ℤ T.whole b) }
+{
+    let (_a, _b) = (a.to_whole(), b.to_whole());
+    T::from_low_bits(a.to_bits().wrapping_sub(b.to_bits()))
+}
+
+// The item of a row, and where it isn't valid the one before.
+#[inline(always)]
+fn item_or<T: Integer>(valid: bool, item: T, last: T) -> T
+    ensures { T.whole result ≡ (if valid then T.whole item else T.whole last) }
+{
+    if valid { item } else { last }
+}
+
+// Writes the deltas of a block's rows, from `start` on. Gives its base, and the last of its rows.
+#[inline(always)]
+fn delta_block<T: Integer>(
+    values: &[T],
+    valid: &[bool],
+    start: usize,
+    before: T,
+    deltas: &mut [T],
+) -> (T, T)
+    requires same { length valid.now ≡ length values.now }
+    requires start { start % 1024 ≡ 0 }
+    requires some { 0 < length deltas.old }
+    requires few { length deltas.old ≤ 1024 }
+    requires room { start + length deltas.old ≤ length values.now }
+    requires before { T.whole before ≡ slice_index_or (pos 0 ∷ filled (optional_rows (map T.whole values.now) valid.now)) start (pos 0) }
+    ensures base { T.whole result.0 ≡ slice_index_or (filled (optional_rows (map T.whole values.now) valid.now)) start (pos 0) }
+    ensures last { T.whole result.1 ≡ slice_index_or (pos 0 ∷ filled (optional_rows (map T.whole values.now) valid.now)) (start + length deltas.old) (pos 0) }
+    ensures deltas { (k : ℕ) → k < length deltas.new → slice_index_or (map T.whole deltas.new) k (pos 0) ≡ delta T.kind (filled (optional_rows (map T.whole values.now) valid.now)) (start + k) }
+{
+    let base = item_or(valid[start], values[start], before);
+    let mut last = base;
+    deltas[0] = T::zero();
+    for k in 1..deltas.len() {
+        let item = item_or(valid[start + k], values[start + k], last);
+        deltas[k] = difference(item, last);
+        last = item;
+    }
+    (base, last)
+}
+
+fn deltas_of<T: Integer>(
+    alloc: Global,
+    values: &[T],
+    valid: &[bool],
+) -> VortexResult<(Vec<T>, Vec<T>)>
+    requires { length valid.now ≡ length values.now }
+    ensures size { OrMemory result (λ made. length made.1.items ≡ 1024 * length made.0.items) }
+    ensures bases { OrMemory result (λ made. map T.whole made.0.items ≡ bases (filled (optional_rows (map T.whole values.now) valid.now))) }
+    ensures deltas { OrMemory result (λ made. map T.whole made.1.items ≡ deltas T.kind (filled (optional_rows (map T.whole values.now) valid.now))) }
+{
+    let blocks = values.len().div_ceil(1024);
+    let Some(size) = blocks.checked_mul(1024) else {
+        return Err(VortexError::NoMemory);
+    };
+    let mut bases = Vec::with_capacity(alloc, blocks)?;
+    let mut deltas = Vec::with_capacity(alloc, size)?;
+    let mut last = T::zero();
+    for block in 0..blocks {
+        let start = 1024 * block;
+        let rows = (values.len() - start).min(1024);
+        // What `resize` writes is still in the cache when it is written over.
+        deltas.resize(start + rows, T::zero())?;
+        let made = delta_block(values, valid, start, last, deltas.slice_mut(start..));
+        bases.push(made.0)?;
+        last = made.1;
+    }
+    // The rows that fill the last block.
+    deltas.resize(size, T::zero())?;
+    Ok((bases, deltas))
+}
+
+/// The bases and the deltas of blocks of 1,024 rows, where each null takes the last valid row before it, and 0 before the
+/// first. A base is its block's first row. A delta is the difference from the row before, wrapped into the type; it is 0
+/// at a block's first row, and for the rows that fill the last block. `valid` has a truth value for each row.
+pub fn delta_blocks<T: Integer>(
+    alloc: Global,
+    values: &[T],
+    valid: &Mask,
+) -> VortexResult<(Vec<T>, Vec<T>)>
+    requires { length valid.now ≡ length values.now }
+    ensures size { OrMemory result (λ made. length made.1.items ≡ 1024 * length made.0.items) }
+    ensures bases { OrMemory result (λ made. map T.whole made.0.items ≡ bases (filled (optional_rows (map T.whole values.now) valid.now))) }
+    ensures deltas { OrMemory result (λ made. map T.whole made.1.items ≡ deltas T.kind (filled (optional_rows (map T.whole values.now) valid.now))) }
+{
+    deltas_of(alloc, values, valid.as_slice())
+}

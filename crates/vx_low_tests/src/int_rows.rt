@@ -1,0 +1,118 @@
+//! Runs, sequences and deltas of lists of integers, once each. A list is let go before the one way out of a test.
+
+use crate::ints::{are_wholes, shows};
+use std::alloc::Global;
+use std::test::Fail;
+use vx_base::PType::{I16, I32};
+use vx_base::{IntList, Mask, VortexResult};
+use vx_values::Ints;
+
+// Whether a block of 1,024 rows has this one first, this one behind it, and this one in each row that is left.
+fn is_block(rows: &Ints, first: i128, second: i128, others: i128) -> bool {
+    if rows.len() != 1024 || rows.whole_at(0) != first || rows.whole_at(1) != second {
+        return false;
+    }
+    for row in 2..1024 {
+        if rows.whole_at(row) != others {
+            return false;
+        }
+    }
+    true
+}
+
+#[test]
+fn runs_end(rt: HostRuntime) -> Result<(), Fail> {
+    let valid = Mask::from_bits(vec![in rt.alloc(); true, true, false, false, true]?);
+    let values = Ints::I32(IntList::from_vec(vec![in rt.alloc(); 5, 5, 6, 7, 5]?));
+    let ends = values.runs(rt.alloc(), &valid);
+    drop(values);
+    assert_eq!(rt; ends?.as_slice(), [2, 4, 5].as_slice());
+    Ok(())
+}
+
+#[test]
+fn runs_begin_in_their_block(rt: HostRuntime) -> Result<(), Fail> {
+    let valid = Mask::from_bits(vec![in rt.alloc(); true, true, false, false, true]?);
+    let values = Ints::I32(IntList::from_vec(vec![in rt.alloc(); 5, 5, 6, 7, 5]?));
+    let made = values.block_runs(rt.alloc(), &valid);
+    drop(values);
+    let made = made?;
+    assert_eq!(rt; made.heads.as_slice(), [0, 2, 4].as_slice());
+    assert_eq!(rt; made.offsets.as_slice(), [0].as_slice());
+    assert_eq!(rt; made.numbers.get(3).copied(), Some(1));
+    Ok(())
+}
+
+#[test]
+fn sequences_are_found(rt: HostRuntime) -> Result<(), Fail> {
+    let falling = Ints::I8(IntList::from_vec(vec![in rt.alloc(); 3, 2]?));
+    let found = falling.sequence();
+    drop(falling);
+    assert_eq!(rt; found, Some((3, -1)));
+    Ok(())
+}
+
+#[test]
+fn unsigned_steps_do_not_fall(rt: HostRuntime) -> Result<(), Fail> {
+    let falling = Ints::U8(IntList::from_vec(vec![in rt.alloc(); 3, 2]?));
+    let found = falling.sequence();
+    drop(falling);
+    assert_eq!(rt; found, None);
+    Ok(())
+}
+
+#[test]
+fn sequences_are_made(rt: HostRuntime) -> Result<(), Fail> {
+    let made = shows(
+        Ints::stepped(rt.alloc(), I16, 3, -2, 4),
+        I16,
+        &[3, 1, -1, -3],
+    );
+    assert!(rt; made?);
+    Ok(())
+}
+
+// Whether a column became one base and one block of deltas.
+fn are_deltas(made: VortexResult<(Ints, Ints)>) -> VortexResult<bool> {
+    let (bases, deltas) = made?;
+    Ok(are_wholes(&bases, I32, &[5]) && is_block(&deltas, 0, 2, 0))
+}
+
+#[test]
+fn deltas_are_made(rt: HostRuntime) -> Result<(), Fail> {
+    let valid = Mask::from_bits(vec![in rt.alloc(); true, true, true]?);
+    let values = Ints::I32(IntList::from_vec(vec![in rt.alloc(); 5, 7, 7]?));
+    let made = are_deltas(values.delta_blocks(rt.alloc(), &valid));
+    drop(values);
+    assert!(rt; made?);
+    Ok(())
+}
+
+// Whether one base and a block of deltas become the rows.
+fn are_rows(alloc: Global, bases: &Ints, deltas: &Ints) -> VortexResult<bool> {
+    if bases.len() != 1 || deltas.len() != 1024 || deltas.ptype() != bases.ptype() {
+        return Ok(false);
+    }
+    Ok(is_block(&bases.undelta(alloc, deltas)?, 5, 7, 7))
+}
+
+#[test]
+fn deltas_are_summed(rt: HostRuntime) -> Result<(), Fail> {
+    let mut items = vec![in rt.alloc(); 0i32; 1024]?;
+    items[1] = 2;
+    let bases = IntList::from_vec(vec![in rt.alloc(); 5]?);
+    let (bases, deltas) = (Ints::I32(bases), Ints::I32(IntList::from_vec(items)));
+    let rows = are_rows(rt.alloc(), &bases, &deltas);
+    drop(bases);
+    drop(deltas);
+    assert!(rt; rows?);
+    Ok(())
+}
+
+#[test]
+fn first_rows_are_left(rt: HostRuntime) -> Result<(), Fail> {
+    let values = Ints::I16(IntList::from_vec(vec![in rt.alloc(); 300, 9, -7, 8]?));
+    let two = shows(Ok(values.truncated(2)), I16, &[300, 9]);
+    assert!(rt; two?);
+    Ok(())
+}

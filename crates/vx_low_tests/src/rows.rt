@@ -1,0 +1,108 @@
+//! Runs, sequences and deltas of a few rows, and of rows in two blocks.
+
+ghost use Rattle.std.specs.Prelude.{◌≡◌, length, vec_len, IfOk};
+
+use std::alloc::{AllocError, Global};
+use std::test::Fail;
+use vx_base::Mask;
+use vx_blocks::{block_runs, delta_blocks, runs, sequence_of, undelta, undelta_gives_back};
+
+fn all_valid(alloc: Global, rows: usize) -> Result<Mask, AllocError>
+    ensures { IfOk result (λ mask. length mask ≡ rows) }
+{
+    Ok(Mask::from_bits(vec![in alloc; true; rows]?))
+}
+
+// Rows that rise by 40 and then fall by 240, which leaves the signed numbers of a byte.
+fn waves(alloc: Global, rows: usize) -> Result<Vec<u8>, AllocError>
+    ensures { IfOk result (λ values. vec_len values ≡ rows) }
+{
+    let mut values = vec![in alloc; 0u8; rows]?;
+    for (i, slot) in values.iter_mut().enumerate() {
+        *slot = (i % 7 * 40) as u8;
+    }
+    Ok(values)
+}
+
+// What lies beneath the nulls is equal to the row before, and differs.
+#[test]
+fn runs_with_nulls(rt: HostRuntime) -> Result<(), Fail> {
+    let values = [7i32, 7, 7, 9, 8];
+    let valid = Mask::from_bits(vec![in rt.alloc(); true, true, false, false, true]?);
+    let ends = runs(rt.alloc(), &values, &valid)?;
+    assert_eq!(rt; ends.as_slice(), [2, 4, 5].as_slice());
+    let made = block_runs(rt.alloc(), &values, &valid)?;
+    assert_eq!(rt; made.heads.as_slice(), [0, 2, 4].as_slice());
+    assert_eq!(rt; made.offsets.as_slice(), [0].as_slice());
+    assert_eq!(rt; made.numbers.len(), 1024);
+    assert!(rt;
+        made.numbers
+            .as_slice()
+            .starts_with([0, 0, 1, 1, 2, 0].as_slice())
+    );
+    Ok(())
+}
+
+#[test]
+fn runs_end_with_their_block(rt: HostRuntime) -> Result<(), Fail> {
+    let rows = 1500;
+    let values = vec![in rt.alloc(); 7u8; rows]?;
+    let valid = all_valid(rt.alloc(), rows)?;
+    let ends = runs(rt.alloc(), values.as_slice(), &valid)?;
+    assert_eq!(rt; ends.as_slice(), [1500].as_slice());
+    let made = block_runs(rt.alloc(), values.as_slice(), &valid)?;
+    assert_eq!(rt; made.heads.as_slice(), [0, 1024].as_slice());
+    assert_eq!(rt; made.offsets.as_slice(), [0, 1].as_slice());
+    assert_eq!(rt; made.numbers.len(), 2048);
+    Ok(())
+}
+
+#[test]
+fn no_rows(rt: HostRuntime) -> Result<(), Fail> {
+    let valid = all_valid(rt.alloc(), 0)?;
+    assert_eq!(rt; runs::<u8>(rt.alloc(), &[], &valid)?.len(), 0);
+    let made = block_runs::<u8>(rt.alloc(), &[], &valid)?;
+    assert_eq!(rt; made.offsets.len(), 0);
+    let (bases, deltas) = delta_blocks::<u8>(rt.alloc(), &[], &valid)?;
+    assert_eq!(rt; bases.len(), 0);
+    assert_eq!(rt;
+        undelta(rt.alloc(), bases.as_slice(), deltas.as_slice())?.len(),
+        0
+    );
+    Ok(())
+}
+
+#[test]
+fn sequences_and_others(rt: HostRuntime) {
+    assert_eq!(rt; sequence_of(&[5i32]), None);
+    assert_eq!(rt; sequence_of(&[0u8, 255]), Some((0, 255)));
+    assert_eq!(rt; sequence_of(&[255u8, 0]), None);
+    assert_eq!(rt; sequence_of(&[3i8, 2]), Some((3, -1)));
+    assert_eq!(rt; sequence_of(&[5i32, 7, 9]), Some((5, 2)));
+    assert_eq!(rt; sequence_of(&[5i32, 7, 10]), None);
+}
+
+#[test]
+fn deltas_of_nulls(rt: HostRuntime) -> Result<(), Fail> {
+    let values = [9u8, 3, 200, 10];
+    let valid = Mask::from_bits(vec![in rt.alloc(); false, true, false, true]?);
+    let (bases, deltas) = delta_blocks(rt.alloc(), &values, &valid)?;
+    assert_eq!(rt; bases.as_slice(), [0].as_slice());
+    assert_eq!(rt; deltas.len(), 1024);
+    assert!(rt; deltas.as_slice().starts_with([0, 3, 0, 7, 0].as_slice()));
+    Ok(())
+}
+
+// 3 blocks, of which the last is filled.
+#[test]
+fn deltas_and_back(rt: HostRuntime) -> Result<(), Fail> {
+    let values = waves(rt.alloc(), 2100)?;
+    let valid = all_valid(rt.alloc(), values.len())?;
+    let (bases, deltas) = delta_blocks(rt.alloc(), values.as_slice(), &valid)?;
+    assert_eq!(rt; bases.as_slice(), [0, 80, 160].as_slice());
+    assert_eq!(rt; deltas.len(), 3072);
+    let rows = undelta(rt.alloc(), bases.as_slice(), deltas.as_slice())?;
+    assert!(rt; rows.as_slice().starts_with(values.as_slice()));
+    undelta_gives_back();
+    Ok(())
+}

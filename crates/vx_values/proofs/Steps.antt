@@ -1,0 +1,75 @@
+-- Rows of a sequence, each by the low bits of the one before it and of the step.
+use Rattle.std.proofs.Common.{◌≡◌, ◌<◌, ◌+◌, ◌-◌, ◌*◌, ◌%◌, ◌^◌, ◌∙◌, ℕ, suc, ℤ, pos, negsuc, Bool, true, false, refl, sym, ap, arith}
+use Rattle.std.specs.Prelude.{◌+ℤ◌, ◌*ℤ◌, unsigned_abs, ◌==◌, ◌||◌, ◌&&◌}
+use Rattle.std.proofs.lemmas.Bool.{ne_eqb, and_parts}
+use Rattle.std.proofs.lemmas.Int.{ints, int_rem_euclid_is}
+use Rattle.std.proofs.lemmas.Nat.{pow_pos}
+use Rattle.std.proofs.Math.Nat.{mul_assoc}
+use Rattle.std.proofs.Math.Pow.{mod-mod-pow}
+use Rattle.vx_base.specs.declared.ptype.PType.{PType}
+use Rattle.vx_base.specs.declared.ptype.PType.TheVariants.{U8, U16, U32, U64, I8, I16, I32, I64}
+use Rattle.vx_base.specs.Integers.{bits_of, lies_in}
+use Rattle.vx_base.specs.Wrapping.{low_bits, from_bits}
+use Rattle.vx_base.proofs.WrapLemmas.{wrap-same}
+use Rattle.vx_base.proofs.WrapSumLemmas.{low_bits-add}
+use Rattle.vx_blocks.specs.Sequence.{sequence_row}
+use Rattle.vx_blocks.proofs.Sequences.{row-held, row-step}
+
+-- ---- the low bits of a type are those of the 64 low ones
+
+word_size : (p : PType) → 64 - bits_of p + bits_of p ≡ 64
+word_size U8 = refl
+word_size U16 = refl
+word_size U32 = refl
+word_size U64 = refl
+word_size I8 = refl
+word_size I16 = refl
+word_size I32 = refl
+word_size I64 = refl
+
+word_of : (p : PType) → 2 ^ (64 - bits_of p) * 2 ^ bits_of p ≡ 2 ^ 64
+word_of U8 = refl
+word_of U16 = refl
+word_of U32 = refl
+word_of U64 = refl
+word_of I8 = refl
+word_of I16 = refl
+word_of I32 = refl
+word_of I64 = refl
+
+natural-word : (p : PType) (n : ℕ) → n % 2 ^ 64 % 2 ^ bits_of p ≡ n % 2 ^ bits_of p
+natural-word p n = ap (λ w. n % 2 ^ w % 2 ^ bits_of p) (sym (word_size p)) ∙ mod-mod-pow n (64 - bits_of p) (bits_of p)
+
+-- of a number that is a natural one with some words more
+lifted-word : (p : PType) (z : ℤ) (times total : ℕ) → z +ℤ pos (times * 2 ^ 64) ≡ pos total → low_bits U64 z % 2 ^ bits_of p ≡ low_bits p z
+lifted-word p z times total e =
+    let all = 2 ^ bits_of p in
+    let word : low_bits U64 z ≡ total % 2 ^ 64 = ap unsigned_abs (int_rem_euclid_is z (pos (2 ^ 64)) (2 ^ 64) times total (pow_pos 64) refl e) in
+    let parts : times * 2 ^ 64 ≡ times * 2 ^ (64 - bits_of p) * all = ap (λ w. times * w) (sym (word_of p)) ∙ sym (mul_assoc times (2 ^ (64 - bits_of p)) all) in
+    let low : low_bits p z ≡ total % all = ap unsigned_abs (int_rem_euclid_is z (pos all) all (times * 2 ^ (64 - bits_of p)) total (pow_pos (bits_of p)) refl (ap (λ n. z +ℤ pos n) (sym parts) ∙ e)) in
+    ap (λ n. n % all) word ∙ natural-word p total ∙ sym low
+
+low_bits-word : (p : PType) (z : ℤ) → low_bits U64 z % 2 ^ bits_of p ≡ low_bits p z
+low_bits-word p (pos n) = natural-word p n
+low_bits-word p (negsuc n) = lifted-word p (negsuc n) (suc n) (suc n * 2 ^ 64 - suc n) (omega (arith, ints))
+
+-- ---- rows
+
+-- where there are rows the first and the last lie in the type
+ends_held : (b c d : Bool) → b ≡ false → (b || c && d) ≡ true → (c ≡ true) × (d ≡ true)
+ends_held true c d e h = absurd cc
+ends_held false c d e h = and_parts c d h
+
+module _ (first step : ℤ) where
+  -- the bits of the next row
+  pub bits-next : (i bits add next : ℕ) → bits ≡ low_bits U64 (sequence_row first step i) → add ≡ low_bits U64 step → next ≡ (bits + add) % 2 ^ 64 → next ≡ low_bits U64 (sequence_row first step (i + 1))
+  bits-next i bits add next is more e =
+      e ∙ (λ k. (is k + more k) % 2 ^ 64) ∙ sym (low_bits-add U64 (sequence_row first step i) step) ∙ ap (low_bits U64) (sym (row-step first step i))
+
+  -- where the first and the last row lie in the type, the value of those bits is the row
+  pub bits-row : (p : PType) (len i bits : ℕ) → (len == 0 || lies_in p first && lies_in p (first +ℤ pos (len - 1) *ℤ step)) ≡ true → i < len → bits ≡ low_bits U64 (sequence_row first step i)
+      → from_bits p (bits % 2 ^ bits_of p) ≡ sequence_row first step i
+  bits-row p len i bits h below is =
+      let ends = ends_held (len == 0) (lies_in p first) (lies_in p (first +ℤ pos (len - 1) *ℤ step)) (ne_eqb len 0 (λ e. omega arith)) h in
+      let held = row-held p first step i (len - 1) (omega arith) ends.0 ends.1 in
+      ap (from_bits p) (ap (λ n. n % 2 ^ bits_of p) is ∙ low_bits-word p (sequence_row first step i)) ∙ wrap-same p (sequence_row first step i) held
