@@ -1,4 +1,4 @@
-"""Times the kernels of bit packing: the proved ones, beside the plain and the unrolled ones of kernels.rs.
+"""Times the kernels of bit packing and of series: the proved ones, beside the plain and the unrolled ones of kernels.rs.
 
 README.md tells what is measured and what the limits are.
 """
@@ -15,6 +15,8 @@ MILLION = 1_000_000
 BITS = {'u8': 8, 'u32': 32, 'u64': 64}
 WIDTHS = (1, 4, 7, 12, 20, 31, 63)      # each in the types that have more bits
 KERNELS = ('histogram', 'pack', 'unpack', 'canonical')
+SERIES = ('runs', 'block_runs', 'sequence', 'delta', 'undelta')     # on values of one width alone
+SERIES_WIDTH = 7
 
 JUDGED = MILLION        # the size at which other loops' times are limits
 PLAIN = 1.02            # how many times the plain loop's time a kernel may take
@@ -135,7 +137,13 @@ def measure(proved, peer):
 # telling
 
 def kernels_of(cases):
-    return [Kernel(name, *case) for name in KERNELS for case in cases]
+    found = [Kernel(name, *case) for name in KERNELS for case in cases]
+    return found + [Kernel(name, *case) for name in SERIES for case in cases if is_told(name, *case)]
+
+
+def is_told(name, type_, width):
+    """Whether the programs tell a kernel of series; integers of 8 bits are no long sequence."""
+    return width == SERIES_WIDTH and not (name == 'sequence' and type_ == 'u8')
 
 
 def growth(table, kernel, place):

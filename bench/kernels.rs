@@ -1,4 +1,5 @@
-//! The kernels of bit packing in plain Rust and in hand-unrolled Rust, timed on the rows that `vx_bench kernels` makes.
+//! The kernels of bit packing and of series in plain Rust and in hand-unrolled Rust, timed on the rows that `vx_bench
+//! kernels` makes.
 //!
 //!     kernels plain|unrolled u8|u32|u64 WIDTH ROWS REPEATS
 //!
@@ -21,6 +22,10 @@ const INCREMENT: u64 = 1442695040888963407;
 
 /// What a digest is multiplied by before the next item is added.
 const DIGEST_FACTOR: u64 = 31;
+
+/// The kernels of series are timed at this width alone, on runs of so many rows, or on a ramp.
+const SERIES_WIDTH: u32 = 7;
+const RUN_ROWS: u32 = 100;
 
 // ---------------------------------------------------------------------------------------------
 // types
@@ -81,6 +86,32 @@ trait Kernels {
 
     /// The first rows of what is packed.
     fn unpack<T: Integer>(packed: &[u8], width: u32, rows: usize) -> Vec<T>;
+
+    /// The row after each run's last; a null equals a null.
+    fn runs<T: Integer>(values: &[T], valid: &[bool]) -> Vec<u64>;
+
+    /// The first row of each run, where a run ends with its block too; the number of each row's run in its block, 0 behind
+    /// the last row; and how many runs lie before each block.
+    fn block_runs<T: Integer>(values: &[T], valid: &[bool]) -> BlockRuns;
+
+    /// First and step, where each row is a step more than the one before.
+    fn sequence<T: Integer>(values: &[T]) -> Option<(i128, i128)>;
+
+    /// The first row of each block, and the difference of each row from the row before, 0 in a block's first row and behind
+    /// the last row. A null has the value before it.
+    fn delta<T: Integer>(values: &[T], valid: &[bool]) -> (Vec<T>, Vec<T>);
+
+    /// The rows of bases and differences.
+    fn undelta<T: Integer>(bases: &[T], deltas: &[T]) -> Vec<T>;
+}
+
+/// Heads, numbers and offsets.
+type BlockRuns = (Vec<u64>, Vec<u64>, Vec<u64>);
+
+/// Whether two rows aren't equal.
+#[inline(always)]
+fn is_other<T: Integer>(values: &[T], valid: &[bool], row: usize) -> bool {
+    valid[row] != valid[row - 1] || valid[row] && values[row].to_bits() != values[row - 1].to_bits()
 }
 
 // ---------------------------------------------------------------------------------------------
@@ -136,6 +167,101 @@ impl Kernels for Plain {
             T::from_low_bits(bits & mask)
         };
         (0..rows).map(row_at).collect()
+    }
+
+    #[inline(never)]
+    fn runs<T: Integer>(values: &[T], valid: &[bool]) -> Vec<u64> {
+        let mut ends = Vec::new();
+        for row in 1..values.len() {
+            if is_other(values, valid, row) {
+                ends.push(row as u64);
+            }
+        }
+        if !values.is_empty() {
+            ends.push(values.len() as u64);
+        }
+        ends
+    }
+
+    #[inline(never)]
+    fn block_runs<T: Integer>(values: &[T], valid: &[bool]) -> BlockRuns {
+        let blocks = values.len().div_ceil(BLOCK_ROWS);
+        let (mut heads, mut numbers) = (Vec::new(), vec![0; blocks * BLOCK_ROWS]);
+        let mut offsets = Vec::with_capacity(blocks);
+        let mut number = 0;
+        for row in 0..values.len() {
+            if row % BLOCK_ROWS == 0 {
+                offsets.push(heads.len() as u64);
+                heads.push(row as u64);
+                number = 0;
+            } else if is_other(values, valid, row) {
+                heads.push(row as u64);
+                number += 1;
+            }
+            numbers[row] = number;
+        }
+        (heads, numbers, offsets)
+    }
+
+    #[inline(never)]
+    fn sequence<T: Integer>(values: &[T]) -> Option<(i128, i128)> {
+        let (first, second) = (values.first()?.to_bits() as i128, values.get(1)?.to_bits() as i128);
+        let step = second - first;
+        if step < 0 {
+            return None;
+        }
+        let mut next = first;
+        for value in values {
+            if value.to_bits() as i128 != next {
+                return None;
+            }
+            next += step;
+        }
+        Some((first, step))
+    }
+
+    #[inline(never)]
+    fn delta<T: Integer>(values: &[T], valid: &[bool]) -> (Vec<T>, Vec<T>) {
+        let blocks = values.len().div_ceil(BLOCK_ROWS);
+        let (mut bases, mut deltas) = (Vec::with_capacity(blocks), Vec::with_capacity(blocks * BLOCK_ROWS));
+        let mut before = 0;
+        for (row, bits) in Plain::filled(values, valid).enumerate() {
+            if row % BLOCK_ROWS == 0 {
+                bases.push(T::from_low_bits(bits));
+                before = bits;
+            }
+            deltas.push(T::from_low_bits(bits.wrapping_sub(before)));
+            before = bits;
+        }
+        deltas.resize(blocks * BLOCK_ROWS, T::from_low_bits(0));
+        (bases, deltas)
+    }
+
+    #[inline(never)]
+    fn undelta<T: Integer>(bases: &[T], deltas: &[T]) -> Vec<T> {
+        let mut rows = Vec::with_capacity(deltas.len());
+        for (base, deltas) in bases.iter().zip(deltas.chunks_exact(BLOCK_ROWS)) {
+            let mut sum = base.to_bits();
+            for delta in deltas {
+                sum = sum.wrapping_add(delta.to_bits());
+                rows.push(T::from_low_bits(sum));
+            }
+        }
+        rows
+    }
+}
+
+/// Those of series, row by row.
+impl Plain {
+    /// The rows, with the value before it in place of each null.
+    fn filled<T: Integer>(values: &[T], valid: &[bool]) -> impl Iterator<Item = u64> {
+        let mut last = 0;
+        values.iter().zip(valid).map(move |(value, valid)| {
+            if *valid {
+                last = value.to_bits();
+            }
+            last
+        })
     }
 }
 
@@ -217,6 +343,125 @@ impl Kernels for Unrolled {
     fn unpack<T: Integer>(packed: &[u8], width: u32, rows: usize) -> Vec<T> {
         by_width!(width, unpack_groups::<T>(packed, rows))
     }
+
+    /// Eight rows at once are looked at for an end; few have one.
+    #[inline(never)]
+    fn runs<T: Integer>(values: &[T], valid: &[bool]) -> Vec<u64> {
+        let mut ends = Vec::new();
+        let mut row = 1;
+        while row + 8 <= values.len() {
+            if has_end(values, valid, row) {
+                ends.extend((row..row + 8).filter(|row| is_other(values, valid, *row)).map(|row| row as u64));
+            }
+            row += 8;
+        }
+        ends.extend((row..values.len()).filter(|row| is_other(values, valid, *row)).map(|row| row as u64));
+        if !values.is_empty() {
+            ends.push(values.len() as u64);
+        }
+        ends
+    }
+
+    #[inline(never)]
+    fn block_runs<T: Integer>(values: &[T], valid: &[bool]) -> BlockRuns {
+        let blocks = values.len().div_ceil(BLOCK_ROWS);
+        let (mut heads, mut numbers) = (Vec::new(), vec![0; blocks * BLOCK_ROWS]);
+        let mut offsets = Vec::with_capacity(blocks);
+        for (block, numbers) in numbers.chunks_exact_mut(BLOCK_ROWS).enumerate() {
+            let (start, end) = (block * BLOCK_ROWS, values.len().min((block + 1) * BLOCK_ROWS));
+            offsets.push(heads.len() as u64);
+            heads.push(start as u64);
+            let (mut number, mut row) = (0, start + 1);
+            while row < end {
+                if row + 8 <= end && !has_end(values, valid, row) {
+                    numbers[row - start..row - start + 8].fill(number);
+                    row += 8;
+                } else {
+                    if is_other(values, valid, row) {
+                        heads.push(row as u64);
+                        number += 1;
+                    }
+                    numbers[row - start] = number;
+                    row += 1;
+                }
+            }
+        }
+        (heads, numbers, offsets)
+    }
+
+    /// Eight differences at once.
+    #[inline(never)]
+    fn sequence<T: Integer>(values: &[T]) -> Option<(i128, i128)> {
+        let (first, second) = (values.first()?.to_bits(), values.get(1)?.to_bits());
+        let step = second.checked_sub(first)?;
+        (first as u128 + step as u128 * (values.len() as u128 - 1) <= (u64::MAX >> (64 - T::BITS)) as u128).then_some(())?;
+        let mut next = first;
+        let (eights, last) = values.as_chunks::<8>();
+        for eight in eights {
+            let mut differ = 0;
+            for (place, value) in eight.iter().enumerate() {
+                differ |= value.to_bits() ^ next.wrapping_add(step.wrapping_mul(place as u64));
+            }
+            (differ == 0).then_some(())?;
+            next = next.wrapping_add(step.wrapping_mul(8));
+        }
+        for value in last {
+            (value.to_bits() == next).then_some(())?;
+            next = next.wrapping_add(step);
+        }
+        Some((first as i128, step as i128))
+    }
+
+    /// Differences of whole blocks without nulls are taken without a step from row to row.
+    #[inline(never)]
+    fn delta<T: Integer>(values: &[T], valid: &[bool]) -> (Vec<T>, Vec<T>) {
+        if !valid.iter().fold(true, |all, valid| all & valid) {
+            return Plain::delta(values, valid);
+        }
+        let blocks = values.len().div_ceil(BLOCK_ROWS);
+        let mut deltas = vec![T::from_low_bits(0); blocks * BLOCK_ROWS];
+        let mut bases = Vec::with_capacity(blocks);
+        for (values, deltas) in values.chunks(BLOCK_ROWS).zip(deltas.chunks_exact_mut(BLOCK_ROWS)) {
+            bases.push(values[0]);
+            for (delta, pair) in deltas[1..].iter_mut().zip(values.windows(2)) {
+                *delta = T::from_low_bits(pair[1].to_bits().wrapping_sub(pair[0].to_bits()));
+            }
+        }
+        (bases, deltas)
+    }
+
+    /// Four sums at once, of which the first three wait for none.
+    #[inline(never)]
+    fn undelta<T: Integer>(bases: &[T], deltas: &[T]) -> Vec<T> {
+        let mut rows = vec![T::from_low_bits(0); deltas.len()];
+        let blocks = deltas.chunks_exact(BLOCK_ROWS).zip(rows.chunks_exact_mut(BLOCK_ROWS));
+        for (base, (deltas, rows)) in bases.iter().zip(blocks) {
+            let mut sum = base.to_bits();
+            for (deltas, rows) in deltas.as_chunks::<4>().0.iter().zip(rows.as_chunks_mut::<4>().0) {
+                let [a, b, c, d] = deltas.map(T::to_bits);
+                let (ab, cd) = (a.wrapping_add(b), c.wrapping_add(d));
+                rows[0] = T::from_low_bits(sum.wrapping_add(a));
+                rows[1] = T::from_low_bits(sum.wrapping_add(ab));
+                rows[2] = T::from_low_bits(sum.wrapping_add(ab.wrapping_add(c)));
+                sum = sum.wrapping_add(ab.wrapping_add(cd));
+                rows[3] = T::from_low_bits(sum);
+            }
+        }
+        rows
+    }
+}
+
+/// Whether a run ends before one of eight rows.
+#[inline(always)]
+fn has_end<T: Integer>(values: &[T], valid: &[bool], row: usize) -> bool {
+    let (now, before) = (&values[row..row + 8], &values[row - 1..row + 7]);
+    let (now_valid, before_valid) = (&valid[row..row + 8], &valid[row - 1..row + 7]);
+    let mut other = false;
+    for place in 0..8 {
+        let same_bits = now[place].to_bits() == before[place].to_bits();
+        other |= now_valid[place] != before_valid[place] || now_valid[place] && !same_bits;
+    }
+    other
 }
 
 fn pack_groups<T: Integer, const W: usize>(values: &[T], valid: &[bool]) -> Vec<u8> {
@@ -301,6 +546,25 @@ fn values<T: Integer>(rows: usize, width: u32) -> Vec<T> {
     iter::repeat_with(next).take(rows).collect()
 }
 
+/// The same, each of so many rows.
+fn repeated<T: Integer>(rows: usize, width: u32) -> Vec<T> {
+    let (mut state, mut left) = (SEED, 0);
+    let next = || {
+        if left == 0 {
+            state = state.wrapping_mul(MULTIPLIER).wrapping_add(INCREMENT);
+            left = RUN_ROWS;
+        }
+        left -= 1;
+        T::from_low_bits(state >> (64 - width))
+    };
+    iter::repeat_with(next).take(rows).collect()
+}
+
+/// The numbers from 0 on.
+fn ramp<T: Integer>(rows: usize) -> Vec<T> {
+    (0..rows as u64).map(T::from_low_bits).collect()
+}
+
 /// The processor time that this thread has used, as the C library tells it: std has no such clock.
 fn processor_time() -> Duration {
     #[repr(C)]
@@ -336,8 +600,13 @@ impl Setting {
         Some(Setting { width: width.parse().ok()?, rows: rows.parse().ok()?, repeats: repeats.parse().ok()? })
     }
 
-    /// Runs a kernel once, and then by the clock; writes its line, and gives the answer.
+    /// The same of a kernel that answers one list.
     fn time<T: Integer, A: Integer>(&self, name: &str, kernel: impl Fn() -> Vec<A>) -> Vec<A> {
+        self.time_by::<T, _>(name, kernel, |answer| digest(answer))
+    }
+
+    /// Runs a kernel once, and then by the clock; writes its line, and gives the answer.
+    fn time_by<T: Integer, A>(&self, name: &str, kernel: impl Fn() -> A, digest: impl Fn(&A) -> u64) -> A {
         let mut best = u128::MAX;
         let mut answer = kernel();
         for _ in 0..self.repeats {
@@ -350,6 +619,23 @@ impl Setting {
         answer
     }
 
+    /// The kernels of series: on runs, and on a ramp where it is long.
+    fn time_series<K: Kernels, T: Integer>(&self) {
+        let values = repeated::<T>(self.rows, self.width);
+        let valid = vec![true; self.rows];
+        self.time::<T, u64>("runs", || K::runs(&values, &valid));
+        self.time_by::<T, BlockRuns>("block_runs", || K::block_runs(&values, &valid), |(heads, numbers, offsets)| {
+            digest(heads).wrapping_add(digest(numbers)).wrapping_add(digest(offsets))
+        });
+        if T::BITS > 8 {
+            let ramp = ramp::<T>(self.rows);
+            self.time_by::<T, _>("sequence", || K::sequence(&ramp), |found| found.is_some() as u64);
+        }
+        let both = |(bases, deltas): &(Vec<T>, Vec<T>)| digest(bases).wrapping_add(digest(deltas));
+        let (bases, deltas) = self.time_by::<T, _>("delta", || K::delta(&values, &valid), both);
+        self.time::<T, T>("undelta", || K::undelta(&bases, &deltas));
+    }
+
     fn time_all<K: Kernels, T: Integer>(&self) {
         let values = values::<T>(self.rows, self.width);
         let valid = vec![true; self.rows];
@@ -357,6 +643,9 @@ impl Setting {
         let packed = self.time::<T, _>("pack", || K::pack(&values, &valid, self.width));
         self.time::<T, u64>("unpack", || K::unpack(&packed, self.width, self.rows));
         self.time::<T, T>("canonical", || K::unpack(&packed, self.width, self.rows));
+        if self.width == SERIES_WIDTH {
+            self.time_series::<K, T>();
+        }
     }
 
     /// The same of a type's name; whether there is such a type that has the width.

@@ -7,9 +7,7 @@ use Rattle.std.proofs.lemmas.List.Folds.{list_any-append}
 use Rattle.vx_base.specs.declared.value.Value.{Value}
 use Rattle.vx_base.specs.PlainValue.{PlainValue, bytes_or_empty, items_or_empty}
 use Rattle.vx_base.specs.TypeOf.{value_of}
-use Rattle.vx_model.specs.Nested.{list_rows, elements}
-use Rattle.vx_model.specs.Offsets.{offsets_of}
-use Rattle.vx_array.proofs.ValueLemmas.{ends_from}
+use Rattle.vx_model.specs.Nested.{elements}
 
 -- ---- of lists that are lent
 
@@ -41,14 +39,7 @@ module _ (rows new : List (List ℕ)) (left rest : List Value) (v : Value) (all 
       ∙ ap (λ rs. rows ++ rs) (sym (map-append bytes_or_empty (items_or_empty (value_of v)) (elements (map value_of rest))))
       ∙ ap (λ vs. rows ++ map bytes_or_empty (elements (map value_of vs))) (sym next) ∙ h
 
-  long : length rows + length (items_or_empty (value_of v)) ≡ length new
-  long =
+  pub rows-longer : length rows + length (items_or_empty (value_of v)) ≡ length new
+  rows-longer =
       let a = length-map (items_or_empty (value_of v)) bytes_or_empty in
       omega (arith, ap length more, length-append rows (map bytes_or_empty (items_or_empty (value_of v))))
-
-  pub row_ends-more : (offsets : List ℕ) → offsets ++ ends_from (length rows) (list_rows (map value_of left)) ≡ offsets_of (list_rows all)
-      → (offsets ++ length new ∷ []) ++ ends_from (length new) (list_rows (map value_of rest)) ≡ offsets_of (list_rows all)
-  row_ends-more offsets h =
-      append_assoc offsets (length new ∷ []) (ends_from (length new) (list_rows (map value_of rest)))
-      ∙ ap (λ n. offsets ++ n ∷ ends_from n (list_rows (map value_of rest))) (sym long)
-      ∙ ap (λ vs. offsets ++ ends_from (length rows) (list_rows (map value_of vs))) (sym next) ∙ h

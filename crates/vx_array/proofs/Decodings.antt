@@ -50,10 +50,10 @@ default_in-kind_of (types.timestamp k n) f = refl
 default_in-kind_of t f = absurd cc
 
 -- the default of values that are of a flat type's kind
-default_of_kind : (t : PlainType) (values : Values) → is_flat t ≡ true → kind_in values ≡ kind_of t → default_in (kind_in values) ≡ default_of t
+pub default_of_kind : (t : PlainType) (values : Values) → is_flat t ≡ true → kind_in values ≡ kind_of t → default_in (kind_in values) ≡ default_of t
 default_of_kind t values f e = ap default_in e ∙ default_in-kind_of t f
 
-kind_of-dict : (codes values : PlainType) → kind_of (dict_type codes values) ≡ kind_of values
+pub kind_of-dict : (codes values : PlainType) → kind_of (dict_type codes values) ≡ kind_of values
 kind_of-dict codes (types.boolean n) = refl
 kind_of-dict codes (types.primitive p n) = refl
 kind_of-dict codes (types.utf8 n) = refl
@@ -126,7 +126,7 @@ pub bits_of_integers : (t : Tree) (xs : Ints) (valid : Validity) → AreIntegers
 bits_of_integers t xs valid h = (λ i. validity_length (h.bits i) (length (h.wholes i))) ∙ length-validity whole_or_zero (rows t)
 
 -- and such integers are what the tree is decoded to
-integer_rows : (t : Tree) (p : PType) (n : Nullability) (xs : List ℤ) (valid : Validity) (d : Decoded) → WellFormed t → tree_type t ≡ types.primitive p n → xs ≡ map whole_or_zero (rows t) → valid ≡ validity (rows t) → AreRows (ints p) (map int xs) valid d → IsDecoded t d
+pub integer_rows : (t : Tree) (p : PType) (n : Nullability) (xs : List ℤ) (valid : Validity) (d : Decoded) → WellFormed t → tree_type t ≡ types.primitive p n → xs ≡ map whole_or_zero (rows t) → valid ≡ validity (rows t) → AreRows (ints p) (map int xs) valid d → IsDecoded t d
 integer_rows t p n xs valid d w typed wholes bits r =
     (r.0 ∙ sym (ap kind_of typed), r.1 ∙ ap (map int) wholes ∙ values-wholes (tree_type t) (ap is_integer typed) (rows t) (rows_fit t w), r.2 ∙ bits)
 
@@ -149,7 +149,7 @@ zig_zag_rows encoded xs valid d w h =
 
 -- ---- texts and binaries by their offsets
 
-no_nulls : (default : PlainValue) (vs : List PlainValue) → list_any is_null vs ≡ false → map (or_default default) vs ≡ vs
+pub no_nulls : (default : PlainValue) (vs : List PlainValue) → list_any is_null vs ≡ false → map (or_default default) vs ≡ vs
 no_nulls default [] e = refl
 no_nulls default (v ∷ vs) e = let s = or_parts (is_null v) (list_any is_null vs) e in λ i. cond (s.0 i) default v ∷ no_nulls default vs s.1 i
 

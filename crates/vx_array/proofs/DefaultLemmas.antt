@@ -52,8 +52,8 @@ true_by false h = absurd (h refl)
 
 pub flat_other : (n : Node) → WellFormed (tree_of n) → ((s : _) (len : _) → n ≡ nodes.Constant s len → ⊥) → ((len : _) → n ≡ nodes.Null len → ⊥)
     → ((names : _) (fields : _) (len : _) (valid : _) (m : _) → n ≡ nodes.Struct names fields len valid m → ⊥) → ((elements : _) (offsets : _) (valid : _) (m : _) → n ≡ nodes.List elements offsets valid m → ⊥)
-    → ((elements : _) (size : _) (len : _) (valid : _) (m : _) → n ≡ nodes.FixedSizeList elements size len valid m → ⊥) → is_flat (tree_type (tree_of n)) ≡ true
-flat_other n w a b c d e = true_by (is_flat (tree_type (tree_of n))) (λ f. no_other n w f a b c d e)
+    → ((elements : _) (size : _) (len : _) (valid : _) (m : _) → n ≡ nodes.FixedSizeList elements size len valid m → ⊥) → ((patches : _) (fill : _) → n ≡ nodes.Sparse patches fill → ⊥) → is_flat (tree_type (tree_of n)) ≡ true
+flat_other n w a b c d e g = true_by (is_flat (tree_type (tree_of n))) (λ f. no_other n w f a b c d e g)
 
 -- ---- whether a row is null
 

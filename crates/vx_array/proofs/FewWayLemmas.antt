@@ -14,11 +14,13 @@ use Rattle.vx_base.specs.declared.dtype.DType.{DType}
 use Rattle.vx_model.specs.Column.{Column, column}
 use Rattle.vx_model.specs.Extents.{counts, field_counts, row_limit}
 use Rattle.vx_model.specs.Nested.{first_within, rest_within, struct_rows}
+use Rattle.vx_array.specs.declared.counting.Way.{Way}
 use Rattle.vx_array.specs.declared.counting.Way.TheVariants.{Here}
-use Rattle.vx_array.specs.declared.counting.Way.TheViews.{rolls-Here}
+use denote.Bor.{Bor}
+use Rattle.vx_array.specs.declared.counting.Way.TheViews.{rolls-Here, Field, rolls-Field, Items, rolls-Items}
 use Rattle.vx_array.specs.declared.counting.Way.TheOpen.{Way-F}
 use Rattle.vx_array.specs.declared.counting.Way.TheFolds.{fold-roll-Way}
-use Rattle.vx_array.specs.Ways.{PlainWay, way_of, way_step, here, field_in, field_column, count_at, turned, column_at, inner_counts, are_few, type_in}
+use Rattle.vx_array.specs.Ways.{PlainWay, way_of, way_step, here, field, inside, field_in, field_column, count_at, turned, column_at, inner_counts, are_few, type_in}
 use Rattle.vx_array.proofs.WayLemmas.{reached-turned}
 use Rattle.vx_array.proofs.ValueWayLemmas.{type_in-get}
 
@@ -125,8 +127,14 @@ few_least times k = by_size (nat_le k (2 ^ 64 - 1)) refl times
 count_at-turned : (w : PlainWay) (t : PlainType) (vs : List PlainValue) → count_at (turned w here) t vs ≡ length (column_at w (column t vs)).values
 count_at-turned w t vs = ap (λ c. length c.values) (reached-turned w here (column t vs))
 
-way_of-Here : way_of Here ≡ here
+pub way_of-Here : way_of Here ≡ here
 way_of-Here = ap way_of (sym rolls-Here) ∙ fold-roll-Way PlainWay way_step Way-F.Here
+
+pub way_of-Field : (i : ℕ) (w : Bor Way) → way_of (Field i w) ≡ field i (way_of w.now)
+way_of-Field i w = ap way_of (sym (rolls-Field i w)) ∙ fold-roll-Way PlainWay way_step (Way-F.Field i w)
+
+pub way_of-Items : (w : Bor Way) → way_of (Items w) ≡ inside (way_of w.now)
+way_of-Items w = ap way_of (sym (rolls-Items w)) ∙ fold-roll-Way PlainWay way_step (Way-F.Items w)
 
 pub count_at-Here : (w : PlainWay) (t : PlainType) (vs : List PlainValue) → count_at (turned w (way_of Here)) t vs ≡ length (column_at w (column t vs)).values
 count_at-Here w t vs = ap (λ v. count_at (turned w v) t vs) way_of-Here ∙ count_at-turned w t vs

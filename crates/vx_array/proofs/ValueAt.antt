@@ -23,7 +23,7 @@ use Rattle.vx_model.specs.WellFormed.{WellFormed, all_have_rows}
 use Rattle.vx_array.specs.declared.array.Node.{Node}
 use Rattle.vx_array.specs.declared.array.Node.TheVariants as nodes
 use Rattle.vx_array.specs.TreeOf.{tree_of}
-use Rattle.vx_array.proofs.Flat.{dict_flat}
+use Rattle.vx_array.proofs.Flat.{dict_flat, integer_flat}
 use Rattle.std.specs.Str.{is_utf8}
 use Rattle.std.specs.Prelude.{◌==◌}
 
@@ -88,23 +88,28 @@ bytes_flat t h = absurd cc
 
 pub no_other : (n : Node) → WellFormed (tree_of n) → is_flat (tree_type (tree_of n)) ≡ false → ((s : _) (len : _) → n ≡ nodes.Constant s len → ⊥) → ((len : _) → n ≡ nodes.Null len → ⊥)
     → ((names : _) (fields : _) (len : _) (valid : _) (m : _) → n ≡ nodes.Struct names fields len valid m → ⊥) → ((elements : _) (offsets : _) (valid : _) (m : _) → n ≡ nodes.List elements offsets valid m → ⊥)
-    → ((elements : _) (size : _) (len : _) (valid : _) (m : _) → n ≡ nodes.FixedSizeList elements size len valid m → ⊥) → ⊥
-no_other (nodes.Bool bs valid m) w f a b c d e = absurd cc
-no_other (nodes.Primitive xs valid m) w f a b c d e = absurd cc
-no_other (nodes.VarBinView vs valid t) w f a b c d e = let flat = bytes_flat (type_of t) w.0.byte_type in absurd cc
-no_other (nodes.VarBin offsets bs valid t) w f a b c d e = let flat = bytes_flat (type_of t) w.1.values.byte_type in absurd cc
-no_other (nodes.Timestamp storage k) w f a b c d e = absurd cc
-no_other (nodes.Constant s len) w f a b c d e = a s len refl
-no_other (nodes.Masked child valid) w f a b c d e = let flat = w.1.flat in absurd cc
-no_other (nodes.BitPacked p width bs len valid None m) w f a b c d e = absurd cc
-no_other (nodes.BitPacked p width bs len valid (Some patches) m) w f a b c d e = absurd cc
-no_other (nodes.FoR encoded reference) w f a b c d e = absurd cc
-no_other (nodes.ZigZag encoded) w f a b c d e = absurd cc
-no_other (nodes.Dict codes values) w f a b c d e = let flat = dict_flat (tree_type codes.value) (tree_type values.value) w.2.values_type in absurd cc
-no_other (nodes.Null len) w f a b c d e = b len refl
-no_other (nodes.Struct names fields len valid m) w f a b c d e = c names fields len valid m refl
-no_other (nodes.List elements offsets valid m) w f a b c d e = d elements offsets valid m refl
-no_other (nodes.FixedSizeList elements size len valid m) w f a b c d e = e elements size len valid m refl
+    → ((elements : _) (size : _) (len : _) (valid : _) (m : _) → n ≡ nodes.FixedSizeList elements size len valid m → ⊥) → ((patches : _) (fill : _) → n ≡ nodes.Sparse patches fill → ⊥) → ⊥
+no_other (nodes.Bool bs valid m) w f a b c d e g = absurd cc
+no_other (nodes.Primitive xs valid m) w f a b c d e g = absurd cc
+no_other (nodes.VarBinView vs valid t) w f a b c d e g = let flat = bytes_flat (type_of t) w.0.byte_type in absurd cc
+no_other (nodes.VarBin offsets bs valid t) w f a b c d e g = let flat = bytes_flat (type_of t) w.1.values.byte_type in absurd cc
+no_other (nodes.Timestamp storage k) w f a b c d e g = absurd cc
+no_other (nodes.Constant s len) w f a b c d e g = a s len refl
+no_other (nodes.Masked child valid) w f a b c d e g = let flat = w.1.flat in absurd cc
+no_other (nodes.BitPacked p width bs len valid None m) w f a b c d e g = absurd cc
+no_other (nodes.BitPacked p width bs len valid (Some patches) m) w f a b c d e g = absurd cc
+no_other (nodes.FoR encoded reference) w f a b c d e g = absurd cc
+no_other (nodes.ZigZag encoded) w f a b c d e g = absurd cc
+no_other (nodes.Dict codes values) w f a b c d e g = let flat = dict_flat (tree_type codes.value) (tree_type values.value) w.2.values_type in absurd cc
+no_other (nodes.Null len) w f a b c d e g = b len refl
+no_other (nodes.Struct names fields len valid m) w f a b c d e g = c names fields len valid m refl
+no_other (nodes.List elements offsets valid m) w f a b c d e g = d elements offsets valid m refl
+no_other (nodes.FixedSizeList elements size len valid m) w f a b c d e g = e elements size len valid m refl
+no_other (nodes.Sparse patches fill) w f a b c d e g = g patches fill refl
+no_other (nodes.RunEnd ends values) w f a b c d e g = let flat = integer_flat (tree_type values.value) w.2.values_type in absurd cc
+no_other (nodes.Rle values indices offsets len) w f a b c d e g = let flat = integer_flat (tree_type values.value) w.3.values_type in absurd cc
+no_other (nodes.Sequence p m first step len) w f a b c d e g = absurd cc
+no_other (nodes.Delta bases deltas len valid m) w f a b c d e g = absurd cc
 
 -- ---- a scalar of a value that fits
 

@@ -88,18 +88,20 @@ module _ (items new : List Value) (left rest : List Value) (v : Value) (all : Li
       ap (λ vs. vs ++ elements (map value_of rest)) more ∙ append_assoc (map value_of items) (items_or_empty (value_of v)) (elements (map value_of rest))
       ∙ ap (λ vs. map value_of items ++ elements (map value_of vs)) (sym next) ∙ h
 
-  long : length items + length (items_or_empty (value_of v)) ≡ length new
-  long =
+  pub items-longer : length items + length (items_or_empty (value_of v)) ≡ length new
+  items-longer =
       let a = length-map new value_of in
       let b = length-map items value_of in
       omega (arith, ap length more, length-append (map value_of items) (items_or_empty (value_of v)))
 
-  pub ends-more : (offsets : List ℕ) → offsets ++ ends_from (length items) (list_rows (map value_of left)) ≡ offsets_of (list_rows all)
-      → (offsets ++ length new ∷ []) ++ ends_from (length new) (list_rows (map value_of rest)) ≡ offsets_of (list_rows all)
-  ends-more offsets h =
-      append_assoc offsets (length new ∷ []) (ends_from (length new) (list_rows (map value_of rest)))
-      ∙ ap (λ n. offsets ++ n ∷ ends_from n (list_rows (map value_of rest))) (sym long)
-      ∙ ap (λ vs. offsets ++ ends_from (length items) (list_rows (map value_of vs))) (sym next) ∙ h
+-- the end of one list more, where its items end
+pub ends-more : (here now : ℕ) (left rest : List Value) (v : Value) (all : List PlainValue) (offsets : List ℕ) → left ≡ v ∷ rest → here + length (items_or_empty (value_of v)) ≡ now
+    → offsets ++ ends_from here (list_rows (map value_of left)) ≡ offsets_of (list_rows all)
+    → (offsets ++ now ∷ []) ++ ends_from now (list_rows (map value_of rest)) ≡ offsets_of (list_rows all)
+ends-more here now left rest v all offsets next longer h =
+    append_assoc offsets (now ∷ []) (ends_from now (list_rows (map value_of rest)))
+    ∙ ap (λ n. offsets ++ n ∷ ends_from n (list_rows (map value_of rest))) (sym longer)
+    ∙ ap (λ vs. offsets ++ ends_from here (list_rows (map value_of vs))) (sym next) ∙ h
 
 -- in place of a null stands the default
 pub default-null : (default v : PlainValue) → is_null v ≡ true → or_default default v ≡ default

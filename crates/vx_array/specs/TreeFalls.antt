@@ -2,7 +2,7 @@
 use Rattle.std.specs.Prelude.{◌≤◌, ◌+◌, max, List, [], ◌∷◌, None, Some}
 use Rattle.std.proofs.Common.{arith}
 use Rattle.vx_array.specs.declared.array.Node.{Node}
-use Rattle.vx_array.specs.declared.array.Node.TheVariants.{Bool, Primitive, VarBinView, VarBin, Timestamp, Constant, Masked, BitPacked, FoR, ZigZag, Dict, Null, Struct, FixedSizeList}
+use Rattle.vx_array.specs.declared.array.Node.TheVariants.{Bool, Primitive, VarBinView, VarBin, Timestamp, Constant, Masked, BitPacked, FoR, ZigZag, Dict, Null, Struct, FixedSizeList, Sparse, RunEnd, Rle, Sequence, Delta}
 use Rattle.vx_array.specs.declared.array.Node.TheVariants as nodes
 use Rattle.vx_array.specs.declared.array.ArrayRef.TheDeep.{deep-Node}
 use denote.Param.Weighed.{most}
@@ -31,3 +31,8 @@ depth_le-node_count (Null len) = omega arith
 depth_le-node_count (Struct names fields len valid n) = omega arith
 depth_le-node_count (nodes.List elements offsets valid n) = omega arith
 depth_le-node_count (FixedSizeList elements size len valid n) = omega arith
+depth_le-node_count (Sparse patches fill) = omega arith
+depth_le-node_count (RunEnd ends values) = omega arith
+depth_le-node_count (Rle values indices offsets len) = omega arith
+depth_le-node_count (Sequence p n first step len) = omega arith
+depth_le-node_count (Delta bases deltas len valid n) = omega arith

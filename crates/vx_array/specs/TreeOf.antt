@@ -1,16 +1,21 @@
 -- The tree of a node.
 use Rattle.std.specs.Prelude.{Option, None, Some, Box}
 use Rattle.std.specs.declared.alloc.Global.{Global}
+use Rattle.vx_base.specs.PlainScalar.{PlainScalar}
 use Rattle.vx_base.specs.TypeOf.{type_of}
 use Rattle.vx_values.specs.IntsOf.{ptype_of, wholes_of}
 use Rattle.vx_array.specs.declared.array.Node.{Node}
-use Rattle.vx_array.specs.declared.array.Node.TheVariants.{Bool, Primitive, VarBinView, VarBin, Timestamp, Constant, Masked, BitPacked, FoR, ZigZag, Dict, Null, Struct, List, FixedSizeList}
-use Rattle.vx_model.specs.Tree.{Tree, PlainPatches, bool, primitive, var_bin_view, var_bin, timestamp, constant, masked, plain_packed, packed_of, frame_of_reference, zig_zag, dict, nulls, structure, list, fixed_size_list, of_list}
+use Rattle.vx_array.specs.declared.array.Node.TheVariants.{Bool, Primitive, VarBinView, VarBin, Timestamp, Constant, Masked, BitPacked, FoR, ZigZag, Dict, Null, Struct, List, FixedSizeList, Sparse, RunEnd, Rle, Sequence, Delta}
+use Rattle.vx_model.specs.Tree.{Tree, PlainPatches, bool, primitive, var_bin_view, var_bin, timestamp, constant, masked, plain_packed, packed_of, frame_of_reference, zig_zag, dict, nulls, structure, list, fixed_size_list, of_list, sparse, run_end, rle, sequence, delta}
 
 -- patches out of their box
 abbrev pub unboxed : Option (Box PlainPatches Global) → Option PlainPatches
 unboxed None = None
 unboxed (Some p) = Some p.value
+
+-- patches in their rows and a scalar in the others
+abbrev pub sparse_of : PlainPatches → PlainScalar → Tree
+sparse_of p fill = sparse p.array_len p.offset p.indices p.values fill
 
 -- the tree whose root a node is; its children are seen as their trees already
 abbrev pub tree_of : Node → Tree
@@ -29,3 +34,8 @@ tree_of (Null len) = nulls len
 tree_of (Struct names fields len valid n) = structure names (of_list fields) len valid n
 tree_of (List elements offsets valid n) = list elements.value offsets.value valid n
 tree_of (FixedSizeList elements size len valid n) = fixed_size_list elements.value size len valid n
+tree_of (Sparse patches fill) = sparse_of patches.value fill
+tree_of (RunEnd ends values) = run_end ends.value values.value
+tree_of (Rle values indices offsets len) = rle values.value indices.value offsets.value len
+tree_of (Sequence p n first step len) = sequence p n first step len
+tree_of (Delta bases deltas len valid n) = delta bases.value deltas.value len valid n

@@ -46,6 +46,20 @@ pub enum Node {
     List(Box<ArrayRef>, Box<ArrayRef>, Option<Mask>, Nullability),
     /// Child 0's rows, so many (the second) in each of so many lists (the third); their validity and nullability.
     FixedSizeList(Box<ArrayRef>, u32, u64, Option<Mask>, Nullability),
+    /// The patches' values in their rows and the scalar in every other one. The children are the patches' indices and
+    /// values.
+    Sparse(Box<Patches>, Scalar),
+    /// Runs of integers: child 1's values, each up to before the row where child 0 ends it.
+    RunEnd(Box<ArrayRef>, Box<ArrayRef>),
+    /// Child 0's values by their places, and the number of rows: the sum of child 1's number in the row and child 2's in
+    /// the row's block of 1,024.
+    Rle(Box<ArrayRef>, Box<ArrayRef>, Box<ArrayRef>, u64),
+    /// Integers of a type: type, nullability, the first one, the step from each to the next, and the number of rows. No
+    /// children.
+    Sequence(PType, Nullability, i128, i128, u64),
+    /// Integers by the differences between them, child 1's, which are summed from child 0's number for the row's block of
+    /// 1,024 on; the number of rows, their validity and nullability.
+    Delta(Box<ArrayRef>, Box<ArrayRef>, u64, Option<Mask>, Nullability),
 }
 
 /// Values, and the rows of an array where they stand in place of its own: the value whose index is x stands at row
@@ -62,7 +76,7 @@ pub struct Patches {
 #[cycle(tree)]
 pub struct ArrayRef {
     pub(crate) node: Node,
-    // The type, but where the root has it: a Constant's scalar, a VarBinView and a VarBin.
+    // The type, but where the root has it: a Constant's scalar, a VarBinView, a VarBin and a Sparse's fill.
     pub(crate) own_type: Option<DType>,
     pub(crate) len: u64,
 }
@@ -189,6 +203,7 @@ impl ArrayRef {
                 Node::Constant(value, _) => value.dtype(),
                 Node::VarBinView(_, _, dtype) => dtype,
                 Node::VarBin(_, _, _, dtype) => dtype,
+                Node::Sparse(_, fill) => fill.dtype(),
                 _ => unreachable!(),
             },
         }
@@ -214,6 +229,11 @@ impl ArrayRef {
             Node::Struct(_, _, _, _, _) => ArrayId::Struct,
             Node::List(_, _, _, _) => ArrayId::List,
             Node::FixedSizeList(_, _, _, _, _) => ArrayId::FixedSizeList,
+            Node::Sparse(_, _) => ArrayId::Sparse,
+            Node::RunEnd(_, _) => ArrayId::RunEnd,
+            Node::Rle(_, _, _, _) => ArrayId::Rle,
+            Node::Sequence(_, _, _, _, _) => ArrayId::Sequence,
+            Node::Delta(_, _, _, _, _) => ArrayId::Delta,
         }
     }
 
@@ -232,6 +252,9 @@ impl ArrayRef {
             Node::Struct(_, fields, _, _, _) => fields.len() as usize,
             Node::List(_, _, _, _) => 2,
             Node::FixedSizeList(_, _, _, _, _) => 1,
+            Node::Sparse(_, _) | Node::RunEnd(_, _) | Node::Delta(_, _, _, _, _) => 2,
+            Node::Rle(_, _, _, _) => 3,
+            Node::Sequence(_, _, _, _, _) => 0,
         }
     }
 
@@ -256,7 +279,31 @@ impl ArrayRef {
             Node::List(elements, _, _, _) if place == 0 => Some(elements),
             Node::List(_, offsets, _, _) if place == 1 => Some(offsets),
             Node::FixedSizeList(elements, _, _, _, _) if place == 0 => Some(elements),
+            Node::Sparse(patches, _) if place == 0 => Some(&patches.indices),
+            Node::Sparse(patches, _) if place == 1 => Some(&patches.values),
+            Node::RunEnd(ends, _) if place == 0 => Some(ends),
+            Node::RunEnd(_, values) if place == 1 => Some(values),
+            Node::Rle(values, _, _, _) if place == 0 => Some(values),
+            Node::Rle(_, indices, _, _) if place == 1 => Some(indices),
+            Node::Rle(_, _, offsets, _) if place == 2 => Some(offsets),
+            Node::Delta(bases, _, _, _, _) if place == 0 => Some(bases),
+            Node::Delta(_, deltas, _, _, _) if place == 1 => Some(deltas),
             _ => None,
         }
+    }
+}
+
+impl Patches {
+    /// The indices and the values. They are moved.
+    pub fn into_parts(self) -> (ArrayRef, ArrayRef)
+        ensures { result ≡ (self.indices, self.values) }
+    {
+        let Patches {
+            array_len: _,
+            offset: _,
+            indices,
+            values,
+        } = self;
+        (indices, values)
     }
 }

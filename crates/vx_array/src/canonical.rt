@@ -6,12 +6,14 @@ ghost use Rattle.vx_base.specs.PlainType.{is_flat};
 ghost use Rattle.vx_model.specs.Column.{column_of};
 ghost use Rattle.vx_model.specs.Plain.{plain};
 ghost use Rattle.vx_model.specs.TreeType.{tree_type};
+ghost use Rattle.vx_array.specs.HasRuns.{has_runs};
 ghost use Rattle.vx_array.specs.IsDecoded.{IsDecoded};
 
 use crate::array::{ArrayRef, Node};
 use crate::node::{
-    as_type, decoded_bool, decoded_by_codes, decoded_constant, decoded_masked, decoded_moved,
-    decoded_packed, decoded_primitive, decoded_var_bin, decoded_view, decoded_zig_zag,
+    as_type, block_places, decoded_bool, decoded_by_codes, decoded_constant, decoded_delta,
+    decoded_masked, decoded_moved, decoded_packed, decoded_primitive, decoded_sequence,
+    decoded_sparse, decoded_var_bin, decoded_view, decoded_zig_zag, run_places,
 };
 use std::alloc::Global;
 use vx_base::VortexResult;
@@ -48,6 +50,7 @@ impl ArrayRef {
     }
 
     // The rows of a leaf type or of timestamps. Each tree inside is decoded once.
+    #[cycle(decoded)]
     pub(crate) fn decoded(&self, alloc: Global) -> VortexResult<Decoded>
         requires { IsTrue (is_flat (tree_type self.now)) }
         ensures { OrMemory result (λ rows. IsDecoded self.now rows) }
@@ -78,8 +81,50 @@ impl ArrayRef {
                 let (codes, valid) = codes.decoded(alloc)?.into_integers();
                 decoded_by_codes(alloc, codes, valid, values.decoded(alloc)?)
             }
+            Node::Sparse(_, _) => self.decoded_runs(alloc),
+            Node::RunEnd(_, _) => self.decoded_runs(alloc),
+            Node::Rle(_, _, _, _) => self.decoded_runs(alloc),
+            Node::Delta(_, _, _, _, _) => self.decoded_runs(alloc),
+            Node::Sequence(_, _, _, _, _) => self.decoded_runs(alloc),
             Node::Null(_) | Node::Struct(_, _, _, _, _) => unreachable!(),
             Node::List(_, _, _, _) | Node::FixedSizeList(_, _, _, _, _) => unreachable!(),
+        }
+    }
+
+    // The same where the root is a fill and patches, runs, differences or a sequence.
+    #[cycle(decoded)]
+    fn decoded_runs(&self, alloc: Global) -> VortexResult<Decoded>
+        requires flat { IsTrue (is_flat (tree_type self.now)) }
+        requires runs { IsTrue (has_runs self.now) }
+        ensures { OrMemory result (λ rows. IsDecoded self.now rows) }
+    {
+        match &self.node {
+            Node::Sparse(patches, fill) => {
+                let (indices, _) = patches.indices.decoded(alloc)?.into_integers();
+                let values = patches.values.decoded(alloc)?;
+                decoded_sparse(alloc, patches, fill, &indices, values)
+            }
+            Node::RunEnd(ends, values) => {
+                let (ends, _) = ends.decoded(alloc)?.into_integers();
+                let runs = run_places(alloc, &ends)?;
+                decoded_by_codes(alloc, runs, None, values.decoded(alloc)?)
+            }
+            Node::Rle(values, indices, offsets, len) => {
+                let _places = values.len();
+                let (indices, _) = indices.decoded(alloc)?.into_integers();
+                let (offsets, _) = offsets.decoded(alloc)?.into_integers();
+                let places = block_places(alloc, &indices, &offsets, *len)?;
+                decoded_by_codes(alloc, places, None, values.decoded(alloc)?)
+            }
+            Node::Delta(bases, deltas, len, valid, _) => {
+                let (bases, _) = bases.decoded(alloc)?.into_integers();
+                let (deltas, _) = deltas.decoded(alloc)?.into_integers();
+                decoded_delta(alloc, &bases, &deltas, *len, valid)
+            }
+            Node::Sequence(ptype, _, first, step, len) => {
+                decoded_sequence(alloc, *ptype, *first, *step, *len)
+            }
+            _ => unreachable!(),
         }
     }
 }

@@ -6,9 +6,9 @@ ghost use Rattle.vx_base.specs.TypeOf.{type_of};
 
 use crate::array::{ArrayRef, Node, Patches};
 use crate::node::{
-    copied_bool, copied_constant, copied_dict, copied_fixed, copied_frame, copied_list,
-    copied_masked, copied_packed, copied_primitive, copied_struct, copied_timestamp,
-    copied_var_bin, copied_view, copied_zig_zag,
+    copied_bool, copied_constant, copied_delta, copied_dict, copied_fixed, copied_frame,
+    copied_list, copied_masked, copied_packed, copied_primitive, copied_rle, copied_runs,
+    copied_sparse, copied_struct, copied_timestamp, copied_var_bin, copied_view, copied_zig_zag,
 };
 use std::alloc::Global;
 use vx_base::{DType, VortexResult};
@@ -51,20 +51,28 @@ impl Node {
             }
             Node::FoR(encoded, reference) => copied_frame(alloc, encoded.copy(alloc)?, reference),
             Node::ZigZag(encoded) => copied_zig_zag(alloc, encoded.copy(alloc)?),
-            Node::Dict(codes, values) => {
-                let codes = codes.copy(alloc)?;
-                copied_dict(alloc, codes, values.copy(alloc)?)
-            }
+            Node::Dict(codes, values) => copied_dict(alloc, codes, values.copy(alloc)?),
             Node::Null(len) => Ok(Node::Null(*len)),
             Node::Struct(names, fields, len, valid, nulls) => {
                 copied_struct(alloc, names, fields.copy(alloc)?, *len, valid, *nulls)
             }
             Node::List(elements, offsets, valid, nulls) => {
-                let elements = elements.copy(alloc)?;
                 copied_list(alloc, elements, offsets.copy(alloc)?, valid, *nulls)
             }
             Node::FixedSizeList(elements, size, len, valid, nulls) => {
                 copied_fixed(alloc, elements.copy(alloc)?, *size, *len, valid, *nulls)
+            }
+            Node::Sparse(patches, fill) => copied_sparse(alloc, patches, fill),
+            Node::RunEnd(ends, values) => copied_runs(alloc, ends, values.copy(alloc)?),
+            Node::Rle(values, indices, offsets, len) => {
+                let indices = indices.copy(alloc)?;
+                copied_rle(alloc, values, indices, offsets.copy(alloc)?, *len)
+            }
+            Node::Sequence(ptype, nulls, first, step, len) => {
+                Ok(Node::Sequence(*ptype, *nulls, *first, *step, *len))
+            }
+            Node::Delta(bases, deltas, len, valid, nulls) => {
+                copied_delta(alloc, bases, deltas.copy(alloc)?, *len, valid, *nulls)
             }
         }
     }

@@ -9,6 +9,7 @@ ghost use Rattle.vx_model.specs.Extents.{counts, field_counts, row_limit};
 ghost use Rattle.vx_model.specs.Nested.{struct_rows};
 ghost use Rattle.vx_array.specs.Ways.{way_of, field, turned, column_at, count_at, inner_counts, are_few};
 
+mod trees;
 mod within;
 
 use crate::sizes::ROW_LIMIT;

@@ -9,8 +9,8 @@ ghost use Rattle.vx_model.specs.TreeType.{tree_type};
 
 use crate::array::{ArrayRef, Node};
 use crate::node::{
-    masked_at, moved_at, picked_at, piece_at, primitive_at, truth_at, unpacked_at, unzigzagged_at,
-    view_at,
+    BLOCK_ROWS, masked_at, moved_at, picked_at, piece_at, primitive_at, rle_at, run_at,
+    sequence_at, sparse_at, summed_at, truth_at, unpacked_at, unzigzagged_at, view_at, whole_at,
 };
 use vx_base::Cell;
 
@@ -37,6 +37,23 @@ impl ArrayRef {
             Node::FoR(encoded, reference) => moved_at(reference, encoded.cell_at(row)),
             Node::ZigZag(encoded) => unzigzagged_at(encoded.cell_at(row)),
             Node::Dict(codes, values) => picked_at(values, codes.cell_at(row)),
+            Node::Sparse(patches, fill) => sparse_at(patches, fill, row),
+            Node::RunEnd(ends, values) => {
+                let run = run_at(ends, row);
+                values.cell_at(run)
+            }
+            Node::Rle(values, indices, offsets, _) => {
+                let begin = whole_at(offsets, row / BLOCK_ROWS);
+                let index = whole_at(indices, row);
+                rle_at(values, begin, index)
+            }
+            Node::Sequence(ptype, _, first, step, len) => {
+                sequence_at(*ptype, *first, *step, *len, row)
+            }
+            Node::Delta(bases, deltas, _, valid, _) => {
+                let base = whole_at(bases, row / BLOCK_ROWS);
+                summed_at(base, deltas, valid, row)
+            }
             Node::Null(_) | Node::Struct(_, _, _, _, _) => unreachable!(),
             Node::List(_, _, _, _) | Node::FixedSizeList(_, _, _, _, _) => unreachable!(),
         }

@@ -1,6 +1,6 @@
 //! Patches: how they are made, and written into integers.
 
-ghost use Rattle.std.specs.Prelude.{◌≡◌, ◌+◌, ℕ, ℤ, length, IsTrue};
+ghost use Rattle.std.specs.Prelude.{◌≡◌, ◌+◌, ℕ, ℤ, None, length, IsTrue};
 ghost use Rattle.vx_base.specs.Answers.{MakesSurely};
 ghost use Rattle.vx_base.specs.PlainType.{is_integer};
 ghost use Rattle.vx_base.specs.declared.dtype.Nullability.TheVariants.{NonNullable};
@@ -23,7 +23,6 @@ impl Patches {
     /// Patches of an array of `array_len` rows. Refuses MismatchedTypes where the indices are no non-nullable integers,
     /// then LengthMismatch where there aren't as many values, then IndicesNotAscending where the indices don't rise or
     /// one lies outside `offset` to `offset + array_len - 1`, a sum that is taken exactly.
-    #[tactic(auto, using(vx_model::proofs::PackedLemmas::patches_accepted))]
     pub fn new(
         array_len: u64,
         offset: u64,
@@ -50,14 +49,22 @@ impl Patches {
                 inputs: (indices, values),
             });
         }
+        Ok(Patches::of_rising(array_len, offset, indices, values))
+    }
+
+    /// The same of indices that are known to rise within those rows, as many as there are values. It looks at no row.
+    pub fn of_rising(array_len: u64, offset: u64, indices: ArrayRef, values: ArrayRef) -> Patches
+        requires { patches_refusal (patches array_len offset indices values) ≡ None }
+        ensures { result ≡ patches array_len offset indices values }
+    {
         indices.known();
         values.known();
-        Ok(Patches {
+        Patches {
             array_len,
             offset,
             indices,
             values,
-        })
+        }
     }
 
     /// Tells a proof that the patches are well formed.
@@ -134,7 +141,7 @@ pub(crate) fn as_index(integer: Option<i128>) -> Option<u128>
 impl ArrayRef {
     // Whether the rows rise from the offset, within the length.
     #[tactic(auto, using(vx_model::proofs::PatchLemmas::ascend_steps))]
-    fn is_ascending(&self, offset: u64, len: u64) -> bool
+    pub(crate) fn is_ascending(&self, offset: u64, len: u64) -> bool
         requires { IsTrue (is_integer (tree_type self.now)) }
         ensures { result ≡ ascend offset (offset + len) (rows self.now) }
     {

@@ -9,13 +9,17 @@ ghost use Rattle.vx_model.specs.TreeType.{tree_type};
 
 use crate::array::{ArrayRef, Node};
 use crate::beneath::{are_empty_beneath, has_words};
-use crate::node::{constant_has_null, is_empty_beneath, is_false_beneath, is_zero_beneath};
+use crate::node::{
+    constant_has_null, is_empty_beneath, is_false_beneath, is_zero_beneath, sparse_has_null,
+    sparse_is_null_at,
+};
 use vx_values::is_valid;
 
 impl ArrayRef {
     ghost use Rattle.vx_model.specs.Plain.{IsPlain};
 
     /// Whether some row is null.
+    #[cycle(has_null)]
     #[tactic(auto, using(vx_model::proofs::NullLemmas::nulls))]
     pub(crate) fn has_null(&self) -> bool
         ensures { result ≡ list_any is_null (rows self.now) }
@@ -38,6 +42,11 @@ impl ArrayRef {
             Node::Struct(_, _, _, valid, _) => valid.is_some(),
             Node::List(_, _, valid, _) => valid.is_some(),
             Node::FixedSizeList(_, _, _, valid, _) => valid.is_some(),
+            Node::Sparse(patches, fill) => sparse_has_null(patches, fill),
+            Node::RunEnd(_, values) => values.has_null(),
+            Node::Rle(values, _, _, _) => values.has_null() && self.has_null_row(),
+            Node::Sequence(_, _, _, _, _) => false,
+            Node::Delta(_, _, _, valid, _) => valid.is_some(),
         }
     }
 
@@ -54,8 +63,9 @@ impl ArrayRef {
         false
     }
 
-    // Whether a row is null.
-    pub(crate) fn is_null_at(&self, row: u64) -> bool
+    /// Whether a row is null.
+    #[cycle(is_null_at)]
+    pub fn is_null_at(&self, row: u64) -> bool
         requires { row < length (rows self.now) }
         ensures { result ≡ is_null (row_at (rows self.now) row) }
     {
@@ -66,6 +76,7 @@ impl ArrayRef {
             Node::Struct(_, _, _, valid, _) => !is_valid(valid, row),
             Node::List(_, _, valid, _) => !is_valid(valid, row),
             Node::FixedSizeList(_, _, _, valid, _) => !is_valid(valid, row),
+            Node::Sparse(patches, fill) => sparse_is_null_at(patches, fill, row),
             _ => self.cell_at(row).is_null(),
         }
     }

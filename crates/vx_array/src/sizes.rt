@@ -10,7 +10,7 @@ use crate::array::{ArrayRef, Node, Patches};
 use crate::arrays::Arrays;
 use crate::node::{
     bool_bytes, constant_bytes, constant_extents_fit, masked_bytes, packed_bytes, primitive_bytes,
-    var_bin_bytes, var_bin_extents_fit, view_bytes,
+    sparse_bytes, var_bin_bytes, var_bin_extents_fit, view_bytes,
 };
 use vx_base::Mask;
 
@@ -45,6 +45,16 @@ impl ArrayRef {
             Node::FixedSizeList(elements, _, _, valid, _) => {
                 with_validity(elements.nbytes(), valid)
             }
+            Node::Sparse(patches, fill) => sparse_bytes(patches, fill),
+            Node::RunEnd(ends, values) => ends.nbytes().saturating_add(values.nbytes()),
+            Node::Rle(values, indices, offsets, _) => {
+                let places = indices.nbytes().saturating_add(offsets.nbytes());
+                values.nbytes().saturating_add(places)
+            }
+            Node::Sequence(_, _, _, _, _) => 0,
+            Node::Delta(bases, deltas, _, valid, _) => {
+                with_validity(bases.nbytes().saturating_add(deltas.nbytes()), valid)
+            }
         }
     }
 
@@ -71,6 +81,10 @@ impl ArrayRef {
                 var_bin_extents_fit(offsets) && elements.extents_fit()
             }
             Node::FixedSizeList(elements, _, len, _, _) => is_few(*len) && elements.extents_fit(),
+            Node::Sparse(_, _) => self.columns_fit(),
+            Node::RunEnd(_, _) => is_few(self.len),
+            Node::Rle(_, _, _, len) | Node::Sequence(_, _, _, _, len) => is_few(*len),
+            Node::Delta(_, _, len, _, _) => is_few(*len),
         }
     }
 }

@@ -15,7 +15,7 @@ ghost use Rattle.vx_model.specs.WellFormed.{are_offsets};
 
 use crate::array::{ArrayRef, Node};
 use crate::arrays::Arrays;
-use crate::node::offset_at;
+use crate::node::{offset_at, sparse_value_at};
 use std::alloc::Global;
 use vx_base::{Mask, Scalar, Value, Values, VortexError, VortexResult};
 use vx_values::is_valid;
@@ -54,9 +54,9 @@ impl ArrayRef {
         Ok(values)
     }
 
-    // The value in a row. Lists and structs are taken apart down to the rows of the trees within.
+    /// The value in a row. Lists and structs are taken apart down to the rows of the trees within.
     #[cycle(value_at)]
-    pub(crate) fn value_at(&self, alloc: Global, row: u64) -> VortexResult<Value>
+    pub fn value_at(&self, alloc: Global, row: u64) -> VortexResult<Value>
         requires in_range { row < length (rows self.now) }
         ensures { OrMemory result (λ value. value_of value ≡ row_at (rows self.now) row) }
     {
@@ -74,6 +74,7 @@ impl ArrayRef {
             Node::FixedSizeList(elements, size, _, valid, _) => {
                 fixed_at(alloc, elements, *size, valid, row)
             }
+            Node::Sparse(patches, fill) => sparse_value_at(alloc, patches, fill, row),
             _ => unreachable!(),
         }
     }

@@ -16,6 +16,10 @@ mod nested;
 #[cfg(test)]
 mod patches;
 #[cfg(test)]
+mod runs;
+#[cfg(test)]
+mod sparse;
+#[cfg(test)]
 mod texts;
 #[cfg(test)]
 mod timestamps;

@@ -21,14 +21,16 @@ pub low_bits-bits : (p : PType) (z : ℤ) → lies_in p z ≡ true → low_bits 
 low_bits-bits p (pos n) h = mod-eq_of_lt (below_all p n (ltb-true _ _ h))
 low_bits-bits p (negsuc n) h = ap (λ k. 2 ^ bits_of p - 1 - k) (mod-eq_of_lt (below_all p n (ltb-true _ _ (and_parts _ _ h).1)))
 
-mod-of-mod : (y m k : ℕ) → y % (m * k) % m ≡ y % m
+-- the rest by a divisor of a product, from the rest by the product
+pub mod-of-mod : (y m k : ℕ) → y % (m * k) % m ≡ y % m
 mod-of-mod y m k =
     let q = y / (m * k) in
     let r = y % (m * k) in
     let parts : m * (k * q) + r ≡ y = omega (arith, div-add-mod y (m * k)) in
     sym (mul-add-mod_self_left m (k * q) r) ∙ ap (λ x. x % m) parts
 
-word_of : (p : PType) → 2 ^ 64 ≡ 2 ^ bits_of p * 2 ^ (64 - bits_of p)
+-- a word of 64 bits is the type's bits and the bits above them
+pub word_of : (p : PType) → 2 ^ 64 ≡ 2 ^ bits_of p * 2 ^ (64 - bits_of p)
 word_of U8 = refl
 word_of U16 = refl
 word_of U32 = refl

@@ -1,6 +1,6 @@
-//! The kernels of bit packing, each on the same rows. `bench/kernels.rs` makes the same rows and digests.
+//! The kernels of bit packing and of series, each on the same rows. `bench/kernels.rs` makes the same rows and digests.
 
-ghost use Rattle.std.specs.Prelude.{◌≡◌, ◌<◌, ◌≤◌, length, vec_len, IfOk};
+ghost use Rattle.std.specs.Prelude.{◌≡◌, ◌<◌, ◌≤◌, ◌*◌, length, vec_len, IfOk};
 ghost use Rattle.vx_base.specs.Integers.{bits_of};
 ghost use Rattle.vx_base.specs.Packed.{packed_size};
 
@@ -9,7 +9,9 @@ use std::alloc::{AllocError, Global};
 use std::time::CpuClock;
 use vx_array::{ArrayRef, Node};
 use vx_base::{Bytes, Integer, Mask, Nullability, PType, VortexResult};
-use vx_blocks::{bit_width_histogram, pack, unpack};
+use vx_blocks::{
+    bit_width_histogram, block_runs, delta_blocks, pack, runs, sequence_of, undelta, unpack,
+};
 use vx_values::Ints;
 
 // The generator of values: each state is the one before it times MULTIPLIER plus INCREMENT.
@@ -21,6 +23,11 @@ const INCREMENT: u64 = 1442695040888963407;
 
 // What a digest is multiplied by before the next item is added.
 const DIGEST_FACTOR: u64 = 31;
+
+// The kernels of series run at this width alone, on runs of so many rows, or on a ramp.
+const SERIES_WIDTH: u32 = 7;
+
+const RUN_ROWS: u32 = 100;
 
 /// The rows that the kernels run on, and how often each runs.
 #[derive(Clone, Copy)]
@@ -42,6 +49,37 @@ fn values<T: Integer>(alloc: Global, rows: usize, width: u32) -> Result<Vec<T>, 
     for value in values.iter_mut() {
         state = state.wrapping_mul(MULTIPLIER).wrapping_add(INCREMENT);
         *value = T::from_low_bits(state >> (64 - width));
+    }
+    Ok(values)
+}
+
+// The same, each of so many rows.
+fn repeated<T: Integer>(alloc: Global, rows: usize, width: u32) -> Result<Vec<T>, AllocError>
+    requires some { 0 < width }
+    requires most { width ≤ 64 }
+    ensures { IfOk result (λ values. vec_len values ≡ rows) }
+{
+    let mut values = vec![in alloc; T::zero(); rows]?;
+    let mut state = SEED;
+    let mut left: u32 = 0;
+    for value in values.iter_mut() {
+        if left == 0 {
+            state = state.wrapping_mul(MULTIPLIER).wrapping_add(INCREMENT);
+            left = RUN_ROWS;
+        }
+        left = left.saturating_sub(1);
+        *value = T::from_low_bits(state >> (64 - width));
+    }
+    Ok(values)
+}
+
+// The numbers from 0 on.
+fn ramp<T: Integer>(alloc: Global, rows: usize) -> Result<Vec<T>, AllocError> {
+    let mut values = vec![in alloc; T::zero(); rows]?;
+    let mut next: u64 = 0;
+    for value in values.iter_mut() {
+        *value = T::from_low_bits(next);
+        next = next.wrapping_add(1);
     }
     Ok(values)
 }
@@ -159,6 +197,95 @@ fn tell_canonical(
     show(rt, "canonical", on, best, digest_of_tree(&plain)?)
 }
 
+fn tell_runs<T: Integer>(
+    rt: &(impl AllocGlobal + CpuClock + Print),
+    on: &Setting,
+    values: &[T],
+    valid: &Mask,
+) -> Result<()>
+    requires { length valid.now ≡ length values.now }
+{
+    let alloc = rt.alloc();
+    let (best, ends) = best_of(rt, on.repeats, || runs(alloc, values, valid))?;
+    show(rt, "runs", on, best, digest(ends.as_slice()))
+}
+
+fn tell_block_runs<T: Integer>(
+    rt: &(impl AllocGlobal + CpuClock + Print),
+    on: &Setting,
+    values: &[T],
+    valid: &Mask,
+) -> Result<()>
+    requires { length valid.now ≡ length values.now }
+{
+    let alloc = rt.alloc();
+    let (best, made) = best_of(rt, on.repeats, || block_runs(alloc, values, valid))?;
+    let all = digest(made.heads.as_slice())
+        .wrapping_add(digest(made.numbers.as_slice()))
+        .wrapping_add(digest(made.offsets.as_slice()));
+    show(rt, "block_runs", on, best, all)
+}
+
+// Of a ramp, where the type holds a long one.
+fn tell_sequence<T: Integer>(
+    rt: &(impl AllocGlobal + CpuClock + Print),
+    on: &Setting,
+) -> Result<()> {
+    if T::ptype().bit_width() == 8 {
+        return Ok(());
+    }
+    let values = ramp::<T>(rt.alloc(), on.rows)?;
+    let rows = values.as_slice();
+    let (best, found) = best_of(rt, on.repeats, || Ok(sequence_of(rows)))?;
+    show(rt, "sequence", on, best, u64::from(found.is_some()))
+}
+
+fn tell_deltas<T: Integer>(
+    rt: &(impl AllocGlobal + CpuClock + Print),
+    on: &Setting,
+    values: &[T],
+    valid: &Mask,
+) -> Result<()>
+    requires { length valid.now ≡ length values.now }
+{
+    let alloc = rt.alloc();
+    let (best, made) = best_of(rt, on.repeats, || delta_blocks(alloc, values, valid))?;
+    let both = digest(made.0.as_slice()).wrapping_add(digest(made.1.as_slice()));
+    show(rt, "delta", on, best, both)
+}
+
+fn tell_undelta<T: Integer>(
+    rt: &(impl AllocGlobal + CpuClock + Print),
+    on: &Setting,
+    bases: &[T],
+    deltas: &[T],
+) -> Result<()>
+    requires { length deltas.now ≡ 1024 * length bases.now }
+{
+    let alloc = rt.alloc();
+    let (best, rows) = best_of(rt, on.repeats, || undelta(alloc, bases, deltas))?;
+    show(rt, "undelta", on, best, digest(rows.as_slice()))
+}
+
+// Times the kernels of series on runs and on a ramp of the type.
+fn tell_series<T: Integer>(
+    rt: &(impl AllocGlobal + CpuClock + Print),
+    on: &Setting,
+    valid: &Mask,
+) -> Result<()>
+    requires rows { length valid.now ≡ on.now.rows }
+    requires some { 0 < on.now.width }
+    requires most { on.now.width ≤ 64 }
+{
+    let values = repeated::<T>(rt.alloc(), on.rows, on.width)?;
+    tell_runs(rt, on, values.as_slice(), valid)?;
+    tell_block_runs(rt, on, values.as_slice(), valid)?;
+    tell_sequence::<T>(rt, on)?;
+    tell_deltas(rt, on, values.as_slice(), valid)?;
+    let (bases, deltas) = delta_blocks(rt.alloc(), values.as_slice(), valid)?;
+    tell_undelta(rt, on, bases.as_slice(), deltas.as_slice())
+}
+
 // Times each kernel on rows of the type.
 fn tell_of<T: Integer>(rt: &(impl AllocGlobal + CpuClock + Print), on: &Setting) -> Result<()> {
     if on.width == 0 || on.width > T::ptype().bit_width() {
@@ -170,7 +297,11 @@ fn tell_of<T: Integer>(rt: &(impl AllocGlobal + CpuClock + Print), on: &Setting)
     tell_pack(rt, on, values.as_slice(), &valid)?;
     let packed = pack(rt.alloc(), values.as_slice(), &valid, on.width)?;
     tell_unpack(rt, on, packed.as_slice())?;
-    tell_canonical(rt, on, packed)
+    tell_canonical(rt, on, packed)?;
+    if on.width == SERIES_WIDTH {
+        tell_series::<T>(rt, on, &valid)?;
+    }
+    Ok(())
 }
 
 /// Times each kernel, and writes a line for each.

@@ -4,18 +4,28 @@ use Rattle.vx_base.specs.declared.array_id.ArrayId.{ArrayId}
 use Rattle.vx_scheme.specs.Lawful.{Lawful}
 use Rattle.vx_scheme.specs.Meaning.{Meaning}
 use Rattle.vx_schemes.specs.BitPacking.Meaning.{bit_packing_meaning, bit_packing_lawful}
-use Rattle.vx_schemes.specs.FrameOfReference.Meaning.{for_meaning, for_meaning_lawful}
+use Rattle.vx_schemes.specs.Delta.Meaning.{delta_meaning, delta_lawful}
 use Rattle.vx_schemes.specs.Dictionary.Meaning.{int_dict_meaning, int_dict_lawful}
+use Rattle.vx_schemes.specs.FrameOfReference.Meaning.{for_meaning, for_meaning_lawful}
+use Rattle.vx_schemes.specs.RunEnd.Meaning.{run_end_meaning, run_end_lawful}
+use Rattle.vx_schemes.specs.RunLength.Meaning.{int_rle_meaning, int_rle_lawful}
+use Rattle.vx_schemes.specs.Sequence.Meaning.{sequence_meaning, sequence_lawful}
+use Rattle.vx_schemes.specs.Sparse.Meaning.{sparse_meaning, sparse_lawful}
 use Rattle.vx_schemes.specs.ZigZag.Meaning.{zig_zag_meaning, zig_zag_lawful}
 use Rattle.vx_btrblocks.specs.declared.any_scheme.AnyScheme.{AnyScheme}
-use Rattle.vx_btrblocks.specs.declared.any_scheme.AnyScheme.TheVariants.{FoR, ZigZag, BitPacking, IntDict, Own}
+use Rattle.vx_btrblocks.specs.declared.any_scheme.AnyScheme.TheVariants.{FoR, ZigZag, BitPacking, Sparse, IntDict, RunEnd, Sequence, IntRLE, Delta, Own}
 
 -- by its variant
 abbrev pub any_meaning : {X : Type 0} → (X → Meaning) → AnyScheme X → Meaning
 any_meaning own (FoR s) = for_meaning s
 any_meaning own (ZigZag s) = zig_zag_meaning s
 any_meaning own (BitPacking s) = bit_packing_meaning s
+any_meaning own (Sparse s) = sparse_meaning s
 any_meaning own (IntDict s) = int_dict_meaning s
+any_meaning own (RunEnd s) = run_end_meaning s
+any_meaning own (Sequence s) = sequence_meaning s
+any_meaning own (IntRLE s) = int_rle_meaning s
+any_meaning own (Delta s) = delta_meaning s
 any_meaning own (Own x) = own x
 
 -- where only these encodings are allowed
@@ -23,14 +33,24 @@ abbrev pub any_refined : {X : Type 0} → (X → (ArrayId → Bool) → X) → A
 any_refined own (FoR s) allowed = FoR s
 any_refined own (ZigZag s) allowed = ZigZag s
 any_refined own (BitPacking s) allowed = BitPacking s
+any_refined own (Sparse s) allowed = Sparse s
 any_refined own (IntDict s) allowed = IntDict s
+any_refined own (RunEnd s) allowed = RunEnd s
+any_refined own (Sequence s) allowed = Sequence s
+any_refined own (IntRLE s) allowed = IntRLE s
+any_refined own (Delta s) allowed = Delta s
 any_refined own (Own x) allowed = Own (own x allowed)
 
 pub any_lawful : {X : Type 0} (own : X → Meaning) → ((x : X) → Lawful (own x)) → (s : AnyScheme X) → Lawful (any_meaning own s)
 any_lawful own law (FoR s) = for_meaning_lawful s
 any_lawful own law (ZigZag s) = zig_zag_lawful s
 any_lawful own law (BitPacking s) = bit_packing_lawful s
+any_lawful own law (Sparse s) = sparse_lawful s
 any_lawful own law (IntDict s) = int_dict_lawful s
+any_lawful own law (RunEnd s) = run_end_lawful s
+any_lawful own law (Sequence s) = sequence_lawful s
+any_lawful own law (IntRLE s) = int_rle_lawful s
+any_lawful own law (Delta s) = delta_lawful s
 any_lawful own law (Own x) = law x
 
 pub any_keeps_name : {X : Type 0} (own : X → Meaning) (refined : X → (ArrayId → Bool) → X) → ((x : X) (ids : ArrayId → Bool) → (own (refined x ids)).name ≡ (own x).name)
@@ -38,5 +58,10 @@ pub any_keeps_name : {X : Type 0} (own : X → Meaning) (refined : X → (ArrayI
 any_keeps_name own refined keeps (FoR s) ids = refl
 any_keeps_name own refined keeps (ZigZag s) ids = refl
 any_keeps_name own refined keeps (BitPacking s) ids = refl
+any_keeps_name own refined keeps (Sparse s) ids = refl
 any_keeps_name own refined keeps (IntDict s) ids = refl
+any_keeps_name own refined keeps (RunEnd s) ids = refl
+any_keeps_name own refined keeps (Sequence s) ids = refl
+any_keeps_name own refined keeps (IntRLE s) ids = refl
+any_keeps_name own refined keeps (Delta s) ids = refl
 any_keeps_name own refined keeps (Own x) ids = keeps x ids

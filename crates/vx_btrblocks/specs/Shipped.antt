@@ -5,14 +5,22 @@ use Rattle.vx_model.specs.Column.{Column}
 use Rattle.vx_model.specs.Tree.{Tree}
 use Rattle.vx_scheme.specs.Meaning.{Meaning}
 use Rattle.vx_schemes.specs.BitPacking.Meaning.{bit_packing_meaning}
-use Rattle.vx_schemes.specs.FrameOfReference.Meaning.{for_meaning}
+use Rattle.vx_schemes.specs.Delta.Meaning.{delta_meaning, default_delta}
 use Rattle.vx_schemes.specs.Dictionary.Meaning.{int_dict_meaning}
+use Rattle.vx_schemes.specs.FrameOfReference.Meaning.{for_meaning}
+use Rattle.vx_schemes.specs.RunEnd.Meaning.{run_end_meaning}
+use Rattle.vx_schemes.specs.RunLength.Meaning.{int_rle_meaning}
+use Rattle.vx_schemes.specs.Sequence.Meaning.{sequence_meaning}
+use Rattle.vx_schemes.specs.Sparse.Meaning.{sparse_meaning}
 use Rattle.vx_schemes.specs.ZigZag.Meaning.{zig_zag_meaning}
 use Rattle.vx_compressor.specs.Cascade.{Setting, leaf_tree}
 
 -- in the order in which they are judged
 abbrev pub shipped_schemes : List Meaning
-shipped_schemes = for_meaning (record { 0 = tt }) ∷ zig_zag_meaning (record {}) ∷ bit_packing_meaning (record { 0 = tt }) ∷ int_dict_meaning (record {}) ∷ []
+shipped_schemes =
+    for_meaning (record { 0 = tt }) ∷ zig_zag_meaning (record {}) ∷ bit_packing_meaning (record { 0 = tt }) ∷ sparse_meaning (record {})
+    ∷ int_dict_meaning (record {}) ∷ run_end_meaning (record {}) ∷ sequence_meaning (record {}) ∷ int_rle_meaning (record {})
+    ∷ delta_meaning default_delta ∷ []
 
 -- the shipped schemes with these sample words
 abbrev pub shipped_setting : List ℕ → Setting

@@ -8,7 +8,10 @@ use vx_scheme::{
     AllowedIds, AncestorRules, ArrayAndStats, CompressionEstimate, CompressorContext,
     DescendantRules, EstimateVerdict, GenerateStatsOptions, Scheme, Split,
 };
-use vx_schemes::{BitPackingScheme, FoRScheme, IntDictScheme, ZigZagScheme};
+use vx_schemes::{
+    BitPackingScheme, DeltaScheme, FoRScheme, IntDictScheme, IntRLEScheme, RunEndScheme,
+    SequenceScheme, SparseScheme, ZigZagScheme,
+};
 
 /// A shipped scheme, or one of the caller's own. It does in each call what the scheme in it does.
 #[derive(Clone, Copy, Debug, PartialEq, Eq)]
@@ -16,7 +19,12 @@ pub enum AnyScheme<X> {
     FoR(FoRScheme),
     ZigZag(ZigZagScheme),
     BitPacking(BitPackingScheme),
+    Sparse(SparseScheme),
     IntDict(IntDictScheme),
+    RunEnd(RunEndScheme),
+    Sequence(SequenceScheme),
+    IntRLE(IntRLEScheme),
+    Delta(DeltaScheme),
     Own(X),
 }
 
@@ -27,7 +35,12 @@ macro_rules! with_scheme {
             AnyScheme::FoR($scheme) => $call,
             AnyScheme::ZigZag($scheme) => $call,
             AnyScheme::BitPacking($scheme) => $call,
+            AnyScheme::Sparse($scheme) => $call,
             AnyScheme::IntDict($scheme) => $call,
+            AnyScheme::RunEnd($scheme) => $call,
+            AnyScheme::Sequence($scheme) => $call,
+            AnyScheme::IntRLE($scheme) => $call,
+            AnyScheme::Delta($scheme) => $call,
             AnyScheme::Own($scheme) => $call,
         }
     };
@@ -61,7 +74,12 @@ impl<X: Scheme> Scheme for AnyScheme<X> {
             AnyScheme::FoR(scheme) => AnyScheme::FoR(scheme.refine(allowed)),
             AnyScheme::ZigZag(scheme) => AnyScheme::ZigZag(scheme.refine(allowed)),
             AnyScheme::BitPacking(scheme) => AnyScheme::BitPacking(scheme.refine(allowed)),
+            AnyScheme::Sparse(scheme) => AnyScheme::Sparse(scheme.refine(allowed)),
             AnyScheme::IntDict(scheme) => AnyScheme::IntDict(scheme.refine(allowed)),
+            AnyScheme::RunEnd(scheme) => AnyScheme::RunEnd(scheme.refine(allowed)),
+            AnyScheme::Sequence(scheme) => AnyScheme::Sequence(scheme.refine(allowed)),
+            AnyScheme::IntRLE(scheme) => AnyScheme::IntRLE(scheme.refine(allowed)),
+            AnyScheme::Delta(scheme) => AnyScheme::Delta(scheme.refine(allowed)),
             AnyScheme::Own(scheme) => AnyScheme::Own(scheme.refine(allowed)),
         }
     }

@@ -15,7 +15,10 @@ use vx_array::ArrayRef;
 use vx_base::{ExecutionCtx, VortexResult};
 use vx_compressor::{CascadingCompressor, Schemes};
 use vx_scheme::Scheme;
-use vx_schemes::{BitPackingScheme, FoRScheme, IntDictScheme, ZigZagScheme};
+use vx_schemes::{
+    BitPackingScheme, DeltaScheme, FoRScheme, IntDictScheme, IntRLEScheme, RunEndScheme,
+    SequenceScheme, SparseScheme, ZigZagScheme,
+};
 
 /// Makes a column's tree over the shipped schemes and those of the caller.
 #[derive(Drop)]
@@ -29,13 +32,18 @@ fn shipped_schemes<X: Scheme>(alloc: Global) -> VortexResult<Schemes<AnyScheme<X
     schemes.push(AnyScheme::FoR(FoRScheme::v1()))?;
     schemes.push(AnyScheme::ZigZag(ZigZagScheme))?;
     schemes.push(AnyScheme::BitPacking(BitPackingScheme::v1()))?;
+    schemes.push(AnyScheme::Sparse(SparseScheme))?;
     schemes.push(AnyScheme::IntDict(IntDictScheme))?;
+    schemes.push(AnyScheme::RunEnd(RunEndScheme))?;
+    schemes.push(AnyScheme::Sequence(SequenceScheme))?;
+    schemes.push(AnyScheme::IntRLE(IntRLEScheme))?;
+    schemes.push(AnyScheme::Delta(DeltaScheme::default()))?;
     Ok(Schemes::from_vec(schemes))
 }
 
 impl<X: Scheme> BtrBlocksCompressor<X> {
-    /// The compressor over the shipped schemes: frame of reference, zigzag, bit packing, dictionary. Refuses NoMemory
-    /// alone.
+    /// The compressor over the shipped schemes: frame of reference, zigzag, bit packing, sparse, dictionary, runs by their
+    /// ends, sequence, run lengths, delta. Refuses NoMemory alone.
     pub fn shipped(alloc: Global) -> VortexResult<Self>
         ensures { OrMemory result (λ compressor. map (any_meaning X.meaning) compressor.0 ≡ shipped_schemes) }
     {

@@ -1,5 +1,5 @@
 -- What the scheme of the tests means: its one part is the column itself, whose tree is then its tree.
-use Rattle.std.specs.Prelude.{◌≡◌, ◌≤◌, true, false, List, [], ◌∷◌, length, map, All, Option, Some, None, slice_get, codes, refl}
+use Rattle.std.specs.Prelude.{◌≡◌, ◌≤◌, true, false, List, [], ◌∷◌, length, map, All, Option, Some, None, slice_get, codes}
 use Rattle.std.proofs.Common.{arith, subst, ◌∙◌}
 use Rattle.std.proofs.lemmas.List.Elements.{All-from_recursion, recursion_from_All}
 use Rattle.vx_base.specs.PlainType.{is_leaf}

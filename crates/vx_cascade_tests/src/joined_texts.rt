@@ -4,7 +4,7 @@ use crate::comparing::{Form, by_both};
 use std::alloc::Global;
 use std::test::Fail;
 use vx_array::ArrayRef;
-use vx_base::ArrayId::{BitPacked, VarBin, VarBinView};
+use vx_base::ArrayId::{Delta, Sequence, VarBin, VarBinView};
 use vx_base::Nullability::{NonNullable, Nullable};
 use vx_base::{ByteRows, Bytes, DType, Mask, VortexResult};
 use vx_examples::{JoinedTexts, compressor_with_texts};
@@ -46,20 +46,21 @@ fn texts_by_both(
     by_both(alloc, &compressor_with_texts(alloc)?, &array)
 }
 
-// 1,024 offsets up to 2,046 are one block of 11 bits each, 1,408 bytes, and 2,046 bytes stand below; plain each text
-// takes 16. Of 768 valid rows the offsets end at 1,536, which takes 11 bits too, and there are 128 bytes of validity.
+// 1,024 offsets, each two more than the one before, are a sequence, and 2,046 bytes stand below; plain each text takes 16. Of
+// 768 valid rows 1,536 bytes stand below, 128 bytes of validity, and the offsets as differences of 0 and 2: 8 bytes of a base,
+// and a block of 2 bits each, 256 bytes.
 #[test]
-fn offsets_are_packed(rt: HostRuntime) -> Result<(), Fail> {
+fn offsets_become_less_than_a_byte_each(rt: HostRuntime) -> Result<(), Fail> {
     let all = texts_by_both(
         rt.alloc(),
         pairs(rt.alloc())?,
         None,
         DType::utf8(NonNullable),
     )?;
-    assert!(rt; all == ((VarBinView, 16368, None), (VarBin, 3454, Some(BitPacked))));
+    assert!(rt; all == ((VarBinView, 16368, None), (VarBin, 2046, Some(Sequence))));
     let valid = Some(three_of_four(rt.alloc())?);
     let some = texts_by_both(rt.alloc(), pairs(rt.alloc())?, valid, DType::utf8(Nullable))?;
-    assert!(rt; some == ((VarBinView, 16496, None), (VarBin, 3072, Some(BitPacked))));
+    assert!(rt; some == ((VarBinView, 16496, None), (VarBin, 1928, Some(Delta))));
     Ok(())
 }
 

@@ -16,6 +16,8 @@ mod owned;
 #[cfg(test)]
 mod quick_packing;
 #[cfg(test)]
+mod runs_in_blocks;
+#[cfg(test)]
 mod sampling;
 #[cfg(test)]
 mod shipped;

@@ -3,7 +3,7 @@
 use std::alloc::Global;
 use std::test::Fail;
 use vx_array::ArrayRef;
-use vx_base::ArrayId::{List, Null, Primitive};
+use vx_base::ArrayId::{List, Null, Primitive, Sequence};
 use vx_base::Nullability::{NonNullable, Nullable};
 use vx_base::PType::{I32, U64};
 use vx_base::{ArrayId, VortexError, VortexResult};
@@ -31,13 +31,13 @@ fn inside(tree: &ArrayRef, place: usize) -> Option<(ArrayId, u128)> {
     Some((child.encoding_id(), child.nbytes()))
 }
 
-// Offsets of 64 bits become offsets of 8.
+// Offsets of 64 bits become offsets of 8. The elements 1, 2 and 3 are a sequence; 1 byte is the lists' validity.
 #[test]
 fn the_offsets_of_lists_are_narrowed(rt: HostRuntime) -> Result<(), Fail> {
     let tree = compressed(rt.alloc(), &lists(rt.alloc())?)?;
-    assert!(rt; tree.encoding_id() == List && tree.nbytes() == 18);
+    assert!(rt; tree.encoding_id() == List && tree.nbytes() == 6);
     assert!(rt;
-        inside(&tree, 0) == Some((Primitive, 12)) && inside(&tree, 1) == Some((Primitive, 5))
+        inside(&tree, 0) == Some((Sequence, 0)) && inside(&tree, 1) == Some((Primitive, 5))
     );
     Ok(())
 }

@@ -31,7 +31,7 @@ fn it_is_chosen_where_a_sample_sees_nothing_but_zeros(rt: HostRuntime) -> Result
     let waves = waves_by_both(rt.alloc(), &compressor, 0)?;
     let tens = tens_by_both(rt.alloc(), &compressor, -3)?;
     let frame = (FoR, 512, Some(BitPacked));
-    assert!(rt; waves == ((Dict, 2080, Some(Primitive)), (BitPacked, 768, None)));
+    assert!(rt; waves == ((Dict, 2048, Some(Primitive)), (BitPacked, 768, None)));
     assert!(rt; tens == (frame, frame));
     Ok(())
 }

@@ -1,10 +1,12 @@
 //! The shipped compressor, with ample memory.
 
-use crate::comparing::{form_of, tens};
+use crate::comparing::{Form, form_of, tens};
+use std::alloc::Global;
 use std::test::Fail;
-use vx_base::ArrayId::{BitPacked, FoR};
+use vx_base::ArrayId::{BitPacked, Delta, FoR, Primitive, RunEnd, Sequence, Sparse};
 use vx_base::Nullability::NonNullable;
-use vx_base::PType::I32;
+use vx_base::PType::{I32, U32, U64};
+use vx_base::{PType, VortexResult};
 use vx_btrblocks::BtrBlocksCompressor;
 use vx_fixtures::{context, flat};
 use vx_scheme::NoScheme;
@@ -20,5 +22,65 @@ fn a_tree_becomes_the_same_tree_again(rt: HostRuntime) -> Result<(), Fail> {
     for tree in [&tree, &again] {
         assert!(rt; form_of(tree) == (FoR, 512, Some(BitPacked)));
     }
+    Ok(())
+}
+
+// What whole numbers become.
+fn form_of_wholes(alloc: Global, ptype: PType, wholes: &[i128]) -> VortexResult<Form> {
+    let compressor = BtrBlocksCompressor::<NoScheme>::shipped(alloc)?;
+    let array = flat(alloc, ptype, NonNullable, wholes)?;
+    Ok(form_of(&compressor.compress(&array, &mut context(alloc)?)?))
+}
+
+// 0 to 99.
+fn ramp(alloc: Global) -> VortexResult<Vec<i128>> {
+    let mut wholes = Vec::new(alloc);
+    for place in 0..100_u16 {
+        wholes.push(i128::from(place))?;
+    }
+    Ok(wholes)
+}
+
+// So many rows of one number, and then so many of another.
+fn two_runs(alloc: Global, first: (u16, i128), second: (u16, i128)) -> VortexResult<Vec<i128>> {
+    let mut wholes = Vec::new(alloc);
+    for _ in 0..first.0 {
+        wholes.push(first.1)?;
+    }
+    for _ in 0..second.0 {
+        wholes.push(second.1)?;
+    }
+    Ok(wholes)
+}
+
+// The squares of 0 to 2,047.
+fn squares(alloc: Global) -> VortexResult<Vec<i128>> {
+    let mut wholes = Vec::new(alloc);
+    for place in 0..2048_u32 {
+        wholes.push(i128::from(place.wrapping_mul(place)))?;
+    }
+    Ok(wholes)
+}
+
+// No row of a sequence takes a byte. One row of a thousand is a place of one byte and a value of 8, and the fill takes 9.
+#[test]
+fn numbers_in_steps_and_a_rare_one(rt: HostRuntime) -> Result<(), Fail> {
+    let form = form_of_wholes(rt.alloc(), I32, ramp(rt.alloc())?.as_slice())?;
+    assert!(rt; form == (Sequence, 0, None));
+    let rare = two_runs(rt.alloc(), (1, 0), (999, 999))?;
+    let form = form_of_wholes(rt.alloc(), U64, rare.as_slice())?;
+    assert!(rt; form == (Sparse, 18, Some(Primitive)));
+    Ok(())
+}
+
+// Two ends of a byte and two values of 4. Squares differ by at most 4,093: two bases of 8 bytes, and two blocks of 12 bits
+// a row.
+#[test]
+fn runs_and_a_slow_series(rt: HostRuntime) -> Result<(), Fail> {
+    let runs = two_runs(rt.alloc(), (50, 0), (50, 7))?;
+    let form = form_of_wholes(rt.alloc(), U32, runs.as_slice())?;
+    assert!(rt; form == (RunEnd, 10, Some(Primitive)));
+    let form = form_of_wholes(rt.alloc(), U64, squares(rt.alloc())?.as_slice())?;
+    assert!(rt; form == (Delta, 3088, Some(Primitive)));
     Ok(())
 }

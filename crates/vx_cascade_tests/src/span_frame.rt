@@ -30,7 +30,7 @@ fn differences_are_one_part(rt: HostRuntime) -> Result<(), Fail> {
 }
 
 // The shipped frame packs without a trial. In the last row bit packing takes no byte on the sample of the part, so it
-// has no score, and a dictionary stands.
+// has no score, and a dictionary stands: a byte a row, and the values 0 to 7 are a sequence.
 #[test]
 fn the_part_becomes_whatever_is_best_for_its_sample(rt: HostRuntime) -> Result<(), Fail> {
     let compressor = compressor_with_frames(rt.alloc())?;
@@ -40,7 +40,7 @@ fn the_part_becomes_whatever_is_best_for_its_sample(rt: HostRuntime) -> Result<(
     let frame = (FoR, 512, Some(BitPacked));
     assert!(rt; framed == (frame, frame));
     assert!(rt; packed == ((BitPacked, 512, None), (BitPacked, 512, None)));
-    assert!(rt; coded == ((FoR, 768, Some(BitPacked)), (FoR, 2080, Some(Dict))));
+    assert!(rt; coded == ((FoR, 768, Some(BitPacked)), (FoR, 2048, Some(Dict))));
     Ok(())
 }
 
@@ -62,8 +62,8 @@ fn twenties_by_both<X: Scheme>(
 }
 
 // The differences of the first column would fill a block of 1,024 bytes, more than they take plain; their dictionary has
-// 20 values of 8 bytes, and 100 codes of one byte. That of the second, 1,000 to 1,002 and a null, has 9 codes, 2 bytes of
-// bits, and 3 values of 2 bytes.
+// 100 codes of one byte, and its 20 values are a sequence. That of the second, 1,000 to 1,002 and a null, has 9 codes and 2
+// bytes of bits, and its values are a sequence too.
 #[test]
 fn the_part_becomes_a_dictionary(rt: HostRuntime) -> Result<(), Fail> {
     let compressor = compressor_with_frames(rt.alloc())?;
@@ -73,7 +73,7 @@ fn the_part_becomes_a_dictionary(rt: HostRuntime) -> Result<(), Fail> {
         three[0], three[1], three[2], three[0], three[1], three[2], three[1], three[2], None,
     ];
     let of_three = rows_by_both(rt.alloc(), &compressor, U16, &rows)?;
-    assert!(rt; of_twenties == ((Primitive, 800, None), (FoR, 260, Some(Dict))));
-    assert!(rt; of_three == ((Primitive, 20, None), (FoR, 17, Some(Dict))));
+    assert!(rt; of_twenties == ((Primitive, 800, None), (FoR, 100, Some(Dict))));
+    assert!(rt; of_three == ((Primitive, 20, None), (FoR, 11, Some(Dict))));
     Ok(())
 }

@@ -4,7 +4,7 @@ use crate::comparing::form_of;
 use std::alloc::Global;
 use std::test::Fail;
 use vx_array::ArrayRef;
-use vx_base::ArrayId::{FoR, Primitive};
+use vx_base::ArrayId::{Primitive, Sequence};
 use vx_base::Nullability::NonNullable;
 use vx_base::{ExecutionCtx, IntList, VortexResult, Words};
 use vx_btrblocks::BtrBlocksCompressor;
@@ -31,12 +31,12 @@ fn moments(alloc: Global) -> VortexResult<Vec<i64>> {
     Ok(rows)
 }
 
-// The greatest difference, 59,940, has 16 binary digits: 128 * 16 bytes.
+// The tree is the first moment and the step, and no row takes a byte.
 #[test]
 fn a_column_comes_back(rt: HostRuntime) -> Result<(), Fail> {
     let (tree, plain) = there_and_back(rt.alloc(), moments(rt.alloc())?)?;
     let (encoding, nbytes, _) = form_of(&tree);
-    assert!(rt; encoding == FoR && nbytes == 2048);
+    assert!(rt; encoding == Sequence && nbytes == 0);
     assert!(rt; form_of(&plain) == (Primitive, 8000, None));
     Ok(())
 }

@@ -11,6 +11,7 @@ pub mod LeafFormLemmas
 pub mod LimitLemmas
 pub mod NestedFacts
 pub mod OneValueTrees
+pub mod PlainNodeLemmas
 pub mod ReachedLemmas
 pub mod SampleLemmas
 pub mod SampleSizes

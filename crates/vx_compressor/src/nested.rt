@@ -131,7 +131,7 @@ fn list_over(
     requires { WellFormed (list elements offsets valid nullability) }
     ensures { Answers result (list elements offsets valid nullability) }
 {
-    match ArrayRef::list(alloc, elements, offsets, valid, nullability) {
+    match ArrayRef::list_of_offsets(alloc, elements, offsets, valid, nullability) {
         Ok(tree) => Ok(tree),
         Err(refused) => Err(refused.error),
     }

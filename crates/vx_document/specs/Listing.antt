@@ -1,9 +1,10 @@
 -- The listing of a tree: a line for each node, and the line of sizes.
 use Rattle.std.specs.Prelude.{ℕ, List, [], ◌∷◌, ◌++◌, length, decimal, codes}
+use Rattle.std.specs.Fmt.{signed_decimal}
 use Rattle.std.specs.List.{concat}
 use Rattle.vx_base.specs.IdName.{id_name}
 use Rattle.vx_base.specs.TypeText.{type_text, value_text}
-use Rattle.vx_model.specs.Tree.{Tree, Trees, bool, primitive, var_bin_view, var_bin, timestamp, constant, masked, bit_packed, bit_packed_with, frame_of_reference, zig_zag, dict, nulls, structure, list, fixed_size_list, none, more}
+use Rattle.vx_model.specs.Tree.{Tree, Trees, bool, primitive, var_bin_view, var_bin, timestamp, constant, masked, bit_packed, bit_packed_with, frame_of_reference, zig_zag, dict, nulls, structure, list, fixed_size_list, none, more, sparse, run_end, rle, sequence, delta}
 use Rattle.vx_model.specs.Nodes.{encoding}
 use Rattle.vx_model.specs.TreeType.{tree_type}
 use Rattle.vx_model.specs.Rows.{rows}
@@ -31,6 +32,11 @@ own_numbers (nulls len) = []
 own_numbers (structure names fields len valid n) = []
 own_numbers (list elements offsets valid n) = []
 own_numbers (fixed_size_list elements size len valid n) = codes " list_size=" ++ decimal size
+own_numbers (sparse len offset indices values fill) = codes " offset=" ++ decimal offset ++ codes " fill=" ++ value_text fill.dtype fill.value ++ codes " patches=" ++ decimal (length (rows indices))
+own_numbers (run_end ends values) = []
+own_numbers (rle values indices offsets len) = []
+own_numbers (sequence p n first step len) = codes " first=" ++ signed_decimal first ++ codes " step=" ++ signed_decimal step
+own_numbers (delta bases deltas len valid n) = []
 
 -- the root's encoding, type, rows and bytes
 unfoldable pub heading : Tree → List ℕ
@@ -65,6 +71,13 @@ abbrev mutual
   listing indent (structure names fields len valid n) = line indent (structure names fields len valid n) ++ listings (deeper indent) fields
   listing indent (list elements offsets valid n) = line indent (list elements offsets valid n) ++ listing (deeper indent) elements ++ listing (deeper indent) offsets
   listing indent (fixed_size_list elements size len valid n) = line indent (fixed_size_list elements size len valid n) ++ listing (deeper indent) elements
+  listing indent (sparse len offset indices values fill) =
+      line indent (sparse len offset indices values fill) ++ listing (deeper indent) indices ++ listing (deeper indent) values
+  listing indent (run_end ends values) = line indent (run_end ends values) ++ listing (deeper indent) ends ++ listing (deeper indent) values
+  listing indent (rle values indices offsets len) =
+      line indent (rle values indices offsets len) ++ listing (deeper indent) values ++ listing (deeper indent) indices ++ listing (deeper indent) offsets
+  listing indent (sequence p n first step len) = line indent (sequence p n first step len)
+  listing indent (delta bases deltas len valid n) = line indent (delta bases deltas len valid n) ++ listing (deeper indent) bases ++ listing (deeper indent) deltas
 
   -- of several trees, one after the other
   pub listings : List ℕ → Trees → List ℕ

@@ -1,6 +1,6 @@
 //! The text of a tree: a line for each node, and the line of sizes.
 
-ghost use Rattle.std.specs.Prelude.{◌≡◌, ◌<◌, ◌^◌, ◌++◌, IfOk, OnOk, string_bytes, []};
+ghost use Rattle.std.specs.Prelude.{◌≡◌, ◌<◌, ◌^◌, ◌+◌, ◌++◌, IfOk, OnOk, string_bytes, []};
 ghost use Rattle.vx_model.specs.Size.{size, sizes};
 ghost use Rattle.vx_model.specs.Tree.{of_list};
 ghost use Rattle.vx_document.specs.Listing.{deeper, listing, listings, sizes_line};
@@ -9,7 +9,7 @@ mod line;
 
 use line::push_line;
 use std::alloc::{AllocError, Global};
-use vx_array::{ArrayRef, Arrays, Node};
+use vx_array::{ArrayRef, Arrays, Node, Patches};
 
 // Two spaces more.
 fn deeper(alloc: Global, indent: &str) -> Result<String, AllocError>
@@ -42,25 +42,48 @@ fn push_tree(
             push_tree(alloc, text, next.as_str(), child)
         }
         Node::BitPacked(_, _, _, _, _, patches, _) => match patches {
-            Some(patches) => {
-                let next = deeper(alloc, indent)?;
-                push_tree(alloc, text, next.as_str(), patches.indices())?;
-                push_tree(alloc, text, next.as_str(), patches.values())
-            }
+            Some(patches) => push_patches(alloc, text, indent, patches),
             None => Ok(()),
         },
-        Node::Dict(first, second) | Node::List(first, second, _, _) => {
+        Node::Sparse(patches, _) => push_patches(alloc, text, indent, patches),
+        Node::Dict(first, second)
+        | Node::List(first, second, _, _)
+        | Node::RunEnd(first, second)
+        | Node::Delta(first, second, _, _, _) => {
             let next = deeper(alloc, indent)?;
             push_tree(alloc, text, next.as_str(), first)?;
             push_tree(alloc, text, next.as_str(), second)
+        }
+        Node::Rle(values, indices, offsets, _) => {
+            let next = deeper(alloc, indent)?;
+            push_tree(alloc, text, next.as_str(), values)?;
+            push_tree(alloc, text, next.as_str(), indices)?;
+            push_tree(alloc, text, next.as_str(), offsets)
         }
         Node::Struct(_, fields, _, _, _) => {
             let next = deeper(alloc, indent)?;
             push_trees(alloc, text, next.as_str(), fields)
         }
         Node::Bool(_, _, _) | Node::Primitive(_, _, _) | Node::VarBinView(_, _, _) => Ok(()),
-        Node::Constant(_, _) | Node::Null(_) => Ok(()),
+        Node::Constant(_, _) | Node::Null(_) | Node::Sequence(_, _, _, _, _) => Ok(()),
     }
+}
+
+// Adds the deeper listings of the indices and the values of patches.
+#[cycle(push)]
+fn push_patches(
+    alloc: Global,
+    text: &mut String,
+    indent: &str,
+    patches: &Patches,
+) -> Result<(), AllocError>
+    requires { size patches.now.indices + size patches.now.values < 2 ^ 128 }
+    ensures { OnOk result (string_bytes text.new
+        ≡ string_bytes text.old ++ listing (deeper indent.now) patches.now.indices ++ listing (deeper indent.now) patches.now.values) }
+{
+    let next = deeper(alloc, indent)?;
+    push_tree(alloc, text, next.as_str(), patches.indices())?;
+    push_tree(alloc, text, next.as_str(), patches.values())
 }
 
 // Adds the listings of several trees, one after the other.

@@ -1,5 +1,5 @@
 -- Worked values of joined texts, counted by hand, so that a wrong rule in the definitions does not check.
-use Rattle.std.specs.Prelude.{◌≡◌, List, [], ◌∷◌, map, true, false, Some, None, codes, pos, refl}
+use Rattle.std.specs.Prelude.{◌≡◌, [], ◌∷◌, map, true, false, Some, None, codes, pos, refl}
 use Rattle.vx_base.specs.declared.ptype.PType.TheVariants.{U64}
 use Rattle.vx_base.specs.declared.dtype.Nullability.TheVariants.{NonNullable, Nullable}
 use Rattle.vx_base.specs.Packed.{bytes_in}
@@ -9,7 +9,7 @@ use Rattle.vx_model.specs.Column.{Column, column, column_of}
 use Rattle.vx_model.specs.Plain.{plain}
 use Rattle.vx_model.specs.Site.{fresh}
 use Rattle.vx_model.specs.Size.{size}
-use Rattle.vx_model.specs.Tree.{Tree, primitive, var_bin}
+use Rattle.vx_model.specs.Tree.{Tree, sequence, var_bin}
 use Rattle.vx_scheme.specs.Meaning.{parts}
 use Rattle.vx_schemes.specs.Widths.{first_least, widths_of}
 use Rattle.vx_compressor.specs.Cascade.{leaf_tree}
@@ -43,16 +43,16 @@ dozens = column (types.utf8 NonNullable) (map (λ n. bytes (n ∷ codes " dozen 
 abbrev tree_by : Column → Tree
 tree_by c = leaf_tree (record { schemes = with_joined_texts; words = 0 ∷ [] }) c fresh
 
--- nine offsets of 8 bytes and 8 bytes more, for 8 views of 16; packed the offsets would take a block of 512
-pub letters_are_joined : tree_by letters ≡ var_bin (primitive U64 (map pos (0 ∷ 1 ∷ 2 ∷ 3 ∷ 4 ∷ 5 ∷ 6 ∷ 7 ∷ 8 ∷ [])) None NonNullable) (codes "abcdefgh") None (types.utf8 NonNullable)
+-- nine offsets of 8 bytes and 8 bytes more, for 8 views of 16; of the whole column the offsets are a sequence, and take none
+pub letters_are_joined : tree_by letters ≡ var_bin (sequence U64 NonNullable (pos 0) (pos 1) 9) (codes "abcdefgh") None (types.utf8 NonNullable)
 unfolding first_least widths_of bytes_in lib.Count.count_leading_zeros
 letters_are_joined = refl
 
--- 72 and 96 bytes are no fewer than 128
+-- the trial is without sequences: 72 and 96 bytes are no fewer than 128
 pub dozens_stay_plain : tree_by dozens ≡ plain dozens
 unfolding first_least widths_of bytes_in lib.Count.count_leading_zeros
 dozens_stay_plain = refl
 
-pub sizes : (size (tree_by letters) ≡ 80) × (size (plain letters) ≡ 128) × (size (plain dozens) ≡ 128)
+pub sizes : (size (tree_by letters) ≡ 8) × (size (plain letters) ≡ 128) × (size (plain dozens) ≡ 128)
 unfolding first_least widths_of bytes_in lib.Count.count_leading_zeros
 sizes = (refl, refl, refl)

@@ -1,6 +1,6 @@
 -- Worked values of quick packing, counted by hand, so that a wrong rule in the definitions does not check.
 use Rattle.std.specs.Prelude.{◌≡◌, ℕ, ℤ, List, [], ◌∷◌, ◌++◌, replicate, Option, Some, option_map, codes, pos, negsuc, refl}
-use Rattle.vx_base.specs.declared.ptype.PType.TheVariants.{U8, I8, I32}
+use Rattle.vx_base.specs.declared.ptype.PType.TheVariants.{U8, U16, I8, I32}
 use Rattle.vx_base.specs.declared.dtype.Nullability.TheVariants.{NonNullable, Nullable}
 use Rattle.vx_base.specs.Packed.{bytes_in}
 use Rattle.vx_base.specs.PlainType as types
@@ -49,12 +49,12 @@ pub frame_greater : chosen (column (types.primitive U8 NonNullable) (int (pos 6)
 unfolding first_least widths_of bytes_in lib.Count.count_leading_zeros
 frame_greater = refl
 
--- twelve zeros and 7: 13 bytes become 3 by a patch, more than 8 by 3 digits
-pub trial_greater : chosen (column (types.primitive U8 NonNullable) (replicate 12 (int (pos 0)) ++ int (pos 7) ∷ [])) ≡ Some (codes "vortex.int.bitpacking")
+-- two nulls, 200 and three zeros: 13 bytes become 5 by a patch, more than 16 by 8 digits
+pub trial_greater : chosen (column (types.primitive U16 Nullable) (null ∷ null ∷ int (pos 200) ∷ replicate 3 (int (pos 0)))) ≡ Some (codes "vortex.int.bitpacking")
 unfolding first_least widths_of bytes_in lib.Count.count_leading_zeros
 trial_greater = refl
 
--- a null, 3 and nineteen zeros: 24 bytes become 6, as 8 by 2 digits: the verdict is judged before the trial, so it stands
-pub verdict_first : chosen (column (types.primitive U8 Nullable) (null ∷ int (pos 3) ∷ replicate 19 (int (pos 0)))) ≡ Some (codes "example.int.quickpacking")
+-- five nulls, 15 and five zeros: 24 bytes become 6, as 16 by 4 digits: the verdict is judged before the trial, so it stands
+pub verdict_first : chosen (column (types.primitive U16 Nullable) (replicate 5 null ++ int (pos 15) ∷ replicate 5 (int (pos 0)))) ≡ Some (codes "example.int.quickpacking")
 unfolding first_least widths_of bytes_in lib.Count.count_leading_zeros
 verdict_first = refl

@@ -10,7 +10,7 @@ use Rattle.vx_model.specs.Column.{Column, column, column_of}
 use Rattle.vx_model.specs.Plain.{plain}
 use Rattle.vx_model.specs.Site.{fresh}
 use Rattle.vx_model.specs.Size.{size}
-use Rattle.vx_model.specs.Tree.{Tree, primitive, frame_of_reference, dict}
+use Rattle.vx_model.specs.Tree.{Tree, primitive, frame_of_reference, dict, sequence}
 use Rattle.vx_scheme.specs.Meaning.{Meaning, parts}
 use Rattle.vx_schemes.specs.Widths.{first_least, widths_of}
 use Rattle.vx_btrblocks.specs.Shipped.{shipped_schemes}
@@ -43,13 +43,14 @@ first_frame_stands = (refl, refl)
 abbrev tree_by : List Meaning → Tree
 tree_by schemes = leaf_tree (record { schemes = schemes; words = 0 ∷ [] }) thousands fresh
 
--- packed at width 2 the differences take a block of 256 bytes, and plain they take 16; by a dictionary of 0, 1 and 2 all take 8 + 6
+-- packed at width 2 the differences take a block of 256 bytes, and plain they take 16; by a dictionary the codes take 8, and the
+-- values 0, 1 and 2 are a sequence
 pub dictionary_in_frame : tree_by with_span_frames
-    ≡ frame_of_reference (dict (primitive U8 (map pos (0 ∷ 1 ∷ 2 ∷ 0 ∷ 1 ∷ 2 ∷ 1 ∷ 2 ∷ [])) None NonNullable) (primitive U16 (map pos (0 ∷ 1 ∷ 2 ∷ [])) None NonNullable))
+    ≡ frame_of_reference (dict (primitive U8 (map pos (0 ∷ 1 ∷ 2 ∷ 0 ∷ 1 ∷ 2 ∷ 1 ∷ 2 ∷ [])) None NonNullable) (sequence U16 NonNullable (pos 0) (pos 1) 3))
     (scalar (types.primitive U16 NonNullable) (int (pos 1000)))
 unfolding first_least widths_of bytes_in lib.Count.count_leading_zeros
 dictionary_in_frame = refl
 
-pub two_bytes_less : (size (tree_by with_span_frames) ≡ 14) × (size (tree_by shipped_schemes) ≡ 16)
+pub half_the_bytes : (size (tree_by with_span_frames) ≡ 8) × (size (tree_by shipped_schemes) ≡ 16)
 unfolding first_least widths_of bytes_in lib.Count.count_leading_zeros
-two_bytes_less = (refl, refl)
+half_the_bytes = (refl, refl)

@@ -1,23 +1,21 @@
 -- What the scheme of joined texts means, and the list that it stands in.
 use Rattle.std.specs.Prelude.{◌≡◌, ◌≤◌, true, false, List, [], ◌∷◌, codes, length, refl}
-use Rattle.std.proofs.Common.{◌+◌, ◌<◌, ◌^◌, ◌∙◌, map, ap, arith}
+use Rattle.std.proofs.Common.{◌+◌, arith}
 use Rattle.std.proofs.lemmas.List.{length-map}
 use Rattle.vx_base.specs.declared.array_id.ArrayId.TheVariants.{VarBin}
 use Rattle.vx_base.specs.IdNumber.{same_id}
 use Rattle.vx_base.specs.PlainType.{PlainType, is_text, is_bytes}
 use Rattle.vx_base.specs.PlainType as types
 use Rattle.vx_base.specs.PlainValue.{bytes_or_empty}
-use Rattle.vx_model.specs.Column.{Column, IsColumn, column_of}
+use Rattle.vx_model.specs.Column.{Column}
 use Rattle.vx_model.specs.Nested.{joined}
 use Rattle.vx_model.specs.Offsets.{offsets_column, byte_rows_of}
 use Rattle.vx_model.specs.Plain.{validity}
 use Rattle.vx_model.specs.Tree.{Tree, var_bin}
-use Rattle.vx_model.specs.WellFormed.{WellFormed}
 use Rattle.vx_model.proofs.JoinedLemmas.{length-offset_values}
 use Rattle.vx_model.proofs.JoinedTreeLemmas.{joined_well_formed, column_of-joined}
 use Rattle.vx_model.proofs.OffsetColumnLemmas.{offsets_fit, few_bytes}
-use Rattle.vx_scheme.specs.Asked.{most_rows}
-use Rattle.vx_scheme.specs.Lawful.{IsPart, Lawful}
+use Rattle.vx_scheme.specs.Lawful.{Lawful}
 use Rattle.vx_scheme.specs.Meaning.{Meaning}
 use Rattle.vx_scheme.specs.declared.estimate.CompressionEstimate.TheVariants.{Deferred}
 use Rattle.vx_scheme.specs.declared.estimate.DeferredEstimate.TheVariants.{Sample}

@@ -12,7 +12,7 @@ use std::alloc::Global;
 use std::marker::Brand;
 use std::sync::ledger::{Blank, Ledger};
 use vx_array::{ArrayRef, Arrays};
-use vx_base::{ExecutionCtx, PType, Steps, VortexError, VortexResult};
+use vx_base::{ExecutionCtx, Fraction, PType, Steps, VortexError, VortexResult};
 use vx_scheme::{
     ArrayAndStats, CompressionEstimate, CompressorContext, DeferredEstimate, EstimateVerdict,
     Scheme, Split,
@@ -68,6 +68,7 @@ fn begins_with_a_value(array: &ArrayRef) -> bool
 fn answers<S: Scheme>(
     scheme: &S,
     site: &CompressorContext,
+    threshold: Option<Fraction>,
     column: &mut ArrayAndStats,
     ctx: &mut ExecutionCtx,
 ) -> VortexResult<(Told, Told)>
@@ -79,7 +80,7 @@ fn answers<S: Scheme>(
         return Err(VortexError::MismatchedTypes);
     }
     let estimate = scheme.expected_compression_ratio(column, site, ctx)?;
-    let verdict = scheme.resolve_estimate(column, None, site, ctx)?;
+    let verdict = scheme.resolve_estimate(column, threshold, site, ctx)?;
     Ok((told_by_estimate(estimate), told_by_verdict(verdict)))
 }
 
@@ -92,9 +93,21 @@ pub fn told_of<S: Scheme>(
     ptype: PType,
     rows: &[Option<i128>],
 ) -> VortexResult<(Told, Told)> {
+    told_above(alloc, scheme, site, None, ptype, rows)
+}
+
+/// The same where the verdict is asked for with a threshold.
+pub fn told_above<S: Scheme>(
+    alloc: Global,
+    scheme: &S,
+    site: &CompressorContext,
+    threshold: Option<Fraction>,
+    ptype: PType,
+    rows: &[Option<i128>],
+) -> VortexResult<(Told, Told)> {
     let mut ctx = context(alloc)?;
     let mut column = bundle(alloc, ptype, rows)?;
-    answers(scheme, site, &mut column, &mut ctx)
+    answers(scheme, site, threshold, &mut column, &mut ctx)
 }
 
 // The number of parts of a column, and its tree by the scheme with the parts as they are.

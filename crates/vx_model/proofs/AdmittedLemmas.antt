@@ -1,10 +1,17 @@
 -- Nodes of well-formed trees are admitted by their constructors, which keep their validity.
-use Rattle.std.proofs.Common.{◌≡◌, ℕ, true, List, None, Some, refl}
+use Rattle.std.proofs.Common.{◌≡◌, ◌∙◌, ◌*◌, ℕ, ℤ, ap, sym, length, true, List, None, Some, refl}
+use Rattle.std.specs.Prelude.{◌==◌}
 use Rattle.std.proofs.lemmas.Bool.{eq-eqb}
 use Rattle.vx_base.specs.declared.dtype.Nullability.{Nullability}
-use Rattle.vx_model.specs.Refusals.{validity_allowed, kept, structure_refusal, list_refusal, fixed_size_list_refusal}
-use Rattle.vx_model.specs.Tree.{Tree, Trees, Validity, structure, list, fixed_size_list}
-use Rattle.vx_model.specs.WellFormed.{WellFormed, IsValidityOf}
+use Rattle.vx_base.specs.declared.ptype.PType.{PType}
+use Rattle.vx_base.specs.PlainScalar.{PlainScalar}
+use Rattle.vx_base.specs.PlainType.{is_integer, is_nullable, stored_type}
+use Rattle.vx_base.specs.Storable.{same_refl}
+use Rattle.vx_model.specs.Refusals.{validity_allowed, kept, structure_refusal, list_refusal, fixed_size_list_refusal, patches_refusal, sparse_refusal, run_end_refusal, rle_refusal, sequence_refusal, delta_refusal}
+use Rattle.vx_model.specs.Tree.{Tree, Trees, Validity, PlainPatches, patches, structure, list, fixed_size_list, sparse, run_end, rle, sequence, delta}
+use Rattle.vx_model.specs.WellFormed.{WellFormed, WellFormedPatches, IsValidityOf}
+use Rattle.vx_model.specs.TreeType.{tree_type}
+use Rattle.vx_model.specs.Rows.{rows, block_rows}
 use Rattle.vx_model.proofs.MadeLemmas.{has_length}
 
 -- ---- validity that is well formed
@@ -46,3 +53,59 @@ fixed_size_list-admitted elements size len valid n w =
     let bits = has_length valid len n own.validity in
     let allowed = allowed-same valid len n own.validity in
     rw (lengths, bits, allowed) refl
+
+-- ---- patches, and the nodes whose rows stand for others
+
+pub patches-admitted : (p : PlainPatches) → WellFormedPatches p → patches_refusal p ≡ None
+patches-admitted p w =
+    let own = w.2 in
+    let typed = own.indices_type in
+    let not_null = own.not_null in
+    let lengths = eq-eqb _ _ own.lengths in
+    let ascending = own.ascending in
+    rw (typed, not_null, lengths, ascending) refl
+
+pub sparse-admitted : (len offset : ℕ) (indices values : Tree) (fill : PlainScalar) → WellFormed (sparse len offset indices values fill) → sparse_refusal (patches len offset indices values) fill ≡ None
+sparse-admitted len offset indices values fill w = rw (same_refl stored_type (tree_type values) fill.dtype w.3.values_type) refl
+
+pub run_end-admitted : (ends values : Tree) → WellFormed (run_end ends values) → run_end_refusal ends values ≡ None
+run_end-admitted ends values w =
+    let own = w.2 in
+    let of_ends = own.ends_type in
+    let not_null = own.not_null in
+    let of_values = own.values_type in
+    let lengths = eq-eqb _ _ own.lengths in
+    let rising = own.rising in
+    rw (of_ends, not_null, of_values, lengths, rising) refl
+
+pub rle-admitted : (values indices offsets : Tree) (len : ℕ) → WellFormed (rle values indices offsets len) → rle_refusal values indices offsets len ≡ None
+rle-admitted values indices offsets len w =
+    let own = w.3 in
+    let of_values = own.values_type in
+    let of_indices = own.indices_type in
+    let of_offsets = own.offsets_type in
+    let indices_not_null = own.indices_not_null in
+    let offsets_not_null = own.offsets_not_null in
+    let indices_length = eq-eqb _ _ own.indices_length in
+    let offsets_length = eq-eqb _ _ own.offsets_length in
+    let places = own.places in
+    rw (of_values, of_indices, indices_not_null, of_offsets, offsets_not_null, indices_length, offsets_length, places) refl
+
+pub sequence-admitted : (p : PType) (n : Nullability) (first step : ℤ) (len : ℕ) → WellFormed (sequence p n first step len) → sequence_refusal p first step len ≡ None
+sequence-admitted p n first step len w =
+    let own = w.0 in
+    let step_held = own.step_held in
+    let rows_held = own.rows_held in
+    rw (step_held, rows_held) refl
+
+pub delta-admitted : (bases deltas : Tree) (len : ℕ) (valid : Validity) (n : Nullability) → WellFormed (delta bases deltas len valid n) → delta_refusal bases deltas len valid n ≡ None
+delta-admitted bases deltas len valid n w =
+    let own = w.2 in
+    let integers = ap is_integer own.bases_type in
+    let not_null = ap is_nullable own.bases_type in
+    let typed = same_refl stored_type (tree_type deltas) (tree_type bases) own.deltas_type in
+    let bases_length = eq-eqb _ _ own.bases_length in
+    let deltas_length : (length (rows deltas) == block_rows * length (rows bases)) ≡ true = eq-eqb _ _ (own.deltas_length ∙ ap (λ k. block_rows * k) (sym own.bases_length)) in
+    let bits = has_length valid len n own.validity in
+    let allowed = allowed-same valid len n own.validity in
+    rw (integers, not_null, typed, deltas_length, bases_length, bits, allowed) refl

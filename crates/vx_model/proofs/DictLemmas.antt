@@ -39,7 +39,7 @@ pub record IsCode (values : List PlainValue) (z : ℤ) : Type 0 where
   pub is : z ≡ pos place
   pub within : place < length values
 
-code_is : (values : List PlainValue) (z : ℤ) → is_place (length values) (int z) ≡ true → IsCode values z
+pub code_is : (values : List PlainValue) (z : ℤ) → is_place (length values) (int z) ≡ true → IsCode values z
 code_is values (pos k) h = record { place = k; is = refl; within = ltb-true _ _ h }
 code_is values (negsuc k) h = absurd cc
 

@@ -1,17 +1,17 @@
 -- The counts of a tree's rows are within its extents.
-use Rattle.std.proofs.Common.{◌≡◌, ◌≤◌, ◌+◌, ◌-◌, ◌++◌, ◌∙◌, ℕ, Bool, true, List, [], ◌∷◌, map, length, Some, None, refl, sym, ap, subst, arith}
-use Rattle.std.specs.Prelude.{◌==◌}
+use Rattle.std.proofs.Common.{◌≡◌, ◌≤◌, ◌+◌, ◌-◌, ◌++◌, ◌∙◌, ℕ, pos, Bool, true, List, [], ◌∷◌, map, length, Some, None, refl, sym, ap, subst, arith}
+use Rattle.std.specs.Prelude.{◌==◌, ◌+ℤ◌, ◌*ℤ◌}
 use Rattle.std.proofs.lemmas.Bool.{and_parts, eqb-true, leb-true}
 use Rattle.std.proofs.lemmas.List.{length-map, length-replicate}
 use Rattle.std.proofs.lemmas.List.FromFn.{length-map-range_with_len}
 use Rattle.vx_base.specs.declared.dtype.Nullability.{Nullability}
-use Rattle.vx_base.specs.PlainType.{PlainType, PlainFields, boolean, primitive, utf8, binary, timestamp, is_flat, is_integer, with_nullability}
+use Rattle.vx_base.specs.PlainType.{PlainType, PlainFields, boolean, primitive, utf8, binary, timestamp, is_flat, is_integer, integer_of, with_nullability}
 use Rattle.vx_base.specs.PlainType as types
 use Rattle.vx_base.specs.PlainScalar.{fits}
 use Rattle.vx_base.specs.PlainValue.{PlainValue, PlainValues, null, truth, int, bytes, items, truth_or_false, whole_or_zero, bytes_or_empty, items_or_empty}
-use Rattle.vx_model.specs.Tree.{Tree, Trees, Validity, bool, var_bin_view, var_bin, constant, masked, bit_packed, bit_packed_with, frame_of_reference, zig_zag, dict, nulls, structure, list, fixed_size_list, list_of}
+use Rattle.vx_model.specs.Tree.{Tree, Trees, Validity, bool, var_bin_view, var_bin, constant, masked, bit_packed, bit_packed_with, frame_of_reference, zig_zag, dict, nulls, structure, list, fixed_size_list, list_of, sparse, run_end, rle, sequence, delta}
 use Rattle.vx_model.specs.Tree as trees
-use Rattle.vx_model.specs.Rows.{rows, masked_rows, valid_rows, below, patched, packed_at, moved, unzigzagged, looked_up, cut_at, parts_of, list_value, each_before, field_rows}
+use Rattle.vx_model.specs.Rows.{rows, masked_rows, valid_rows, below, patched, packed_at, moved, unzigzagged, looked_up, cut_at, parts_of, list_value, each_before, field_rows, offset_at, run_value, rle_place, summed_up}
 use Rattle.vx_model.specs.Nested.{joined, first_within, rest_within}
 use Rattle.vx_model.specs.Nested as nested
 use Rattle.vx_model.specs.TreeType.{tree_type, field_types}
@@ -28,6 +28,7 @@ use Rattle.vx_model.proofs.LeastLemmas.{valid-least, copies-within}
 use Rattle.vx_model.proofs.ListLemmas.{lists-fit, list_rows-values}
 use Rattle.vx_model.proofs.MadeLemmas.{rows_fit}
 use Rattle.vx_model.proofs.PartLemmas.{cut_at-passes, parts_of-passes, parts_of-sized, length-parts_of, joined-cut_at, joined-parts_of}
+use Rattle.vx_model.proofs.SparseCountLemmas.{sparse-within}
 use Rattle.vx_model.proofs.StructLemmas.{length-field_rows, field_rows-fit, items-fit, first-each_before, rest-each_before, struct_rows-items}
 use Rattle.vx_model.proofs.VarBinLemmas.{length-cut_at}
 
@@ -71,6 +72,9 @@ counts-items t valid item xs len f most =
 -- rows by their number, some of them null
 counts-below : (valid : Validity) (f : ℕ → PlainValue) (len : ℕ) → length (valid_rows valid (below f len)) ≤ len
 counts-below valid f len = let fewer = length-valid_rows-le valid (below f len) in omega (arith, length-map-range_with_len f 0 len)
+
+counts-numbered : (t : PlainType) (f : ℕ → PlainValue) (len : ℕ) → is_integer t ≡ true → AreWithin (counts t (below f len)) (len ∷ [])
+counts-numbered t f len i = subst (λ ns. AreWithin ns (len ∷ [])) (sym (counts-flat t (below f len) (integer-flat t i))) (counts-below None f len, tt)
 
 -- ---- every tree
 
@@ -122,6 +126,12 @@ mutual
       (valid-least (types.fixed_size_list t size n) valid (map list_value parts)
       (fixed_lists-fit t size n parts (parts_of-sized size len (rows elements) w.1.lengths) (parts_of-passes (fits t) size len (rows elements) (rows_fit elements w.0))))
       (omega arith, subst (λ vs. AreWithin (counts t vs) (extents elements)) (sym whole) (counts_within_extents elements w.0))
+  counts_within_extents (sparse len offset indices values fill) w =
+      sparse-within (rows indices) (rows values) fill len offset (extents values) w.2.ascending w.2.lengths (subst (λ t. AreWithin (counts t (rows values)) (extents values)) w.3.values_type (counts_within_extents values w.1))
+  counts_within_extents (run_end ends values) w = counts-numbered (tree_type values) (run_value (rows ends) (rows values)) (offset_at (rows ends) (length (rows ends) - 1)) w.2.values_type
+  counts_within_extents (rle values indices offsets len) w = counts-numbered (tree_type values) (λ i. looked_up (rows values) (rle_place (rows offsets) (rows indices) i)) len w.3.values_type
+  counts_within_extents (sequence p n first step len) w = (counts-below None (λ i. int (first +ℤ pos i *ℤ step)) len, tt)
+  counts_within_extents (delta bases deltas len valid n) w = (counts-below valid (summed_up (integer_of (tree_type bases)) (rows bases) (rows deltas)) len, tt)
 
   fields_within_extents : (names : List (List ℕ)) (fields : Trees) (len : ℕ) → length names ≡ length (list_of fields) → all_have_rows len fields ≡ true → AllWellFormed fields
       → AreWithin (field_counts (field_types names fields) (field_rows fields len)) (all_extents fields)

@@ -6,6 +6,7 @@ pub mod CascadeLemmas
 pub mod CellLemmas
 pub mod CountLemmas
 pub mod DecodeLemmas
+pub mod DeltaLemmas
 pub mod DictDecodeLemmas
 pub mod DictLemmas
 pub mod EachIntLemmas
@@ -44,8 +45,14 @@ pub mod PlainAdmittedLemmas
 pub mod PlainLemmas
 pub mod PlainPartLemmas
 pub mod PrimitiveLemmas
+pub mod RleLemmas
 pub mod RowLemmas
+pub mod RunEndLemmas
+pub mod RunFacts
+pub mod SequenceLemmas
 pub mod SizeLemmas
+pub mod SparseCountLemmas
+pub mod SparseLemmas
 pub mod StandardFacts
 pub mod StructLemmas
 pub mod TakenApartLemmas

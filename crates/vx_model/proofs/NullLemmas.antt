@@ -10,7 +10,7 @@ use Rattle.vx_base.specs.PlainScalar.{PlainScalar}
 use Rattle.vx_base.specs.PlainType.{PlainType}
 use Rattle.vx_base.specs.PlainType as types
 use Rattle.vx_base.specs.PlainValue.{PlainValue, int, is_null}
-use Rattle.vx_model.specs.Tree.{Tree, Validity, PlainPacked, bool, primitive, var_bin_view, var_bin, timestamp, constant, masked, bit_packed, bit_packed_with, frame_of_reference, zig_zag, dict, structure, list, fixed_size_list}
+use Rattle.vx_model.specs.Tree.{Tree, Validity, PlainPacked, bool, primitive, var_bin_view, var_bin, timestamp, constant, masked, bit_packed, bit_packed_with, frame_of_reference, zig_zag, dict, structure, list, fixed_size_list, sparse, run_end, rle, sequence, delta}
 use Rattle.vx_model.specs.Tree as trees
 use Rattle.vx_model.specs.Decoded.{zeroed_by, zero_beneath_by, is_zero}
 use Rattle.vx_model.specs.Plain.{IsPlain, plain_of}
@@ -103,4 +103,19 @@ plain-dict codes values h = let e = root_of (dict codes values) h in cc
 pub plain-var_bin : (offsets : Tree) (bs : List ℕ) (valid : Validity) (t : PlainType) → IsPlain (var_bin offsets bs valid t) → ⊥
 plain-var_bin offsets bs valid t h = let e = root_of (var_bin offsets bs valid t) h in cc
 
-pub ruleset plains = (plain-constant, plain-masked, plain-bit_packed, plain-bit_packed_with, plain-frame_of_reference, plain-zig_zag, plain-dict, plain-var_bin)
+pub plain-sparse : (len offset : ℕ) (indices values : Tree) (fill : PlainScalar) → IsPlain (sparse len offset indices values fill) → ⊥
+plain-sparse len offset indices values fill h = let e = root_of (sparse len offset indices values fill) h in cc
+
+pub plain-run_end : (ends values : Tree) → IsPlain (run_end ends values) → ⊥
+plain-run_end ends values h = let e = root_of (run_end ends values) h in cc
+
+pub plain-rle : (values indices offsets : Tree) (len : ℕ) → IsPlain (rle values indices offsets len) → ⊥
+plain-rle values indices offsets len h = let e = root_of (rle values indices offsets len) h in cc
+
+pub plain-sequence : (p : PType) (n : Nullability) (first step : ℤ) (len : ℕ) → IsPlain (sequence p n first step len) → ⊥
+plain-sequence p n first step len h = let e = root_of (sequence p n first step len) h in cc
+
+pub plain-delta : (bases deltas : Tree) (len : ℕ) (valid : Validity) (n : Nullability) → IsPlain (delta bases deltas len valid n) → ⊥
+plain-delta bases deltas len valid n h = let e = root_of (delta bases deltas len valid n) h in cc
+
+pub ruleset plains = (plain-constant, plain-masked, plain-bit_packed, plain-bit_packed_with, plain-frame_of_reference, plain-zig_zag, plain-dict, plain-var_bin, plain-sparse, plain-run_end, plain-rle, plain-sequence, plain-delta)

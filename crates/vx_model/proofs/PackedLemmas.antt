@@ -36,6 +36,14 @@ length-below f n = length-map-range_with_len f 0 n
 pub row_at-below : (f : ℕ → PlainValue) (n i : ℕ) → i < n → row_at (below f n) i ≡ f i
 row_at-below f n i h = get_or-map-range_with_len f 0 n i i null h (omega arith)
 
+-- what each passes, all pass
+pub below-passes : (p : PlainValue → Bool) (f : ℕ → PlainValue) (n : ℕ) → ((i : ℕ) → i < n → p (f i) ≡ true) → list_all p (below f n) ≡ true
+below-passes p f n h = from_row 0 n (λ i l. h i (omega arith))
+  where
+    from_row : (start count : ℕ) → ((i : ℕ) → i < start + count → p (f i) ≡ true) → list_all p (map f (range_with_len start count)) ≡ true
+    from_row start zero h = refl
+    from_row start (suc count) h = and_from _ _ (h start (omega arith)) (from_row (start + 1) count (λ i l. h i (omega arith)))
+
 pub bits_of_below : (valid : Validity) (f : ℕ → PlainValue) (len : ℕ) (n : Nullability) → IsValidityOf valid len n → IsValidityOf valid (length (below f len)) n
 bits_of_below valid f len n h = rw length-below h
 
@@ -84,11 +92,7 @@ packed_fits k n i h =
     lt-ltb _ _ (omega (arith, packed_row-lt k.bytes k.width i))
 
 module _ (p : PlainValue → Bool) where
-  each_below : (f : ℕ → PlainValue) (start n : ℕ) → ((i : ℕ) → p (f i) ≡ true) → list_all p (map f (range_with_len start n)) ≡ true
-  each_below f start zero h = refl
-  each_below f start (suc n) h = and_from _ _ (h start) (each_below f (start + 1) n h)
-
-  patched_passes : (is rs : List PlainValue) (fill : PlainValue) (n : ℕ) → list_all p rs ≡ true → p fill ≡ true → p (patched is rs fill n) ≡ true
+  pub patched_passes : (is rs : List PlainValue) (fill : PlainValue) (n : ℕ) → list_all p rs ≡ true → p fill ≡ true → p (patched is rs fill n) ≡ true
   patched_passes [] rs fill n h e = e
   patched_passes (i ∷ is) [] fill n h e = e
   patched_passes (i ∷ is) (r ∷ rs) fill n h e = let b = and_parts _ _ h in pick (is_index i n) b.0 (patched_passes is rs fill n b.1 e)
@@ -120,14 +124,14 @@ module _ (k : PlainPacked) (held : list_all (λ byte. nat_lt byte 256) k.bytes �
 
   pub packed_made : WellFormed (bit_packed (kept_packed k))
   packed_made =
-      (is_packed, valid_fit (kept k.valid) (types.primitive k.ptype k.nullability) k.len (below (packed_at k) k.len) is_packed.validity (each_below (fits (types.primitive k.ptype k.nullability)) (packed_at k) 0 k.len (λ i. packed_fits k k.nullability i narrow)))
+      (is_packed, valid_fit (kept k.valid) (types.primitive k.ptype k.nullability) k.len (below (packed_at k) k.len) is_packed.validity (below-passes (fits (types.primitive k.ptype k.nullability)) (packed_at k) k.len (λ i l. packed_fits k k.nullability i narrow)))
 
   pub packed_with_made : (p : PlainPatches) → p.array_len ≡ k.len → tree_type p.values ≡ types.primitive k.ptype NonNullable → WellFormedPatches p → WellFormed (packed_of (kept_packed k) (Some p))
   packed_with_made p lengths values_type w =
       let those : list_all (fits (types.primitive k.ptype k.nullability)) (rows p.values) ≡ true = wider_fits k.ptype k.nullability (rows p.values) (subst (λ t. list_all (fits t) (rows p.values) ≡ true) values_type (rows_fit p.values w.1)) in
       let each : list_all (fits (types.primitive k.ptype k.nullability)) (below (row_of k p.array_len p.offset p.indices p.values) k.len) ≡ true =
-      each_below (fits (types.primitive k.ptype k.nullability)) (row_of k p.array_len p.offset p.indices p.values) 0 k.len
-      (λ i. patched_passes (fits (types.primitive k.ptype k.nullability)) (rows p.indices) (rows p.values) (packed_at k i) (p.offset + i) those (packed_fits k k.nullability i narrow)) in (
+      below-passes (fits (types.primitive k.ptype k.nullability)) (row_of k p.array_len p.offset p.indices p.values) k.len
+      (λ i l. patched_passes (fits (types.primitive k.ptype k.nullability)) (rows p.indices) (rows p.values) (packed_at k i) (p.offset + i) those (packed_fits k k.nullability i narrow)) in (
         w.0,
         w.1,
         w.2,

@@ -129,7 +129,8 @@ pub none_below-next : (low high : ℕ) (is : List PlainValue) (n i k : ℕ) → 
 none_below-next low high is n i k e h f l =
     below_more (λ j. is_index (row_at is j) n ≡ false) i (earlier low high is n i k e h f (omega arith)) (not_index-of (row_at is i) n k f (λ r. omega arith))
 
-above_all : (low high : ℕ) (is : List PlainValue) (n : ℕ) → ascend low high is ≡ true → n < low → NoneFrom is n 0
+-- none is below the first
+pub above_all : (low high : ℕ) (is : List PlainValue) (n : ℕ) → ascend low high is ≡ true → n < low → NoneFrom is n 0
 above_all low high [] n e l zero m = refl
 above_all low high [] n e l (suc j) m = refl
 above_all low high (int (pos x) ∷ is) n e l zero m = let p = ascend_parts low high x is e in ne_eqb x n (λ r. omega arith)

@@ -1,13 +1,14 @@
 -- How many rows a column and each nested column have, and how many a tree as it is given.
-use Rattle.std.specs.Prelude.{ℕ, ◌*◌, ◌^◌, ◌-◌, Bool, List, [], ◌∷◌, ◌++◌, map, length, nat_le}
+use Rattle.std.specs.Prelude.{ℕ, ◌+◌, ◌*◌, ◌^◌, ◌-◌, Bool, List, [], ◌∷◌, ◌++◌, map, length, nat_le}
 use Rattle.std.specs.List.{list_all}
+use Rattle.vx_base.specs.PlainScalar.{PlainScalar}
 use Rattle.vx_base.specs.PlainType.{PlainType, PlainFields, boolean, primitive, utf8, binary}
 use Rattle.vx_base.specs.PlainType as types
 use Rattle.vx_base.specs.PlainValue.{PlainValue, PlainValues}
-use Rattle.vx_model.specs.Tree.{Tree, Trees, bool, var_bin_view, var_bin, timestamp, constant, masked, bit_packed, bit_packed_with, frame_of_reference, zig_zag, dict, nulls, structure, list, fixed_size_list, none, more}
+use Rattle.vx_model.specs.Tree.{Tree, Trees, bool, var_bin_view, var_bin, timestamp, constant, masked, bit_packed, bit_packed_with, frame_of_reference, zig_zag, dict, nulls, structure, list, fixed_size_list, none, more, sparse, run_end, rle, sequence, delta}
 use Rattle.vx_model.specs.Nested.{first_within, rest_within, struct_rows, elements, fixed_elements}
 use Rattle.vx_model.specs.Tree as trees
-use Rattle.vx_model.specs.Rows.{rows}
+use Rattle.vx_model.specs.Rows.{rows, offset_at}
 
 -- the rows of the column, then of each nested column in the order of the type
 abbrev mutual
@@ -27,7 +28,17 @@ abbrev mutual
   field_counts types.none rows = []
   field_counts (types.more name t fs) rows = counts t (map first_within rows) ++ field_counts fs (map rest_within rows)
 
--- the same of a tree, a constant's value counted once a row
+-- two columns' counts, one behind the other in each nested column
+abbrev pub both : List ℕ → List ℕ → List ℕ
+both [] others = []
+both (count ∷ counts) [] = []
+both (count ∷ counts) (other ∷ others) = (count + other) ∷ both counts others
+
+-- of so many rows with one value
+abbrev pub repeated : ℕ → PlainScalar → List ℕ
+repeated len s = map (λ count. len * count) (counts s.dtype (s.value ∷ []))
+
+-- the same of a tree, a constant's value and a fill counted once a row
 abbrev mutual
   pub extents : Tree → List ℕ
   extents (trees.primitive p xs valid n) = length xs ∷ []
@@ -35,7 +46,7 @@ abbrev mutual
   extents (var_bin_view vs valid t) = length vs ∷ []
   extents (var_bin offsets bs valid t) = (length (rows offsets) - 1) ∷ []
   extents (timestamp storage k) = extents storage
-  extents (constant s len) = map (λ count. len * count) (counts s.dtype (s.value ∷ []))
+  extents (constant s len) = repeated len s
   extents (masked child valid) = extents child
   extents (bit_packed k) = k.len ∷ []
   extents (bit_packed_with k len offset indices values) = k.len ∷ []
@@ -46,6 +57,11 @@ abbrev mutual
   extents (structure names fields len valid n) = len ∷ all_extents fields
   extents (list elements offsets valid n) = (length (rows offsets) - 1) ∷ extents elements
   extents (fixed_size_list elements size len valid n) = len ∷ extents elements
+  extents (sparse len offset indices values fill) = both (extents values) (repeated (len - length (rows values)) fill)
+  extents (run_end ends values) = offset_at (rows ends) (length (rows ends) - 1) ∷ []
+  extents (rle values indices offsets len) = len ∷ []
+  extents (sequence p n first step len) = len ∷ []
+  extents (delta bases deltas len valid n) = len ∷ []
 
   -- of several trees, one after the other
   pub all_extents : Trees → List ℕ

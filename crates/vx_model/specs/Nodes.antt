@@ -2,7 +2,7 @@
 use Rattle.std.specs.Prelude.{List, [], ◌∷◌}
 use Rattle.vx_base.specs.declared.array_id.ArrayId.{ArrayId}
 use Rattle.vx_base.specs.declared.array_id.ArrayId.TheVariants as ids
-use Rattle.vx_model.specs.Tree.{Tree, bool, primitive, var_bin_view, var_bin, timestamp, constant, masked, bit_packed, bit_packed_with, frame_of_reference, zig_zag, dict, nulls, structure, list, fixed_size_list, list_of}
+use Rattle.vx_model.specs.Tree.{Tree, bool, primitive, var_bin_view, var_bin, timestamp, constant, masked, bit_packed, bit_packed_with, frame_of_reference, zig_zag, dict, nulls, structure, list, fixed_size_list, list_of, sparse, run_end, rle, sequence, delta}
 
 -- the encoding of a tree's root
 abbrev pub encoding : Tree → ArrayId
@@ -22,6 +22,11 @@ encoding (nulls len) = ids.Null
 encoding (structure names fields len valid n) = ids.Struct
 encoding (list elements offsets valid n) = ids.List
 encoding (fixed_size_list elements size len valid n) = ids.FixedSizeList
+encoding (sparse len offset indices values fill) = ids.Sparse
+encoding (run_end ends values) = ids.RunEnd
+encoding (rle values indices offsets len) = ids.Rle
+encoding (sequence p n first step len) = ids.Sequence
+encoding (delta bases deltas len valid n) = ids.Delta
 
 -- the trees inside, in their order
 abbrev pub children : Tree → List Tree
@@ -41,3 +46,8 @@ children (nulls len) = []
 children (structure names fields len valid n) = list_of fields
 children (list elements offsets valid n) = elements ∷ offsets ∷ []
 children (fixed_size_list elements size len valid n) = elements ∷ []
+children (sparse len offset indices values fill) = indices ∷ values ∷ []
+children (run_end ends values) = ends ∷ values ∷ []
+children (rle values indices offsets len) = values ∷ indices ∷ offsets ∷ []
+children (sequence p n first step len) = []
+children (delta bases deltas len valid n) = bases ∷ deltas ∷ []

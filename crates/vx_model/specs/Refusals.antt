@@ -1,5 +1,5 @@
 -- When the constructors refuse, in the order of their checks, and what they keep.
-use Rattle.std.specs.Prelude.{ℕ, ◌+◌, ◌*◌, Bool, true, not, ◌&&◌, ◌||◌, ◌==◌, nat_le, if◌then◌else◌, List, length, map, ◌-◌, Option, Some, None}
+use Rattle.std.specs.Prelude.{ℕ, ◌+◌, ◌*◌, ◌^◌, ℤ, pos, ◌+ℤ◌, ◌*ℤ◌, Bool, true, not, ◌&&◌, ◌||◌, ◌==◌, nat_le, if◌then◌else◌, List, length, map, ◌-◌, Option, Some, None}
 use Rattle.std.specs.List.{list_all, list_any}
 use Rattle.vx_base.specs.declared.error.VortexError.{VortexError}
 use Rattle.vx_base.specs.declared.error.VortexError.TheVariants.{MismatchedTypes, LengthMismatch, OutOfBounds, IndicesNotAscending, TooManyRows, ValueTooLong}
@@ -8,14 +8,14 @@ use Rattle.vx_base.specs.declared.ptype.PType.TheVariants.{I64}
 use Rattle.vx_base.specs.declared.dtype.Nullability.{Nullability}
 use Rattle.vx_base.specs.declared.dtype.Nullability.TheVariants.{NonNullable}
 use Rattle.vx_base.specs.Answers.{unless}
-use Rattle.vx_base.specs.Integers.{natural_bits}
-use Rattle.vx_base.specs.Packed.{packed_size}
+use Rattle.vx_base.specs.Integers.{natural_bits, lies_in}
+use Rattle.vx_base.specs.Packed.{packed_size, block_count}
 use Rattle.vx_base.specs.PlainScalar.{PlainScalar, fits}
 use Rattle.vx_base.specs.PlainType.{PlainType, is_nullable, is_flat, is_integer, is_bytes, is_unsigned, allows_null, nullability_of, same_type}
 use Rattle.vx_base.specs.PlainType as types
 use Rattle.vx_base.specs.PlainValue.{is_null, bytes, is_short}
 use Rattle.vx_model.specs.Tree.{Tree, Trees, Validity, PlainPacked, PlainPatches, list_of}
-use Rattle.vx_model.specs.Rows.{rows, valid_rows, cut_at}
+use Rattle.vx_model.specs.Rows.{rows, valid_rows, cut_at, below, block_rows, rle_place}
 use Rattle.vx_model.specs.TreeType.{tree_type}
 use Rattle.vx_model.specs.Extents.{extents_fit}
 use Rattle.vx_model.specs.WellFormed.{ascend, are_offsets, differences_type, is_place, all_have_rows}
@@ -132,6 +132,40 @@ abbrev pub dict_refusal : Tree → Tree → Option VortexError
 dict_refusal codes values =
     unless (is_integer (tree_type codes) && is_flat (tree_type values)) MismatchedTypes
     (unless (list_all (is_place (length (rows values))) (rows codes)) OutOfBounds None)
+
+-- why patches and a fill are no sparse node
+abbrev pub sparse_refusal : PlainPatches → PlainScalar → Option VortexError
+sparse_refusal p fill = unless (same_type (tree_type p.values) fill.dtype) MismatchedTypes None
+
+-- why ends and values are no runs
+abbrev pub run_end_refusal : Tree → Tree → Option VortexError
+run_end_refusal ends values =
+    unless (is_integer (tree_type ends) && (not (is_nullable (tree_type ends)) && is_integer (tree_type values))) MismatchedTypes
+    (unless (length (rows ends) == length (rows values)) LengthMismatch
+    (unless (ascend 1 (2 ^ 64) (rows ends)) OutOfBounds None))
+
+-- whether a type has integers and no null
+abbrev pub is_whole_type : PlainType → Bool
+is_whole_type t = is_integer t && not (is_nullable t)
+
+-- why values, indices and offsets are no blocks of runs
+abbrev pub rle_refusal : Tree → Tree → Tree → ℕ → Option VortexError
+rle_refusal values indices offsets len =
+    unless (is_integer (tree_type values) && (is_whole_type (tree_type indices) && is_whole_type (tree_type offsets))) MismatchedTypes
+    (unless (length (rows indices) == block_rows * block_count len && length (rows offsets) == block_count len) LengthMismatch
+    (unless (list_all (is_place (length (rows values))) (below (rle_place (rows offsets) (rows indices)) len)) OutOfBounds None))
+
+-- why numbers are no sequence
+abbrev pub sequence_refusal : PType → ℤ → ℤ → ℕ → Option VortexError
+sequence_refusal p first step len =
+    unless (lies_in p step && (len == 0 || lies_in p first && lies_in p (first +ℤ pos (len - 1) *ℤ step))) OutOfBounds None
+
+-- why bases and differences are no delta node
+abbrev pub delta_refusal : Tree → Tree → ℕ → Validity → Nullability → Option VortexError
+delta_refusal bases deltas len valid n =
+    unless (is_whole_type (tree_type bases) && same_type (tree_type deltas) (tree_type bases)) MismatchedTypes
+    (unless (length (rows bases) == block_count len && (length (rows deltas) == block_rows * length (rows bases) && validity_length valid len)) LengthMismatch
+    (unless (validity_allowed valid n) MismatchedTypes None))
 
 -- compression refuses a tree with an extent above the limit
 abbrev pub compress_refusal : Tree → Option VortexError

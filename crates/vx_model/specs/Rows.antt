@@ -1,5 +1,5 @@
 -- The rows of a tree, the values that it stands for; the children are decoded first.
-use Rattle.std.specs.Prelude.{ℕ, zero, suc, ◌+◌, ℤ, pos, unsigned_abs, ◌+ℤ◌, ◌-◌, Bool, true, false, ◌==◌, List, [], ◌∷◌, map, Option, None, Some, position, replicate, slice_index_or, unwrap_or, length, take, drop, cond}
+use Rattle.std.specs.Prelude.{ℕ, zero, suc, ◌+◌, ◌*◌, ◌/◌, ℤ, pos, unsigned_abs, ◌+ℤ◌, ◌*ℤ◌, int_lt, fold, ◌-◌, Bool, true, false, ◌==◌, List, [], ◌∷◌, map, Option, None, Some, position, replicate, slice_index_or, unwrap_or, length, take, drop, cond}
 use Rattle.std.specs.List.{range_with_len}
 use Rattle.vx_base.specs.Masks.{rows_between}
 use Rattle.vx_base.specs.Packed.{packed_row}
@@ -7,9 +7,12 @@ use Rattle.vx_base.specs.PlainScalar.{PlainScalar}
 use Rattle.vx_base.specs.PlainType.{integer_of}
 use Rattle.vx_base.specs.PlainValue.{PlainValue, PlainValues, null, truth, int, bytes, items, whole_or_zero}
 use Rattle.vx_base.specs.PlainValue as vals
+use Rattle.vx_base.specs.Undelta.{undelta_row}
 use Rattle.vx_base.specs.Wrapping.{wrap}
 use Rattle.vx_base.specs.ZigZag.{unzigzag}
-use Rattle.vx_model.specs.Tree.{Tree, Trees, Validity, PlainPacked, PlainPatches, bool, primitive, var_bin_view, var_bin, timestamp, constant, masked, bit_packed, bit_packed_with, frame_of_reference, zig_zag, dict, nulls, structure, list, fixed_size_list, none, more}
+use Rattle.vx_base.specs.declared.ptype.PType.{PType}
+use Rattle.vx_model.specs.TreeType.{tree_type}
+use Rattle.vx_model.specs.Tree.{Tree, Trees, Validity, PlainPacked, PlainPatches, bool, primitive, var_bin_view, var_bin, timestamp, constant, masked, bit_packed, bit_packed_with, frame_of_reference, zig_zag, dict, nulls, structure, list, fixed_size_list, none, more, sparse, run_end, rle, sequence, delta}
 
 -- null where the mask is false
 abbrev pub masked_rows : List Bool → List PlainValue → List PlainValue
@@ -108,6 +111,24 @@ each_before [] rows = []
 each_before (v ∷ column) [] = []
 each_before (v ∷ column) (row ∷ rows) = vals.more v row ∷ each_before column rows
 
+-- the value of the first run that ends behind row i
+abbrev pub run_value : List PlainValue → List PlainValue → ℕ → PlainValue
+run_value [] values i = null
+run_value (end ∷ ends) [] i = null
+run_value (end ∷ ends) (v ∷ values) i = cond (int_lt (pos i) (whole_or_zero end)) v (run_value ends values i)
+
+-- the rows of a block
+abbrev pub block_rows : ℕ
+block_rows = 1024
+
+-- the place of row i's value: where its block's values begin, and its own place among them
+abbrev pub rle_place : List PlainValue → List PlainValue → ℕ → PlainValue
+rle_place offsets indices i = int (whole_or_zero (row_at offsets (i / block_rows)) +ℤ whole_or_zero (row_at indices i))
+
+-- row i from its block's base and the block's differences up to its own
+abbrev pub summed_up : PType → List PlainValue → List PlainValue → ℕ → PlainValue
+summed_up p bases deltas i = int (undelta_row p (map whole_or_zero bases) (map whole_or_zero deltas) i)
+
 -- the values that a tree stands for, row by row
 abbrev mutual
   pub rows : Tree → List PlainValue
@@ -127,6 +148,11 @@ abbrev mutual
   rows (structure names fields len valid n) = valid_rows valid (map items (field_rows fields len))
   rows (list elements offsets valid n) = valid_rows valid (map list_value (cut_at (rows offsets) (rows elements)))
   rows (fixed_size_list elements size len valid n) = valid_rows valid (map list_value (parts_of size len (rows elements)))
+  rows (sparse len offset indices values fill) = below (λ i. patched (rows indices) (rows values) fill.value (offset + i)) len
+  rows (run_end ends values) = below (run_value (rows ends) (rows values)) (offset_at (rows ends) (length (rows ends) - 1))
+  rows (rle values indices offsets len) = below (λ i. looked_up (rows values) (rle_place (rows offsets) (rows indices) i)) len
+  rows (sequence p n first step len) = below (λ i. int (first +ℤ pos i *ℤ step)) len
+  rows (delta bases deltas len valid n) = valid_rows valid (below (summed_up (integer_of (tree_type bases)) (rows bases) (rows deltas)) len)
 
   -- of so many rows, in each the values of the fields
   pub field_rows : Trees → ℕ → List PlainValues

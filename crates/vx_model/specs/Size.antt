@@ -6,7 +6,7 @@ use Rattle.vx_base.specs.PlainType.{PlainType, PlainFields, is_integer, integer_
 use Rattle.vx_base.specs.PlainType as types
 use Rattle.vx_base.specs.PlainValue.{PlainValue, PlainValues, null, truth, int, bytes, items}
 use Rattle.vx_base.specs.PlainValue as vals
-use Rattle.vx_model.specs.Tree.{Tree, Trees, Validity, PlainPatches, bool, var_bin_view, var_bin, timestamp, constant, masked, bit_packed, bit_packed_with, frame_of_reference, zig_zag, dict, nulls, structure, list, fixed_size_list, none, more}
+use Rattle.vx_model.specs.Tree.{Tree, Trees, Validity, PlainPatches, bool, var_bin_view, var_bin, timestamp, constant, masked, bit_packed, bit_packed_with, frame_of_reference, zig_zag, dict, nulls, structure, list, fixed_size_list, none, more, sparse, run_end, rle, sequence, delta}
 use Rattle.vx_model.specs.Tree as trees
 
 -- whole bytes that hold this many bits
@@ -63,6 +63,11 @@ abbrev mutual
   size (structure names fields len valid n) = sizes fields + validity_size valid
   size (list elements offsets valid n) = size elements + size offsets + validity_size valid
   size (fixed_size_list elements count len valid n) = size elements + validity_size valid
+  size (sparse len offset indices values fill) = size indices + size values + (1 + payload fill.dtype fill.value)
+  size (run_end ends values) = size ends + size values
+  size (rle values indices offsets len) = size values + size indices + size offsets
+  size (sequence p n first step len) = 0
+  size (delta bases deltas len valid n) = size bases + size deltas + validity_size valid
 
   -- of several trees together
   pub sizes : Trees → ℕ

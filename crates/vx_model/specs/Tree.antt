@@ -58,6 +58,16 @@ mutual
     list : Tree → Tree → Validity → Nullability → Tree
     -- the elements of all lists, how many each list has, the rows, their validity and nullability
     fixed_size_list : Tree → ℕ → ℕ → Validity → Nullability → Tree
+    -- a scalar in every row but the patched ones; the array length, offset, indices and values of the patches
+    sparse : ℕ → ℕ → Tree → Tree → PlainScalar → Tree
+    -- where each run of rows ends, and the value of each
+    run_end : Tree → Tree → Tree
+    -- the values of runs, the place of each row's value among those of its block, where each block's begin, and the rows
+    rle : Tree → Tree → Tree → ℕ → Tree
+    -- integers of a type from a first one on, each a step from the one before
+    sequence : PType → Nullability → ℤ → ℤ → ℕ → Tree
+    -- a base for each block, the difference of each row from the one before, the rows, their validity and nullability
+    delta : Tree → Tree → ℕ → Validity → Nullability → Tree
 
   -- trees inside a tree, in their order
   pub data Trees : Type 0 where
@@ -93,6 +103,11 @@ abbrev mutual
   node_count (structure names fields len valid n) = suc (nodes_count fields)
   node_count (list elements offsets valid n) = suc (node_count elements + node_count offsets)
   node_count (fixed_size_list elements size len valid n) = suc (node_count elements)
+  node_count (sparse len offset indices values fill) = suc (suc (node_count indices + node_count values))
+  node_count (run_end ends values) = suc (node_count ends + node_count values)
+  node_count (rle values indices offsets len) = suc (node_count values + node_count indices + node_count offsets)
+  node_count (sequence p n first step len) = 1
+  node_count (delta bases deltas len valid n) = suc (node_count bases + node_count deltas)
 
   pub nodes_count : Trees → ℕ
   nodes_count none = 0

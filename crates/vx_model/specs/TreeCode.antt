@@ -8,7 +8,7 @@ use Rattle.vx_base.specs.PlainType.{PlainType, stored_ptype, stored_nullability,
 use Rattle.vx_base.specs.Timestamps.{stored_kind}
 use Rattle.vx_base.specs.PlainScalar.{PlainScalar, stored_scalar}
 use Rattle.vx_base.specs.Storable.{Storable, code_of, first, rest, stored_ℕ, stored_ℤ, stored_bool, stored_bytes, stored_list, stored_option, stored×}
-use Rattle.vx_model.specs.Tree.{Tree, Trees, Validity, PlainPacked, PlainPatches, patches, bool, primitive, var_bin_view, var_bin, timestamp, constant, masked, bit_packed, bit_packed_with, frame_of_reference, zig_zag, dict, nulls, structure, list, fixed_size_list, none, more}
+use Rattle.vx_model.specs.Tree.{Tree, Trees, Validity, PlainPacked, PlainPatches, patches, bool, primitive, var_bin_view, var_bin, timestamp, constant, masked, bit_packed, bit_packed_with, frame_of_reference, zig_zag, dict, nulls, structure, list, fixed_size_list, none, more, sparse, run_end, rle, sequence, delta}
 use base.Stored.{Gv, gnil, gnum, gcons, num}
 
 -- truth values are stored as a list
@@ -46,6 +46,16 @@ stored_lists = stored× stored_validity stored_nullability
 abbrev pub stored_fixed : Storable (ℕ × (ℕ × (Validity × Nullability)))
 stored_fixed = stored× stored_ℕ (stored× stored_ℕ (stored× stored_validity stored_nullability))
 
+-- what the sparse, sequence and delta nodes have of their own, as pairs
+abbrev pub stored_sparse : Storable (ℕ × (ℕ × PlainScalar))
+stored_sparse = stored× stored_ℕ (stored× stored_ℕ stored_scalar)
+
+abbrev pub stored_sequence : Storable ((PType × Nullability) × (ℤ × (ℤ × ℕ)))
+stored_sequence = stored× (stored× stored_ptype stored_nullability) (stored× stored_ℤ (stored× stored_ℤ stored_ℕ))
+
+abbrev pub stored_delta : Storable (ℕ × (Validity × Nullability))
+stored_delta = stored× stored_ℕ (stored× stored_validity stored_nullability)
+
 -- the fields of packed integers, as pairs
 abbrev pub Packed : Type 0
 Packed = (PType × (ℕ × List ℕ)) × (ℕ × (Validity × Nullability))
@@ -81,6 +91,9 @@ one a = gcons a gnil
 abbrev pub two : Gv → Gv → Gv
 two a b = gcons a (gcons b gnil)
 
+abbrev pub three : Gv → Gv → Gv → Gv
+three a b c = gcons a (gcons b (gcons c gnil))
+
 abbrev mutual
   pub to : Tree → Gv
   to (primitive p xs valid n) = node 0 (stored_primitive.to (p, (xs, (valid, n)))) gnil
@@ -99,6 +112,11 @@ abbrev mutual
   to (structure names fields len valid n) = node 13 (stored_structure.to (names, (len, (valid, n)))) (to_all fields)
   to (list elements offsets valid n) = node 14 (stored_lists.to (valid, n)) (two (to elements) (to offsets))
   to (fixed_size_list elements size len valid n) = node 15 (stored_fixed.to (size, (len, (valid, n)))) (one (to elements))
+  to (sparse len offset indices values fill) = node 16 (stored_sparse.to (len, (offset, fill))) (two (to indices) (to values))
+  to (run_end ends values) = node 17 gnil (two (to ends) (to values))
+  to (rle values indices offsets len) = node 18 (stored_ℕ.to len) (three (to values) (to indices) (to offsets))
+  to (sequence p n first step len) = node 19 (stored_sequence.to ((p, n), (first, (step, len)))) gnil
+  to (delta bases deltas len valid n) = node 20 (stored_delta.to (len, (valid, n))) (two (to bases) (to deltas))
 
   pub to_all : Trees → Gv
   to_all none = gnil
@@ -115,6 +133,10 @@ tree_1 (more t ts) = t
 abbrev pub tree_2 : Trees → Tree
 tree_2 none = some_tree
 tree_2 (more t ts) = tree_1 ts
+
+abbrev pub tree_3 : Trees → Tree
+tree_3 none = some_tree
+tree_3 (more t ts) = tree_2 ts
 
 abbrev pub primitive_by : PType × (List ℤ × (Validity × Nullability)) → Tree
 primitive_by l = primitive l.0 l.1.0 l.1.1.0 l.1.1.1
@@ -143,6 +165,15 @@ lists_by l elements offsets = list elements offsets l.0 l.1
 abbrev pub fixed_by : ℕ × (ℕ × (Validity × Nullability)) → Tree → Tree
 fixed_by l elements = fixed_size_list elements l.0 l.1.0 l.1.1.0 l.1.1.1
 
+abbrev pub sparse_by : ℕ × (ℕ × PlainScalar) → Tree → Tree → Tree
+sparse_by l indices values = sparse l.0 l.1.0 indices values l.1.1
+
+abbrev pub sequence_by : (PType × Nullability) × (ℤ × (ℤ × ℕ)) → Tree
+sequence_by l = sequence l.0.0 l.0.1 l.1.0 l.1.1.0 l.1.1.1
+
+abbrev pub delta_by : ℕ × (Validity × Nullability) → Tree → Tree → Tree
+delta_by l bases deltas = delta bases deltas l.0 l.1.0 l.1.1
+
 abbrev pub tree_at : ℕ → Gv → Trees → Tree
 tree_at number label inside =
     cond (number == 0) (primitive_by (stored_primitive.from label))
@@ -160,7 +191,12 @@ tree_at number label inside =
     (cond (number == 12) (nulls (stored_ℕ.from label))
     (cond (number == 13) (structure_by (stored_structure.from label) inside)
     (cond (number == 14) (lists_by (stored_lists.from label) (tree_1 inside) (tree_2 inside))
-    (fixed_by (stored_fixed.from label) (tree_1 inside))))))))))))))))
+    (cond (number == 15) (fixed_by (stored_fixed.from label) (tree_1 inside))
+    (cond (number == 16) (sparse_by (stored_sparse.from label) (tree_1 inside) (tree_2 inside))
+    (cond (number == 17) (run_end (tree_1 inside) (tree_2 inside))
+    (cond (number == 18) (rle (tree_1 inside) (tree_2 inside) (tree_3 inside) (stored_ℕ.from label))
+    (cond (number == 19) (sequence_by (stored_sequence.from label))
+    (delta_by (stored_delta.from label) (tree_1 inside) (tree_2 inside)))))))))))))))))))))
 
 -- what is read as a tree, and as trees
 abbrev pub read : Gv → Tree × Trees
@@ -189,6 +225,11 @@ mutual
   from-to (structure names fields len valid n) = λ i. structure_by (stored_structure.back (names, (len, (valid, n))) i) (from-to_all fields i)
   from-to (list elements offsets valid n) = λ i. lists_by (stored_lists.back (valid, n) i) (from-to elements i) (from-to offsets i)
   from-to (fixed_size_list elements size len valid n) = λ i. fixed_by (stored_fixed.back (size, (len, (valid, n))) i) (from-to elements i)
+  from-to (sparse len offset indices values fill) = λ i. sparse_by (stored_sparse.back (len, (offset, fill)) i) (from-to indices i) (from-to values i)
+  from-to (run_end ends values) = λ i. run_end (from-to ends i) (from-to values i)
+  from-to (rle values indices offsets len) = λ i. rle (from-to values i) (from-to indices i) (from-to offsets i) (stored_ℕ.back len i)
+  from-to (sequence p n first step len) = λ i. sequence_by (stored_sequence.back ((p, n), (first, (step, len))) i)
+  from-to (delta bases deltas len valid n) = λ i. delta_by (stored_delta.back (len, (valid, n)) i) (from-to bases i) (from-to deltas i)
 
   pub from-to_all : (ts : Trees) → (read (to_all ts)).1 ≡ ts
   from-to_all none = refl

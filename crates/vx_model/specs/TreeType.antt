@@ -3,7 +3,7 @@ use Rattle.std.specs.Prelude.{ℕ, List, ◌∷◌}
 use Rattle.vx_base.specs.Integers.{signed_of}
 use Rattle.vx_base.specs.PlainType.{PlainType, PlainFields, integer_of, nullability_of, or_nullable, with_nullability}
 use Rattle.vx_base.specs.PlainType as types
-use Rattle.vx_model.specs.Tree.{Tree, Trees, bool, primitive, var_bin_view, var_bin, timestamp, constant, masked, bit_packed, bit_packed_with, frame_of_reference, zig_zag, dict, nulls, structure, list, fixed_size_list, more}
+use Rattle.vx_model.specs.Tree.{Tree, Trees, bool, primitive, var_bin_view, var_bin, timestamp, constant, masked, bit_packed, bit_packed_with, frame_of_reference, zig_zag, dict, nulls, structure, list, fixed_size_list, more, sparse, run_end, rle, sequence, delta}
 
 -- the signed type of an integer type's width, as nullable as it
 abbrev pub zig_zag_type : PlainType → PlainType
@@ -32,6 +32,11 @@ abbrev mutual
   tree_type (structure names fields len valid n) = types.structure (field_types names fields) n
   tree_type (list elements offsets valid n) = types.list (tree_type elements) n
   tree_type (fixed_size_list elements size len valid n) = types.fixed_size_list (tree_type elements) size n
+  tree_type (sparse len offset indices values fill) = fill.dtype
+  tree_type (run_end ends values) = tree_type values
+  tree_type (rle values indices offsets len) = tree_type values
+  tree_type (sequence p n first step len) = types.primitive p n
+  tree_type (delta bases deltas len valid n) = types.primitive (integer_of (tree_type bases)) n
 
   -- each name with the type of its tree
   pub field_types : List (List ℕ) → Trees → PlainFields

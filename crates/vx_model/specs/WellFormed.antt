@@ -1,18 +1,18 @@
 -- When a tree is well formed: each node's own conditions hold, and every row fits the type.
-use Rattle.std.specs.Prelude.{◌≡◌, ℕ, ◌+◌, ◌*◌, ℤ, pos, ◌-◌, Bool, true, false, ◌&&◌, ◌==◌, nat_lt, nat_le, int_le, int_lt, IsTrue, List, [], ◌∷◌, length, Some, None}
+use Rattle.std.specs.Prelude.{◌≡◌, ℕ, ◌+◌, ◌*◌, ◌/◌, ◌^◌, ℤ, pos, ◌+ℤ◌, ◌*ℤ◌, ◌-◌, Bool, true, false, ◌&&◌, ◌||◌, ◌==◌, nat_lt, nat_le, int_le, int_lt, IsTrue, List, [], ◌∷◌, length, Some, None}
 use Rattle.std.specs.List.{list_all, list_any}
 use Rattle.vx_base.specs.declared.ptype.PType.{PType}
 use Rattle.vx_base.specs.declared.ptype.PType.TheVariants.{I64}
 use Rattle.vx_base.specs.declared.dtype.Nullability.{Nullability}
 use Rattle.vx_base.specs.declared.dtype.Nullability.TheVariants.{NonNullable, Nullable}
 use Rattle.vx_base.specs.Integers.{lies_in, natural_bits, unsigned_of}
-use Rattle.vx_base.specs.Packed.{packed_size}
+use Rattle.vx_base.specs.Packed.{packed_size, block_count}
 use Rattle.vx_base.specs.PlainType.{PlainType, is_nullable, is_flat, is_integer, is_bytes, is_unsigned, integer_of, nullability_of}
 use Rattle.vx_base.specs.PlainType as types
 use Rattle.vx_base.specs.PlainScalar.{PlainScalar, fits}
 use Rattle.vx_base.specs.PlainValue.{PlainValue, null, int, is_null, is_short, whole_or_zero}
-use Rattle.vx_model.specs.Tree.{Tree, Trees, Validity, PlainPacked, PlainPatches, bool, primitive, var_bin_view, var_bin, timestamp, constant, masked, bit_packed, bit_packed_with, frame_of_reference, zig_zag, dict, nulls, structure, list, fixed_size_list, none, more, list_of}
-use Rattle.vx_model.specs.Rows.{rows, offset_at, cut_at}
+use Rattle.vx_model.specs.Tree.{Tree, Trees, Validity, PlainPacked, PlainPatches, bool, primitive, var_bin_view, var_bin, timestamp, constant, masked, bit_packed, bit_packed_with, frame_of_reference, zig_zag, dict, nulls, structure, list, fixed_size_list, none, more, list_of, sparse, run_end, rle, sequence, delta}
+use Rattle.vx_model.specs.Rows.{rows, offset_at, cut_at, below, block_rows, rle_place}
 use Rattle.vx_model.specs.TreeType.{tree_type}
 
 -- bits stand exactly where some row isn't valid: a bit a row, one of them false, in a nullable node alone
@@ -145,6 +145,43 @@ pub record IsFixedSizeList (elements : Tree) (size len : ℕ) (valid : Validity)
   pub lengths : length (rows elements) ≡ len * size
   pub validity : IsValidityOf valid len n
 
+-- the patches' values are of the fill's type
+pub record IsSparse (values : Tree) (fill : PlainScalar) : Type 0 where
+  pub values_type : tree_type values ≡ fill.dtype
+  pub fitting : IsTrue (fits fill.dtype fill.value)
+
+-- runs of integers: their ends rise from above 0
+pub record IsRunEnd (ends values : Tree) : Type 0 where
+  pub ends_type : IsTrue (is_integer (tree_type ends))
+  pub not_null : is_nullable (tree_type ends) ≡ false
+  pub values_type : IsTrue (is_integer (tree_type values))
+  pub lengths : length (rows ends) ≡ length (rows values)
+  pub rising : IsTrue (ascend 1 (2 ^ 64) (rows ends))
+
+-- each row's value has a place; the numbers behind the last row are not looked at
+pub record IsRle (values indices offsets : Tree) (len : ℕ) : Type 0 where
+  pub values_type : IsTrue (is_integer (tree_type values))
+  pub indices_type : IsTrue (is_integer (tree_type indices))
+  pub offsets_type : IsTrue (is_integer (tree_type offsets))
+  pub indices_not_null : is_nullable (tree_type indices) ≡ false
+  pub offsets_not_null : is_nullable (tree_type offsets) ≡ false
+  pub indices_length : length (rows indices) ≡ block_rows * block_count len
+  pub offsets_length : length (rows offsets) ≡ block_count len
+  pub places : IsTrue (list_all (is_place (length (rows values))) (below (rle_place (rows offsets) (rows indices)) len))
+
+-- the step lies in the type, and the first and the last row do where there are rows
+pub record IsSequence (p : PType) (first step : ℤ) (len : ℕ) : Type 0 where
+  pub step_held : IsTrue (lies_in p step)
+  pub rows_held : IsTrue (len == 0 || lies_in p first && lies_in p (first +ℤ pos (len - 1) *ℤ step))
+
+-- a base and 1,024 differences for each block, of one integer type
+pub record IsDelta (bases deltas : Tree) (len : ℕ) (valid : Validity) (n : Nullability) : Type 0 where
+  pub bases_type : tree_type bases ≡ types.primitive (integer_of (tree_type bases)) NonNullable
+  pub deltas_type : tree_type deltas ≡ tree_type bases
+  pub bases_length : length (rows bases) ≡ block_count len
+  pub deltas_length : length (rows deltas) ≡ block_rows * block_count len
+  pub validity : IsValidityOf valid len n
+
 -- every row fits the tree's type
 abbrev pub RowsFit : Tree → Type 0
 RowsFit t = IsTrue (list_all (fits (tree_type t)) (rows t))
@@ -171,6 +208,13 @@ abbrev mutual
   WellFormed (list elements offsets valid n) = WellFormed elements × WellFormed offsets × IsList elements offsets valid n × RowsFit (list elements offsets valid n)
   WellFormed (fixed_size_list elements size len valid n) =
       WellFormed elements × IsFixedSizeList elements size len valid n × RowsFit (fixed_size_list elements size len valid n)
+  WellFormed (sparse len offset indices values fill) =
+      WellFormed indices × WellFormed values × IsPatches len offset indices values × IsSparse values fill × RowsFit (sparse len offset indices values fill)
+  WellFormed (run_end ends values) = WellFormed ends × WellFormed values × IsRunEnd ends values × RowsFit (run_end ends values)
+  WellFormed (rle values indices offsets len) =
+      WellFormed values × WellFormed indices × WellFormed offsets × IsRle values indices offsets len × RowsFit (rle values indices offsets len)
+  WellFormed (sequence p n first step len) = IsSequence p first step len × RowsFit (sequence p n first step len)
+  WellFormed (delta bases deltas len valid n) = WellFormed bases × WellFormed deltas × IsDelta bases deltas len valid n × RowsFit (delta bases deltas len valid n)
 
   -- the same of each of several trees
   pub AllWellFormed : Trees → Type 0

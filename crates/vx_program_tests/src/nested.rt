@@ -19,7 +19,7 @@ fn a_column_of_lists(rt: HostRuntime) -> Result<(), Fail> {
     let document =
         "{\"type\":{\"list\":\"i32?\",\"nullable\":true},\"rows\":[[1,2],[],null,[3]],\"words\":[0]}";
     let text =
-        "vortex.list [i32?]? len=4 size=18\n  vortex.primitive i32? len=3 size=12\n  vortex.primitive u8 len=5 size=5\nplain=53 tree=18\n";
+        "vortex.list [i32?]? len=4 size=6\n  vortex.sequence i32? len=3 size=0 first=1 step=1\n  vortex.primitive u8 len=5 size=5\nplain=53 tree=6\n";
     assert!(rt; answers(rt.alloc(), document, 0, text)?);
     Ok(())
 }

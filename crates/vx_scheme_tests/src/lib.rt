@@ -6,6 +6,8 @@ mod bit_packing;
 #[cfg(test)]
 mod bundles;
 #[cfg(test)]
+mod delta;
+#[cfg(test)]
 mod dictionary_encoding;
 #[cfg(test)]
 mod frame_of_reference;
@@ -18,7 +20,15 @@ mod patches;
 #[cfg(test)]
 mod rules;
 #[cfg(test)]
+mod run_end;
+#[cfg(test)]
+mod run_length;
+#[cfg(test)]
+mod sequence;
+#[cfg(test)]
 mod shapes;
+#[cfg(test)]
+mod sparse;
 #[cfg(test)]
 mod statistics;
 #[cfg(test)]

@@ -37,7 +37,7 @@ use Rattle.vx_schemes.specs.Patches.Laws.{index_type-holds, short_patches}
 
 -- ---- the last of them decides
 
-and_true : (b : Bool) → (b && true) ≡ b
+pub and_true : (b : Bool) → (b && true) ≡ b
 and_true true = refl
 and_true false = refl
 
@@ -45,7 +45,7 @@ and_false : (b : Bool) → (b && false) ≡ false
 and_false true = refl
 and_false false = refl
 
-smaller : (n k m : ℕ) → n ≤ k → (nat_lt n m && nat_lt k m) ≡ nat_lt k m
+pub smaller : (n k m : ℕ) → n ≤ k → (nat_lt n m && nat_lt k m) ≡ nat_lt k m
 smaller n k m h =
     elim (cases_lt k m) [
       | inl lt ↦ and_from _ _ (lt-ltb n m (omega arith)) (lt-ltb k m lt) ∙ sym (lt-ltb k m lt)
@@ -69,7 +69,7 @@ all_by_last q low high is i k a l e =
     by_ascent high (λ low is. LastDecides q is) (λ low i k l e. absurd (omega arith)) (λ low n is from under later rest. last_decides-more q high n is later rest) low is a i k l e
 
 -- the first type of four that holds it
-picked : (a b c d : Bool) (q : PType) → cond a (Some U8) (cond b (Some U16) (cond c (Some U32) (cond d (Some U64) None))) ≡ Some q → unwrap_or (cond a (Some U8) (cond b (Some U16) (cond c (Some U32) None))) U64 ≡ q
+pub picked : (a b c d : Bool) (q : PType) → cond a (Some U8) (cond b (Some U16) (cond c (Some U32) (cond d (Some U64) None))) ≡ Some q → unwrap_or (cond a (Some U8) (cond b (Some U16) (cond c (Some U32) None))) U64 ≡ q
 picked true b c d q e = cc
 picked false true c d q e = cc
 picked false false true d q e = cc

@@ -7,15 +7,19 @@ mod extremes;
 mod finishing;
 mod integer;
 mod laws;
+mod narrowed;
 mod pairs;
 mod patches;
 mod single;
+mod thresholds;
+mod triples;
 mod whole;
 mod widths;
 
 pub use extremes::least_value;
 pub use integer::{
-    BitPackingScheme, FoRScheme, IntDictScheme, ZigZagScheme, dictionary_tree, differences, framed,
+    BitPackingScheme, DeltaScheme, FoRScheme, IntDictScheme, IntRLEScheme, RunEndScheme,
+    SequenceScheme, SparseScheme, ZigZagScheme, dictionary_tree, differences, framed,
     integer_dictionary_encode,
 };
 pub use laws::laws_of_shipped_schemes;

@@ -4,12 +4,12 @@ use Rattle.std.specs.Prelude.{◌+ℤ◌, ◌*ℤ◌, unsigned_abs, ◌==◌, �
 use Rattle.std.proofs.lemmas.Bool.{ne_eqb, and_parts}
 use Rattle.std.proofs.lemmas.Int.{ints, int_rem_euclid_is}
 use Rattle.std.proofs.lemmas.Nat.{pow_pos}
-use Rattle.std.proofs.Math.Nat.{mul_assoc}
-use Rattle.std.proofs.Math.Pow.{mod-mod-pow}
+use Rattle.std.proofs.Math.Nat.{mul_assoc, mul_comm}
 use Rattle.vx_base.specs.declared.ptype.PType.{PType}
-use Rattle.vx_base.specs.declared.ptype.PType.TheVariants.{U8, U16, U32, U64, I8, I16, I32, I64}
+use Rattle.vx_base.specs.declared.ptype.PType.TheVariants.{U64}
 use Rattle.vx_base.specs.Integers.{bits_of, lies_in}
 use Rattle.vx_base.specs.Wrapping.{low_bits, from_bits}
+use Rattle.vx_base.proofs.WrapBitsLemmas.{mod-of-mod, word_of}
 use Rattle.vx_base.proofs.WrapLemmas.{wrap-same}
 use Rattle.vx_base.proofs.WrapSumLemmas.{low_bits-add}
 use Rattle.vx_blocks.specs.Sequence.{sequence_row}
@@ -17,35 +17,15 @@ use Rattle.vx_blocks.proofs.Sequences.{row-held, row-step}
 
 -- ---- the low bits of a type are those of the 64 low ones
 
-word_size : (p : PType) → 64 - bits_of p + bits_of p ≡ 64
-word_size U8 = refl
-word_size U16 = refl
-word_size U32 = refl
-word_size U64 = refl
-word_size I8 = refl
-word_size I16 = refl
-word_size I32 = refl
-word_size I64 = refl
-
-word_of : (p : PType) → 2 ^ (64 - bits_of p) * 2 ^ bits_of p ≡ 2 ^ 64
-word_of U8 = refl
-word_of U16 = refl
-word_of U32 = refl
-word_of U64 = refl
-word_of I8 = refl
-word_of I16 = refl
-word_of I32 = refl
-word_of I64 = refl
-
 natural-word : (p : PType) (n : ℕ) → n % 2 ^ 64 % 2 ^ bits_of p ≡ n % 2 ^ bits_of p
-natural-word p n = ap (λ w. n % 2 ^ w % 2 ^ bits_of p) (sym (word_size p)) ∙ mod-mod-pow n (64 - bits_of p) (bits_of p)
+natural-word p n = ap (λ w. n % w % 2 ^ bits_of p) (word_of p) ∙ mod-of-mod n (2 ^ bits_of p) (2 ^ (64 - bits_of p))
 
 -- of a number that is a natural one with some words more
 lifted-word : (p : PType) (z : ℤ) (times total : ℕ) → z +ℤ pos (times * 2 ^ 64) ≡ pos total → low_bits U64 z % 2 ^ bits_of p ≡ low_bits p z
 lifted-word p z times total e =
     let all = 2 ^ bits_of p in
     let word : low_bits U64 z ≡ total % 2 ^ 64 = ap unsigned_abs (int_rem_euclid_is z (pos (2 ^ 64)) (2 ^ 64) times total (pow_pos 64) refl e) in
-    let parts : times * 2 ^ 64 ≡ times * 2 ^ (64 - bits_of p) * all = ap (λ w. times * w) (sym (word_of p)) ∙ sym (mul_assoc times (2 ^ (64 - bits_of p)) all) in
+    let parts : times * 2 ^ 64 ≡ times * 2 ^ (64 - bits_of p) * all = ap (λ w. times * w) (word_of p ∙ mul_comm all (2 ^ (64 - bits_of p))) ∙ sym (mul_assoc times (2 ^ (64 - bits_of p)) all) in
     let low : low_bits p z ≡ total % all = ap unsigned_abs (int_rem_euclid_is z (pos all) all (times * 2 ^ (64 - bits_of p)) total (pow_pos (bits_of p)) refl (ap (λ n. z +ℤ pos n) (sym parts) ∙ e)) in
     ap (λ n. n % all) word ∙ natural-word p total ∙ sym low
 

@@ -1,25 +1,41 @@
-use Rattle.std.proofs.Common.{◌≡◌, ◌<◌, ◌≤◌, ◌∙◌, ◌+◌, ◌-◌, ◌/◌, length, arith, refl, sym, ap, subst, rules, Some, None}
+use Rattle.std.proofs.Common.{◌≡◌, ◌<◌, ◌≤◌, ◌∙◌, ◌+◌, ◌-◌, ◌*◌, ◌/◌, ◌^◌, pos, negsuc, length, arith, refl, sym, ap, subst, rules, true, cond, Some, None}
 use Rattle.vx_base.proofs.IntegerLemmas.{is_unsigned-is_integer}
 use Rattle.vx_base.proofs.PackedLemmas.{packed_size_le}
-use Rattle.vx_model.specs.Rows.{rows, row_at, place_of}
+use Rattle.std.specs.Prelude.{◌≤ℤ◌, ◌+ℤ◌, ◌*ℤ◌}
+use Rattle.std.proofs.lemmas.Int.{ints}
+use Rattle.std.proofs.lemmas.Bool.{lt-ltb}
+use Rattle.vx_base.specs.PlainType.{is_flat, is_integer, integer_of}
+use Rattle.vx_base.specs.PlainValue.{null, int, whole_or_zero}
+use Rattle.vx_base.specs.Wrapping.{wrap}
+use Rattle.vx_model.specs.Rows.{rows, row_at, place_of, offset_at, block_rows, is_valid_at, looked_up, rle_place}
 use Rattle.vx_model.specs.Tree.{plain_packed}
 use Rattle.vx_model.specs.TreeType.{tree_type}
+use Rattle.vx_model.specs.WellFormed.{IsSequence, is_place}
 use Rattle.vx_model.proofs.BoolLemmas.{length-bool, row_at-bool}
 use Rattle.vx_model.proofs.CellLemmas.{IsWord, word-difference, word-encoded}
-use Rattle.vx_model.proofs.DictLemmas.{length-dict}
+use Rattle.vx_model.proofs.DeltaLemmas.{length-delta, row_at-delta}
+use Rattle.vx_model.proofs.DictLemmas.{length-dict, code_is}
 use Rattle.vx_model.proofs.OffsetLemmas.{offset_step}
 use Rattle.vx_model.proofs.PackedLemmas.{length-frame_of_reference}
 use Rattle.vx_model.proofs.PackedOfLemmas.{length-packed_of, row_at-packed_of, packed-packed_of}
 use Rattle.vx_model.proofs.PatchLemmas.{place-none}
 use Rattle.vx_model.proofs.PatchedLemmas.{patched-place, patched-fill}
+use Rattle.vx_model.proofs.RleLemmas.{length-rle, row_at-rle, rle-within, rle-code, block-within}
+use Rattle.vx_model.proofs.RunEndLemmas.{EndsBefore, EndsAbove, length-run_end, row_at-run_end, run-within, run_value-place}
+use Rattle.vx_model.proofs.SequenceLemmas.{length-sequence, row_at-sequence}
+use Rattle.vx_model.proofs.SparseLemmas.{length-sparse, row_at-sparse}
 use Rattle.vx_model.proofs.RowLemmas.{length-primitive, row_at-primitive}
 use Rattle.vx_model.proofs.VarBinLemmas.{length-var_bin, row_at-var_bin}
 use Rattle.vx_model.proofs.ViewLemmas.{length-var_bin_view, row_at-var_bin_view}
 use Rattle.vx_model.proofs.ZigZagLemmas.{length-zig_zag}
+use Rattle.vx_array.specs.Sums.{sum_before}
 use Rattle.vx_array.specs.TreeOf.{unboxed}
 use Rattle.vx_array.proofs.AtNode.{at_node}
 use Rattle.vx_array.proofs.Flat.{integer_flat, patches_flat}
 use Rattle.vx_array.proofs.Looks.{IsRead, read_of, found-there, half-after, half-before, read-none}
+use Rattle.vx_array.proofs.Runs.{before-next, above-next}
+use Rattle.vx_array.proofs.Steps.{whole-near, first-signed, step-signed, near-signed}
+use Rattle.vx_array.proofs.SumLemmas.{whole_row, sum-start, sum-next}
 use Rattle.vx_array.proofs.Unpacked.{width-le}
 use Rattle.vx_array.proofs.+cell_at.Goals as goal
 
@@ -117,6 +133,180 @@ array::ArrayRef::cell_at-unzigzagged_at-requires t c =
     let read = c.cell_at-in-ZigZag.ensures ∙ ap (λ t. row_at (rows t) c.args.row) c.deref-in-ZigZag.ensures in
     subst IsWord (sym read) (word-encoded encoded c.args.row a.well_formed within)
 
+-- ---- the row of a sparse, run-end, run-length, sequence or delta node
+
+pub array::ArrayRef::cell_at-sparse_at-requires : goal.array::ArrayRef::cell_at-sparse_at-requires
+array::ArrayRef::cell_at-sparse_at-requires t c =
+    let a = at_node c.self.view_is c.self.invariant c.in-Sparse.is in
+    let flat : is_flat c.in-Sparse.fill.dtype ≡ true = rw a.is at c.requires.flat in
+    (search rules, rw c.deref-in-Sparse.ensures (ap is_flat a.well_formed.3.values_type ∙ flat, flat))
+
+pub array::ArrayRef::cell_at-returns-in-Sparse : goal.array::ArrayRef::cell_at-returns-in-Sparse
+array::ArrayRef::cell_at-returns-in-Sparse t c =
+    let a = at_node c.self.view_is c.self.invariant c.in-Sparse.is in
+    let p = c.in-Sparse.patches.value in
+    let l = length-sparse p.array_len p.offset p.indices p.values c.in-Sparse.fill in
+    let within : c.args.row < p.array_len = omega (arith, l, rw a.is at c.requires.in_range) in
+    rw a.is (rw c.deref-in-Sparse.ensures at c.sparse_at.ensures ∙ sym (row_at-sparse p.array_len p.offset p.indices p.values c.in-Sparse.fill c.args.row within))
+
+pub array::ArrayRef::cell_at-run_at-run-requires : goal.array::ArrayRef::cell_at-run_at-run-requires
+array::ArrayRef::cell_at-run_at-run-requires t c =
+    let a = at_node c.self.view_is c.self.invariant c.in-RunEnd.is in
+    let own = a.well_formed.2 in
+    (search rules, rw c.deref-in-RunEnd.ensures (own.ends_type, own.rising))
+
+pub array::ArrayRef::cell_at-cell_at-requires-in-RunEnd : goal.array::ArrayRef::cell_at-cell_at-requires-in-RunEnd
+array::ArrayRef::cell_at-cell_at-requires-in-RunEnd t c =
+    let a = at_node c.self.view_is c.self.invariant c.in-RunEnd.is in
+    let ends = c.in-RunEnd.ends.value in
+    let values = c.in-RunEnd.values.value in
+    let own = a.well_formed.2 in
+    let l = length-run_end ends values in
+    let inside : c.args.row < offset_at (rows ends) (length (rows ends) - 1) = omega (arith, l, rw a.is at c.requires.in_range) in
+    let before = subst (λ t. EndsBefore (rows t) c.args.row c.run_at-run.result) c.deref-in-RunEnd.ensures c.run_at-run.ensures.before in
+    let within = run-within (rows ends) c.args.row c.run_at-run.result before inside in
+    let same = own.lengths in
+    let there : c.run_at-run.result < length (rows values) = omega (arith, same, within) in
+    (search rules, rw c.deref-in-RunEnd-2.ensures (integer_flat (tree_type values) own.values_type, there))
+
+pub array::ArrayRef::cell_at-returns-in-RunEnd : goal.array::ArrayRef::cell_at-returns-in-RunEnd
+array::ArrayRef::cell_at-returns-in-RunEnd t c =
+    let a = at_node c.self.view_is c.self.invariant c.in-RunEnd.is in
+    let ends = c.in-RunEnd.ends.value in
+    let values = c.in-RunEnd.values.value in
+    let run = c.run_at-run.result in
+    let own = a.well_formed.2 in
+    let l = length-run_end ends values in
+    let inside : c.args.row < offset_at (rows ends) (length (rows ends) - 1) = omega (arith, l, rw a.is at c.requires.in_range) in
+    let before = subst (λ t. EndsBefore (rows t) c.args.row run) c.deref-in-RunEnd.ensures c.run_at-run.ensures.before in
+    let above = subst (λ t. EndsAbove (rows t) c.args.row run) c.deref-in-RunEnd.ensures c.run_at-run.ensures.above in
+    let within = run-within (rows ends) c.args.row run before inside in
+    let read = c.cell_at-in-RunEnd.ensures ∙ ap (λ t. row_at (rows t) run) c.deref-in-RunEnd-2.ensures in
+    let value = run_value-place (rows ends) (rows values) c.args.row run own.lengths within before (above run (omega arith) within) in
+    rw a.is (read ∙ sym value ∙ sym (row_at-run_end ends values c.args.row inside))
+
+pub array::ArrayRef::cell_at-whole_at-begin-requires : goal.array::ArrayRef::cell_at-whole_at-begin-requires
+array::ArrayRef::cell_at-whole_at-begin-requires t c =
+    let a = at_node c.self.view_is c.self.invariant c.in-Rle.is in
+    let values = c.in-Rle.values.value in
+    let indices = c.in-Rle.indices.value in
+    let offsets = c.in-Rle.offsets.value in
+    let l = length-rle values indices offsets c.in-Rle.field-3 in
+    let within : c.args.row < c.in-Rle.field-3 = omega (arith, l, rw a.is at c.requires.in_range) in
+    let there = rle-within values indices offsets c.in-Rle.field-3 c.args.row a.well_formed within in
+    (search rules, rw c.deref-in-Rle.ensures (a.well_formed.3.offsets_type, there.0))
+
+pub array::ArrayRef::cell_at-whole_at-index-requires : goal.array::ArrayRef::cell_at-whole_at-index-requires
+array::ArrayRef::cell_at-whole_at-index-requires t c =
+    let a = at_node c.self.view_is c.self.invariant c.in-Rle.is in
+    let values = c.in-Rle.values.value in
+    let indices = c.in-Rle.indices.value in
+    let offsets = c.in-Rle.offsets.value in
+    let l = length-rle values indices offsets c.in-Rle.field-3 in
+    let within : c.args.row < c.in-Rle.field-3 = omega (arith, l, rw a.is at c.requires.in_range) in
+    let there = rle-within values indices offsets c.in-Rle.field-3 c.args.row a.well_formed within in
+    (search rules, rw c.deref-in-Rle-2.ensures (a.well_formed.3.indices_type, there.1))
+
+pub array::ArrayRef::cell_at-rle_at-requires : goal.array::ArrayRef::cell_at-rle_at-requires
+array::ArrayRef::cell_at-rle_at-requires t c =
+    let a = at_node c.self.view_is c.self.invariant c.in-Rle.is in
+    let values = c.in-Rle.values.value in
+    let indices = c.in-Rle.indices.value in
+    let offsets = c.in-Rle.offsets.value in
+    let row = c.args.row in
+    let l = length-rle values indices offsets c.in-Rle.field-3 in
+    let within : row < c.in-Rle.field-3 = omega (arith, l, rw a.is at c.requires.in_range) in
+    let code = rle-code values indices offsets c.in-Rle.field-3 row a.well_formed within in
+    let place : is_place (length (rows values)) (rle_place (rows offsets) (rows indices) row) ≡ true = ap (λ z. is_place (length (rows values)) (int z)) code.is ∙ lt-ltb _ _ code.within in
+    let begin = near-signed c.whole_at-begin.result c.whole_at-begin.ensures.least c.whole_at-begin.ensures.most ∙ c.whole_at-begin.ensures.whole ∙ ap (λ t. whole_or_zero (row_at (rows t) (row / block_rows))) c.deref-in-Rle.ensures in
+    let index = near-signed c.whole_at-index.result c.whole_at-index.ensures.least c.whole_at-index.ensures.most ∙ c.whole_at-index.ensures.whole ∙ ap (λ t. whole_or_zero (row_at (rows t) row)) c.deref-in-Rle-2.ensures in
+    let v = c.deref-in-Rle-3.ensures in
+    (search rules, (subst (λ t. is_integer (tree_type t) ≡ true) (sym v) a.well_formed.3.values_type, (λ i. is_place (length (rows (v i))) (int (begin i +ℤ index i))) ∙ place))
+
+pub array::ArrayRef::cell_at-returns-in-Rle : goal.array::ArrayRef::cell_at-returns-in-Rle
+array::ArrayRef::cell_at-returns-in-Rle t c =
+    let a = at_node c.self.view_is c.self.invariant c.in-Rle.is in
+    let values = c.in-Rle.values.value in
+    let indices = c.in-Rle.indices.value in
+    let offsets = c.in-Rle.offsets.value in
+    let row = c.args.row in
+    let l = length-rle values indices offsets c.in-Rle.field-3 in
+    let within : row < c.in-Rle.field-3 = omega (arith, l, rw a.is at c.requires.in_range) in
+    let begin = near-signed c.whole_at-begin.result c.whole_at-begin.ensures.least c.whole_at-begin.ensures.most ∙ c.whole_at-begin.ensures.whole ∙ ap (λ t. whole_or_zero (row_at (rows t) (row / block_rows))) c.deref-in-Rle.ensures in
+    let index = near-signed c.whole_at-index.result c.whole_at-index.ensures.least c.whole_at-index.ensures.most ∙ c.whole_at-index.ensures.whole ∙ ap (λ t. whole_or_zero (row_at (rows t) row)) c.deref-in-Rle-2.ensures in
+    let v = c.deref-in-Rle-3.ensures in
+    rw a.is (c.rle_at.ensures ∙ (λ i. looked_up (rows (v i)) (int (begin i +ℤ index i))) ∙ sym (row_at-rle values indices offsets c.in-Rle.field-3 row within))
+
+pub array::ArrayRef::cell_at-sequence_at-requires : goal.array::ArrayRef::cell_at-sequence_at-requires
+array::ArrayRef::cell_at-sequence_at-requires t c =
+    let a = at_node c.self.view_is c.self.invariant c.in-Sequence.is in
+    let here = c.in-Sequence in
+    let l = length-sequence here.ptype here.field-1 here.first here.step here.len in
+    let within : c.args.row < here.len = omega (arith, l, rw a.is at c.requires.in_range) in
+    let f = first-signed here.ptype here.first here.step here.len c.args.row a.well_formed.0 within in
+    let s = step-signed here.ptype here.first here.step here.len c.args.row a.well_formed.0 within in
+    record { sequence = subst (λ z. z) (sym (λ i. IsSequence here.ptype (f i) (s i) here.len)) a.well_formed.0; in_range = within }
+
+pub array::ArrayRef::cell_at-returns-in-Sequence : goal.array::ArrayRef::cell_at-returns-in-Sequence
+array::ArrayRef::cell_at-returns-in-Sequence t c =
+    let a = at_node c.self.view_is c.self.invariant c.in-Sequence.is in
+    let here = c.in-Sequence in
+    let l = length-sequence here.ptype here.field-1 here.first here.step here.len in
+    let within : c.args.row < here.len = omega (arith, l, rw a.is at c.requires.in_range) in
+    let f = first-signed here.ptype here.first here.step here.len c.args.row a.well_formed.0 within in
+    let s = step-signed here.ptype here.first here.step here.len c.args.row a.well_formed.0 within in
+    rw a.is (c.sequence_at.ensures ∙ (λ i. int (f i +ℤ pos c.args.row *ℤ s i)) ∙ sym (row_at-sequence here.ptype here.field-1 here.first here.step here.len c.args.row within))
+
+pub array::ArrayRef::cell_at-whole_at-base-requires : goal.array::ArrayRef::cell_at-whole_at-base-requires
+array::ArrayRef::cell_at-whole_at-base-requires t c =
+    let a = at_node c.self.view_is c.self.invariant c.in-Delta.is in
+    let bases = c.in-Delta.bases.value in
+    let own = a.well_formed.2 in
+    let l = length-delta bases c.in-Delta.deltas.value c.in-Delta.field-2 c.in-Delta.valid c.in-Delta.field-4 a.well_formed in
+    let within : c.args.row < c.in-Delta.field-2 = omega (arith, l, rw a.is at c.requires.in_range) in
+    let there = block-within c.in-Delta.field-2 c.args.row within in
+    let block = there.0 in
+    let many = own.bases_length in
+    let begin : c.args.row / block_rows < length (rows bases) = omega (arith, block, many) in
+    (search rules, rw c.deref-in-Delta.ensures (ap is_integer own.bases_type, begin))
+
+pub array::ArrayRef::cell_at-summed_at-requires : goal.array::ArrayRef::cell_at-summed_at-requires
+array::ArrayRef::cell_at-summed_at-requires t c =
+    let a = at_node c.self.view_is c.self.invariant c.in-Delta.is in
+    let deltas = c.in-Delta.deltas.value in
+    let own = a.well_formed.2 in
+    let l = length-delta c.in-Delta.bases.value deltas c.in-Delta.field-2 c.in-Delta.valid c.in-Delta.field-4 a.well_formed in
+    let within : c.args.row < c.in-Delta.field-2 = omega (arith, l, rw a.is at c.requires.in_range) in
+    let there = block-within c.in-Delta.field-2 c.args.row within in
+    let inside = there.1 in
+    let many = own.deltas_length in
+    let few : c.args.row < length (rows deltas) = omega (arith, inside, many) in
+    let base = c.whole_at-base.ensures in
+    let own_base = sym (near-signed c.whole_at-base.result base.least base.most) in
+    let d = sym c.deref-in-Delta-2.ensures in (
+      search rules,
+      (
+        subst (λ z. negsuc (2 ^ 63 - 1) ≤ℤ z) own_base base.least,
+        (subst (λ z. z ≤ℤ pos (2 ^ 64 - 1)) own_base base.most, (subst (λ t. is_integer (tree_type t) ≡ true) d (ap is_integer own.deltas_type ∙ ap is_integer own.bases_type), subst (λ t. c.args.row < length (rows t)) d few)),
+      ),
+    )
+
+pub array::ArrayRef::cell_at-returns-in-Delta : goal.array::ArrayRef::cell_at-returns-in-Delta
+array::ArrayRef::cell_at-returns-in-Delta t c =
+    let a = at_node c.self.view_is c.self.invariant c.in-Delta.is in
+    let bases = c.in-Delta.bases.value in
+    let deltas = c.in-Delta.deltas.value in
+    let row = c.args.row in
+    let own = a.well_formed.2 in
+    let l = length-delta bases deltas c.in-Delta.field-2 c.in-Delta.valid c.in-Delta.field-4 a.well_formed in
+    let within : row < c.in-Delta.field-2 = omega (arith, l, rw a.is at c.requires.in_range) in
+    let base = near-signed c.whole_at-base.result c.whole_at-base.ensures.least c.whole_at-base.ensures.most ∙ c.whole_at-base.ensures.whole ∙ ap (λ t. whole_or_zero (row_at (rows t) (row / block_rows))) c.deref-in-Delta.ensures ∙ whole_row (rows bases) (row / block_rows) in
+    let d = c.deref-in-Delta-2.ensures in
+    let typed = ap (λ t. integer_of (tree_type t)) d ∙ ap integer_of own.deltas_type in
+    rw a.is
+    (c.summed_at.ensures ∙ (λ i. cond (is_valid_at c.in-Delta.valid row) (int (wrap (typed i) (sum_before (base i) (rows (d i)) row (row + 1)))) null)
+    ∙ sym (row_at-delta bases deltas c.in-Delta.field-2 c.in-Delta.valid c.in-Delta.field-4 a.well_formed row within))
+
 -- ---- the bytes of a row
 
 pub node::var_bin::piece-part-requires : goal.node::var_bin::piece-part-requires
@@ -173,3 +363,84 @@ array::Patches::place_of-returns t c =
     let met : c.loop-low.high ≡ c.loop-low.low = omega (arith, inv.2, c.loop-low-test.false) in
     let none = place-none (rows p.indices) c.index_at-wanted.result c.loop-low.low inv.0 (rw met at inv.1) in
     sym (subst (λ n. place_of (rows p.indices) n ≡ None) c.index_at-wanted.ensures none)
+
+-- ---- whole numbers and the places of runs
+
+pub node::offsets::whole_at-returns-clause-least : goal.node::offsets::whole_at-returns-clause-least
+node::offsets::whole_at-returns-clause-least t c =
+    let own = c.whole.ensures ∙ ap whole_or_zero c.cell_at.ensures in
+    let near = whole-near c.args.offsets.now c.args.place c.known.ensures c.requires.integers c.requires.in_range in
+    let least : negsuc (2 ^ 63 - 1) ≤ℤ c.whole.result = subst (λ z. negsuc (2 ^ 63 - 1) ≤ℤ z) (sym own) near.least in
+    let most : c.whole.result ≤ℤ pos (2 ^ 64 - 1) = subst (λ z. z ≤ℤ pos (2 ^ 64 - 1)) (sym own) near.most in
+    omega (arith, ints, least, most)
+
+pub node::offsets::whole_at-returns-clause-most : goal.node::offsets::whole_at-returns-clause-most
+node::offsets::whole_at-returns-clause-most t c =
+    let own = c.whole.ensures ∙ ap whole_or_zero c.cell_at.ensures in
+    let near = whole-near c.args.offsets.now c.args.place c.known.ensures c.requires.integers c.requires.in_range in
+    let least : negsuc (2 ^ 63 - 1) ≤ℤ c.whole.result = subst (λ z. negsuc (2 ^ 63 - 1) ≤ℤ z) (sym own) near.least in
+    let most : c.whole.result ≤ℤ pos (2 ^ 64 - 1) = subst (λ z. z ≤ℤ pos (2 ^ 64 - 1)) (sym own) near.most in
+    omega (arith, ints, least, most)
+
+-- the differences of a row's block
+
+pub node::delta_rows::sum_at-loop-place-init : goal.node::delta_rows::sum_at-loop-place-init
+node::delta_rows::sum_at-loop-place-init t c =
+    let least = c.requires.least in
+    let most = c.requires.most in
+    let begin = sum-start c.args.base (rows c.args.deltas.now) c.args.row (block_rows * (c.args.row / block_rows)) refl in
+    (omega (arith, ints, begin), omega (arith, ints, least), omega (arith, ints, most))
+
+pub node::delta_rows::sum_at-loop-place-preserved : goal.node::delta_rows::sum_at-loop-place-preserved
+node::delta_rows::sum_at-loop-place-preserved t c =
+    let e = c.whole_at-sum.ensures in
+    let whole = e.whole in
+    let least = e.least in
+    let most = e.most in
+    let inv = c.loop-place.invariant in
+    let sum = inv.0 in
+    let low = inv.1 in
+    let high = inv.2 in
+    let next = sum-next c.args.base (rows c.args.deltas.now) c.args.row c.loop-place.place (omega arith) (omega arith) in
+    (omega (arith, ints, whole, least, most, sum, low, high, next), omega (arith, ints, least, most, low, high), omega (arith, ints, least, most, low, high))
+
+pub node::delta_rows::sum_at-returns : goal.node::delta_rows::sum_at-returns
+node::delta_rows::sum_at-returns t c =
+    let inv = c.loop-place.invariant in
+    let sum = inv.0 in
+    let low = inv.1 in
+    let high = inv.2 in
+    let end : c.loop-place.place ≡ c.args.row + 1 = omega arith in
+    let all = ap (sum_before c.args.base (rows c.args.deltas.now) c.args.row) end in
+    omega (arith, ints, sum, low, high, all)
+
+-- the value at the sum of two numbers
+
+pub node::rle_rows::rle_at-overflow_add-place : goal.node::rle_rows::rle_at-overflow_add-place
+node::rle_rows::rle_at-overflow_add-place t c =
+    let code = code_is (rows c.args.values.now) (c.args.begin +ℤ c.args.index) c.requires.place in
+    let is = code.is in
+    let within = code.within in
+    omega (arith, ints, is, within, c.len-places.ensures)
+
+-- the run of a row
+
+pub node::run_end::run_at-loop-low-preserved-then-offset_at-from : goal.node::run_end::run_at-loop-low-preserved-then-offset_at-from
+node::run_end::run_at-loop-low-preserved-then-offset_at-from t c =
+    let ends = rows c.args.ends.now in
+    let inv = c.loop-low.invariant in
+    let low = inv.2 in
+    let high = inv.3 in
+    let middle = c.loop-low.low + (c.loop-low.high - c.loop-low.low) / 2 in
+    let within : middle < length ends = omega arith in
+    (before-next 1 (2 ^ 64) ends c.args.row middle c.requires.rising within (omega (arith, c.offset_at.ensures, c.from.ensures)), inv.1, omega arith, high)
+
+pub node::run_end::run_at-loop-low-preserved : goal.node::run_end::run_at-loop-low-preserved
+node::run_end::run_at-loop-low-preserved t c =
+    let ends = rows c.args.ends.now in
+    let inv = c.loop-low.invariant in
+    let low = inv.2 in
+    let high = inv.3 in
+    let middle = c.loop-low.low + (c.loop-low.high - c.loop-low.low) / 2 in
+    let within : middle < length ends = omega arith in
+    (inv.0, above-next 1 (2 ^ 64) ends c.args.row middle c.requires.rising within (omega (arith, c.offset_at.ensures, c.from.ensures)), omega arith, omega arith)

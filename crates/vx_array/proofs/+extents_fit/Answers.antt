@@ -1,7 +1,12 @@
-use Rattle.std.proofs.Common.{◌∙◌, ap, sym, arith}
+use Rattle.std.proofs.Common.{◌≡◌, ◌∙◌, Bool, true, false, ap, sym, refl, arith, length}
+use Rattle.std.specs.Prelude.{nat_le, ◌&&◌}
 use Rattle.std.specs.List.{list_all}
-use Rattle.vx_model.specs.Extents.{extents_fit}
+use Rattle.vx_model.specs.Extents.{extents_fit, row_limit}
+use Rattle.vx_model.specs.Rows.{rows}
+use Rattle.vx_model.proofs.RunEndLemmas.{length-run_end}
 use Rattle.vx_model.proofs.TreesLemmas.{few-of_list}
+use Rattle.vx_array.specs.TreeOf.{tree_of}
+use Rattle.vx_array.proofs.AtNode.{at_node}
 use Rattle.vx_array.proofs.Views.{all-stop, all-end}
 use Rattle.vx_array.proofs.+extents_fit.Goals as goal
 
@@ -15,3 +20,13 @@ pub arrays::Arrays::extents_fit-returns : goal.arrays::Arrays::extents_fit-retur
 arrays::Arrays::extents_fit-returns t c =
     let end = all-end extents_fit c.as_slice-tree-items.result.now c.loop-tree.tree-index (omega arith) c.loop-tree.invariant in
     sym (few-of_list c.args.self.now ∙ ap (list_all extents_fit) (sym c.as_slice-tree-items.ensures) ∙ end)
+
+with_true : (b : Bool) → b ≡ (b && true)
+with_true true = refl
+with_true false = refl
+
+pub array::ArrayRef::extents_fit-returns-in-RunEnd : goal.array::ArrayRef::extents_fit-returns-in-RunEnd
+array::ArrayRef::extents_fit-returns-in-RunEnd t c =
+    let a = at_node c.self.view_is c.self.invariant c.in-RunEnd.is in
+    let count = c.self.invariant.len_is ∙ ap (λ node. length (rows (tree_of node))) c.in-RunEnd.is ∙ length-run_end c.in-RunEnd.field-0.value c.in-RunEnd.field-1.value in
+    rw a.is (c.is_few-in-RunEnd.ensures ∙ ap (λ n. nat_le n row_limit) count ∙ with_true _)

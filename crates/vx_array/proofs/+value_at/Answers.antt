@@ -8,12 +8,14 @@ use Rattle.vx_base.specs.Masks.{rows_between}
 use Rattle.vx_base.specs.PlainType.{is_flat}
 use Rattle.vx_base.specs.PlainValue.{null, items, of_list}
 use Rattle.vx_base.specs.TypeOf.{value_of}
-use Rattle.vx_model.specs.Rows.{rows, row_at, is_valid_at, offset_at, list_value}
-use Rattle.vx_model.specs.Tree.{node_count, list_count}
+use Rattle.vx_model.specs.Rows.{rows, row_at, is_valid_at, offset_at, list_value, patched}
+use Rattle.vx_model.specs.Tree.{node_count, list_count, patches_count}
 use Rattle.vx_model.specs.TreeType.{tree_type}
 use Rattle.vx_model.proofs.FixedSizeListLemmas.{length-fixed_size_list, row_at-fixed_size_list}
 use Rattle.vx_model.proofs.ListLemmas.{length-list, row_at-list}
 use Rattle.vx_model.proofs.OffsetLemmas.{offset_step}
+use Rattle.vx_model.proofs.PatchedLemmas.{patched-place, patched-fill}
+use Rattle.vx_model.proofs.SparseLemmas.{length-sparse, row_at-sparse}
 use Rattle.vx_model.proofs.StructLemmas.{length-structure, row_at-structure}
 use Rattle.vx_model.proofs.TreesLemmas.{list_of-of_list, item_falls_at}
 use Rattle.vx_array.proofs.AtNode.{at_node}
@@ -26,7 +28,7 @@ pub array::ArrayRef::value_at-unreachable-requires : goal.array::ArrayRef::value
 array::ArrayRef::value_at-unreachable-requires t c =
     let flat : is_flat (tree_type c.args.self.now) ≡ false = sym (c.is_flat.ensures ∙ ap is_flat c.dtype.ensures) ∙ c.if-is_flat.false in
     no_other c.self.inside.node c.self.invariant.well_formed (ap (λ tree. is_flat (tree_type tree)) c.self.view_is ∙ flat)
-    c.in_default.not-Constant c.in_default.not-Null c.in_default.not-Struct c.in_default.not-List c.in_default.not-FixedSizeList
+    c.in_default.not-Constant c.in_default.not-Null c.in_default.not-Struct c.in_default.not-List c.in_default.not-FixedSizeList c.in_default.not-Sparse
 
 pub array::ArrayRef::value_at-struct_at-requires : goal.array::ArrayRef::value_at-struct_at-requires
 array::ArrayRef::value_at-struct_at-requires t c =
@@ -120,3 +122,39 @@ value_at::elements_between-loop-row-preserved t c =
     let all = rows c.args.elements.now in
     ap (map value_of) c.in_ok-push.ensures.items ∙ map-append value_of c.loop-row.values.items (c.in_ok-value_at.field-0 ∷ []) ∙ ap (λ vs. vs ++ own ∷ []) c.loop-row.invariant
     ∙ sym (between_next all c.args.start c.loop-row.row own (omega arith) (omega arith) c.in_ok-value_at.ensures)
+
+pub array::ArrayRef::value_at-sparse_value_at-requires : goal.array::ArrayRef::value_at-sparse_value_at-requires
+array::ArrayRef::value_at-sparse_value_at-requires t c =
+    let a = at_node c.self.view_is c.self.invariant c.in-Sparse.is in
+    let p = c.in-Sparse.patches.value in
+    let l = length-sparse p.array_len p.offset p.indices p.values c.in-Sparse.fill in
+    let within : c.args.row < p.array_len = omega (arith, l, rw a.is at c.requires.in_range) in
+    (omega (arith, ap node_count a.is, ap patches_count c.deref-in-Sparse.ensures), rw c.deref-in-Sparse.ensures within)
+
+pub array::ArrayRef::value_at-returns-in-Sparse : goal.array::ArrayRef::value_at-returns-in-Sparse
+array::ArrayRef::value_at-returns-in-Sparse t c =
+    let a = at_node c.self.view_is c.self.invariant c.in-Sparse.is in
+    let p = c.in-Sparse.patches.value in
+    let l = length-sparse p.array_len p.offset p.indices p.values c.in-Sparse.fill in
+    let within : c.args.row < p.array_len = omega (arith, l, rw a.is at c.requires.in_range) in
+    let own = ap (λ tree. row_at (rows tree) c.args.row) a.is ∙ row_at-sparse p.array_len p.offset p.indices p.values c.in-Sparse.fill c.args.row within in
+    let read = ap (λ q. patched (rows q.indices) (rows q.values) c.in-Sparse.fill.value (q.offset + c.args.row)) c.deref-in-Sparse.ensures in
+    subst (λ v. OrMemory c.sparse_value_at.result (λ value. value_of value ≡ v)) (read ∙ sym own) c.sparse_value_at.ensures
+
+-- ---- a fill and patches
+
+pub node::sparse::sparse_value_at-returns-in-Some : goal.node::sparse::sparse_value_at-returns-in-Some
+node::sparse::sparse_value_at-returns-in-Some t c =
+    let p = c.args.patches.now in
+    let lengths = subst (λ q. length (rows q.indices) ≡ length (rows q.values)) c.patches.view_is c.patches.invariant.2.lengths in
+    let found = sym c.place_of.ensures ∙ c.in-Some.is in
+    let own = patched-place (rows p.indices) (rows p.values) c.args.fill.now.value (p.offset + c.args.row) c.in-Some.place lengths found in
+    let read = ap (λ q. row_at (rows q.values) c.in-Some.place) c.patches.view_is in
+    subst (λ v. OrMemory c.value_at.result (λ value. value_of value ≡ v)) (read ∙ sym own) c.value_at.ensures
+
+pub node::sparse::sparse_value_at-returns-in-None : goal.node::sparse::sparse_value_at-returns-in-None
+node::sparse::sparse_value_at-returns-in-None t c =
+    let p = c.args.patches.now in
+    let none = sym c.place_of.ensures ∙ c.in-None.is in
+    let own = patched-fill (rows p.indices) (rows p.values) c.args.fill.now.value (p.offset + c.args.row) none in
+    subst (λ v. OrMemory c.copy.result (λ value. value_of value ≡ v)) (c.value.ensures ∙ sym own) c.copy.ensures

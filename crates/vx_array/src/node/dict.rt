@@ -120,7 +120,7 @@ fn have_places(alloc: Global, codes: &ArrayRef, values: u64) -> bool
     }
 }
 
-fn is_place(code: Option<i128>, values: u64) -> bool
+pub(super) fn is_place(code: Option<i128>, values: u64) -> bool
     ensures { result ≡ is_place values (cell code) }
 {
     match code {
@@ -160,11 +160,12 @@ pub(crate) fn picked_at<'a>(values: &'a ArrayRef, code: Cell<'_>) -> Cell<'a>
     }
 }
 
-// A copy, of copies of the codes and the values.
-pub(crate) fn copied_dict(alloc: Global, codes: ArrayRef, values: ArrayRef) -> VortexResult<Node>
-    ensures { OrMemory result (λ copy. tree_of copy ≡ dict codes values) }
+// A copy, of a copy of the values.
+#[cycle(copy)]
+pub(crate) fn copied_dict(alloc: Global, codes: &ArrayRef, values: ArrayRef) -> VortexResult<Node>
+    ensures { OrMemory result (λ copy. tree_of copy ≡ dict codes.now values) }
 {
-    let codes = Box::new(alloc, codes)?;
+    let codes = Box::new(alloc, codes.copy(alloc)?)?;
     let values = Box::new(alloc, values)?;
     Ok(Node::Dict(codes, values))
 }

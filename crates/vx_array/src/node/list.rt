@@ -1,6 +1,6 @@
 //! Lists by their offsets into elements.
 
-ghost use Rattle.std.specs.Prelude.{◌≡◌};
+ghost use Rattle.std.specs.Prelude.{◌≡◌, None};
 ghost use Rattle.vx_array.specs.TreeOf.{tree_of};
 ghost use Rattle.vx_base.specs.Answers.{Makes, OrMemory};
 ghost use Rattle.vx_base.specs.PlainType as types;
@@ -23,7 +23,6 @@ impl ArrayRef {
     /// Refuses MismatchedTypes where the offsets aren't non-nullable integers; then LengthMismatch where there is no
     /// offset or the mask hasn't a bit a row; then OutOfBounds where the offsets don't begin at 0, fall, or don't end at
     /// the elements' length; then MismatchedTypes where the mask has a false in a non-nullable node.
-    #[tactic(auto, using(crate::proofs::Making::list_array))]
     pub fn list(
         alloc: Global,
         elements: ArrayRef,
@@ -33,12 +32,28 @@ impl ArrayRef {
     ) -> Made<(ArrayRef, ArrayRef, Option<Mask>)>
         ensures { Makes (list_refusal elements offsets valid nullability) (list elements offsets (kept valid) nullability) (elements, offsets, valid) result }
     {
-        if let Some(error) = refusal(&elements, &offsets, &valid, nullability) {
-            return Err(Refused {
+        match refusal(&elements, &offsets, &valid, nullability) {
+            Some(error) => Err(Refused {
                 error,
                 inputs: (elements, offsets, valid),
-            });
+            }),
+            None => ArrayRef::list_of_offsets(alloc, elements, offsets, valid, nullability),
         }
+    }
+
+    /// The same of offsets that are known to be some into `elements`. It looks at no row, and only want of memory hands
+    /// the inputs back.
+    #[tactic(auto, using(crate::proofs::Making::list_array))]
+    pub fn list_of_offsets(
+        alloc: Global,
+        elements: ArrayRef,
+        offsets: ArrayRef,
+        valid: Option<Mask>,
+        nullability: Nullability,
+    ) -> Made<(ArrayRef, ArrayRef, Option<Mask>)>
+        requires { list_refusal elements offsets valid nullability ≡ None }
+        ensures { Makes None (list elements offsets (kept valid) nullability) (elements, offsets, valid) result }
+    {
         let own_type = match list_type(alloc, &elements, nullability) {
             Ok(own_type) => own_type,
             Err(error) => {
@@ -97,17 +112,18 @@ fn list_type(alloc: Global, elements: &ArrayRef, nullability: Nullability) -> Vo
     Ok(DType::list(Box::new(alloc, items)?, nullability))
 }
 
-// A copy, of copies of the elements and the offsets.
+// A copy, of a copy of the offsets.
+#[cycle(copy)]
 pub(crate) fn copied_list(
     alloc: Global,
-    elements: ArrayRef,
+    elements: &ArrayRef,
     offsets: ArrayRef,
     valid: &Option<Mask>,
     nullability: Nullability,
 ) -> VortexResult<Node>
-    ensures { OrMemory result (λ copy. tree_of copy ≡ list elements offsets valid.now nullability) }
+    ensures { OrMemory result (λ copy. tree_of copy ≡ list elements.now offsets valid.now nullability) }
 {
-    let elements = Box::new(alloc, elements)?;
+    let elements = Box::new(alloc, elements.copy(alloc)?)?;
     let offsets = Box::new(alloc, offsets)?;
     let valid = copy_validity(valid, alloc)?;
     Ok(Node::List(elements, offsets, valid, nullability))

@@ -1,7 +1,7 @@
 //! Offsets into bytes or elements.
 
 ghost use Rattle.std.specs.List.{list_all};
-ghost use Rattle.std.specs.Prelude.{◌≡◌, ◌<◌, ◌≤◌, ◌+◌, ◌-◌, ◌&&◌, IsTrue, not, int_le, length};
+ghost use Rattle.std.specs.Prelude.{◌≡◌, ◌<◌, ◌≤◌, ◌≤ℤ◌, ◌+◌, ◌-◌, ◌^◌, ◌&&◌, IsTrue, not, int_le, length, pos, negsuc};
 ghost use Rattle.vx_base.specs.PlainType.{is_integer, is_nullable};
 ghost use Rattle.vx_base.specs.PlainValue.{cell, whole_or_zero};
 ghost use Rattle.vx_base.specs.TypeOf.{type_of};
@@ -91,12 +91,16 @@ fn never_fall(offsets: &ArrayRef) -> bool
 }
 
 // The whole number at a place.
+#[cycle(cell_at)]
 #[tactic(auto, using(crate::proofs::Flat::flats))]
-fn whole_at(offsets: &ArrayRef, place: u64) -> i128
+pub(crate) fn whole_at(offsets: &ArrayRef, place: u64) -> i128
     requires integers { IsTrue (is_integer (tree_type offsets.now)) }
     requires in_range { place < length (rows offsets.now) }
-    ensures { result ≡ whole_or_zero (row_at (rows offsets.now) place) }
+    ensures whole { result ≡ whole_or_zero (row_at (rows offsets.now) place) }
+    ensures least { negsuc (2 ^ 63 - 1) ≤ℤ result }
+    ensures most { result ≤ℤ pos (2 ^ 64 - 1) }
 {
+    offsets.known();
     offsets.cell_at(place).whole()
 }
 

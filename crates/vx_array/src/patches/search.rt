@@ -74,7 +74,7 @@ impl Patches {
     // The same, where nobody counts.
     #[cycle(cell_at)]
     #[tactic(auto, using(vx_model::proofs::PatchLemmas::place_steps))]
-    fn place_of(&self, row: u64) -> Option<u64>
+    pub(crate) fn place_of(&self, row: u64) -> Option<u64>
         ensures { result ≡ place_of (rows self.now.indices) (self.now.offset + row) }
     {
         let wanted = self.index_at(row);

@@ -4,7 +4,7 @@ ghost use Rattle.std.specs.Prelude.{◌≡◌, ◌<◌, ◌^◌, ◌++◌, OnOk,
 ghost use Rattle.vx_base.specs.TypeText.{value_text};
 ghost use Rattle.vx_model.specs.Size.{size};
 ghost use Rattle.vx_model.specs.Tree.{PlainPacked, packed_of};
-ghost use Rattle.vx_array.specs.TreeOf.{tree_of, unboxed};
+ghost use Rattle.vx_array.specs.TreeOf.{sparse_of, tree_of, unboxed};
 ghost use Rattle.vx_document.specs.Listing.{packed_numbers, own_numbers, heading, line};
 
 use std::alloc::{AllocError, Global};
@@ -39,6 +39,24 @@ fn patch_count(patches: &Option<Box<Patches>>) -> u64
     }
 }
 
+// Adds the offset of patches, the value in all other rows, and how many patches there are.
+fn push_patched(
+    alloc: Global,
+    text: &mut String,
+    patches: &Patches,
+    fill: &Scalar,
+) -> Result<(), AllocError>
+    ensures { OnOk result (string_bytes text.new
+        ≡ string_bytes text.old ++ own_numbers (sparse_of patches.now fill.now)) }
+{
+    let offset = patches.offset();
+    write!(text, " offset={offset}")?;
+    push_named(alloc, text, "fill", fill)?;
+    let count = patches.num_patches();
+    write!(text, " patches={count}")?;
+    Ok(())
+}
+
 // Adds the numbers that only this encoding has.
 fn push_own_numbers(alloc: Global, text: &mut String, node: &Node) -> Result<(), AllocError>
     ensures { OnOk result (string_bytes text.new
@@ -56,10 +74,16 @@ fn push_own_numbers(alloc: Global, text: &mut String, node: &Node) -> Result<(),
             write!(text, " list_size={list_size}")?;
             Ok(())
         }
+        Node::Sparse(patches, fill) => push_patched(alloc, text, patches, fill),
+        Node::Sequence(_, _, first, step, _) => {
+            write!(text, " first={first} step={step}")?;
+            Ok(())
+        }
         Node::Bool(_, _, _) | Node::Primitive(_, _, _) | Node::VarBinView(_, _, _) => Ok(()),
         Node::VarBin(_, _, _, _) | Node::Timestamp(_, _) | Node::Masked(_, _) => Ok(()),
         Node::ZigZag(_) | Node::Dict(_, _) | Node::Null(_) => Ok(()),
         Node::Struct(_, _, _, _, _) | Node::List(_, _, _, _) => Ok(()),
+        Node::RunEnd(_, _) | Node::Rle(_, _, _, _) | Node::Delta(_, _, _, _, _) => Ok(()),
     }
 }
 

@@ -10,7 +10,10 @@ use std::alloc::Global;
 use vx_base::VortexResult;
 use vx_btrblocks::{AnyScheme, BtrBlocksCompressor};
 use vx_compressor::{CascadingCompressor, Schemes};
-use vx_schemes::{BitPackingScheme, FoRScheme, IntDictScheme, ZigZagScheme};
+use vx_schemes::{
+    BitPackingScheme, DeltaScheme, FoRScheme, IntDictScheme, IntRLEScheme, RunEndScheme,
+    SequenceScheme, SparseScheme, ZigZagScheme,
+};
 
 // The shipped schemes in their order, and then the caller's.
 fn schemes(alloc: Global) -> VortexResult<Schemes<AnyScheme<QuickPacking>>>
@@ -20,7 +23,12 @@ fn schemes(alloc: Global) -> VortexResult<Schemes<AnyScheme<QuickPacking>>>
     schemes.push(AnyScheme::FoR(FoRScheme::v1()))?;
     schemes.push(AnyScheme::ZigZag(ZigZagScheme))?;
     schemes.push(AnyScheme::BitPacking(BitPackingScheme::v1()))?;
+    schemes.push(AnyScheme::Sparse(SparseScheme))?;
     schemes.push(AnyScheme::IntDict(IntDictScheme))?;
+    schemes.push(AnyScheme::RunEnd(RunEndScheme))?;
+    schemes.push(AnyScheme::Sequence(SequenceScheme))?;
+    schemes.push(AnyScheme::IntRLE(IntRLEScheme))?;
+    schemes.push(AnyScheme::Delta(DeltaScheme::default()))?;
     schemes.push(AnyScheme::Own(QuickPacking::new()))?;
     Ok(Schemes::from_vec(schemes))
 }

@@ -63,7 +63,7 @@ module _ (t : Tree) (p : PType) (xs : List ℤ) (valid : Validity) (n : Nullabil
   abbrev pub all_bits : List Bool
   all_bits = unwrap_or valid (replicate (length xs) true)
 
-  all_bits-are : all_bits ≡ valid_bits (rows t)
+  pub all_bits-are : all_bits ≡ valid_bits (rows t)
   all_bits-are = by_validity valid refl
     where
       by_validity : (o : Validity) → valid ≡ o → unwrap_or o (replicate (length xs) true) ≡ valid_bits (rows t)

@@ -23,7 +23,8 @@ impl Ints {
         with_ints!(self, items => sequence_of(items.as_slice()))
     }
 
-    /// The sequence of a type whose row i is first + i * step. The type holds the first and the last row.
+    /// The sequence of `len` rows of a type whose row i is first + i * step. Where there are rows, the type holds the
+    /// first and the last; the step itself it need not hold.
     pub fn stepped(
         alloc: Global,
         ptype: PType,

@@ -2,16 +2,19 @@ use Rattle.std.proofs.Common.{◌≡◌, ◌<◌, ◌+◌, ◌∙◌, ◌++◌, 
 use Rattle.std.proofs.lemmas.Iterator.Adapters.{YieldsList-from_vec}
 use Rattle.std.proofs.lemmas.Iterator.Consumers.{YieldsList-turn}
 use Rattle.std.proofs.lemmas.List.{length_push, drop_more}
+use Rattle.vx_base.specs.PlainType.{is_flat}
 use Rattle.vx_model.specs.Cascade.{cascade, offsets_site}
 use Rattle.vx_model.specs.Column.{column_of}
 use Rattle.vx_model.specs.Rows.{rows}
 use Rattle.vx_model.specs.Tree.{Tree, node_count, list_count, list, fixed_size_list}
+use Rattle.vx_model.specs.TreeType.{tree_type}
 use Rattle.vx_model.specs.Whole.{IsWhole, narrowed}
 use Rattle.vx_model.proofs.TakenApartLemmas.{fields-whole, structure-taken, structure-well, elements-whole, offsets-plain, list-taken, list-well, fixed_elements-whole, fixed_size_list-taken, fixed_size_list-well}
 use Rattle.vx_model.proofs.TreesLemmas.{item_falls_at}
 use Rattle.vx_compressor.specs.Cascade.{setting, leaf_tree}
 use Rattle.vx_compressor.proofs.CascadeLemmas.{lawful-map, leaves-stand}
 use Rattle.vx_compressor.proofs.OneValueTrees.{answers_along}
+use Rattle.vx_compressor.proofs.PlainNodeLemmas.{is_nest, plain_of-nest, no_nest}
 use Rattle.vx_compressor.proofs.nested.+nested.Goals as goal
 
 -- one tree more of those that a list becomes
@@ -138,6 +141,14 @@ plain_tree-returns-in_ok-elements-in-FixedSizeList-clause-answer g t c =
     let made = c.in_ok-elements-in-FixedSizeList in
     let is : fixed_size_list inside p.size p.len p.valid p.nullability ≡ c.args.plain = ap (λ e. fixed_size_list e p.size p.len p.valid p.nullability) c.into_inner-in-FixedSizeList.ensures ∙ p.ensures.tree in
     answers_along c.fixed_size_list_over.result _ _ (fixed_size_list-taken (leaf_tree set) stand c.args.plain c.requires inside p.size p.len p.valid p.nullability is made.elements made.ensures.answer) c.fixed_size_list_over.ensures
+
+-- ---- no other node
+
+pub plain_tree-unreachable-requires : goal.plain_tree-unreachable-requires
+plain_tree-unreachable-requires g t c =
+    let other = c.in_default in
+    let nest = plain_of-nest (tree_type c.args.plain) (rows c.args.plain) (ap is_flat (sym c.dtype.ensures) ∙ sym c.is_flat.ensures ∙ c.if-is_flat.false) in
+    no_nest c.into_node.result other.not-Null other.not-Struct other.not-List other.not-FixedSizeList (ap is_nest (c.into_node.ensures.tree ∙ c.requires.plain) ∙ nest)
 
 -- ---- fields
 

@@ -46,8 +46,8 @@ pub(crate) fn bit_packing_tree(
     packing(values, valid, has_null, nullability, ctx)
 }
 
-// The validity with a bit for each row.
-fn mask_of(alloc: Global, valid: &Option<Mask>, len: u64) -> VortexResult<Mask>
+/// The validity with a bit for each row.
+pub(crate) fn mask_of(alloc: Global, valid: &Option<Mask>, len: u64) -> VortexResult<Mask>
     ensures { Answers result (unwrap_or valid.now (replicate len true)) }
 {
     match valid {

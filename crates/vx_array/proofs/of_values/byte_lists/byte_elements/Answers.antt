@@ -3,8 +3,8 @@ use Rattle.std.specs.Vec.Iter.{into_iter_items}
 use Rattle.vx_base.specs.PlainValue.{bytes_or_empty}
 use Rattle.vx_base.specs.TypeOf.{value_of}
 use Rattle.vx_model.specs.Nested.{list_rows, elements}
-use Rattle.vx_array.proofs.ByteLists.{rows-more, row_ends-more}
-use Rattle.vx_array.proofs.ValueLemmas.{ends_from, offsets_from-ends}
+use Rattle.vx_array.proofs.ByteLists.{rows-more, rows-longer}
+use Rattle.vx_array.proofs.ValueLemmas.{ends_from, offsets_from-ends, ends-more}
 use Rattle.vx_array.proofs.of_values.byte_lists.byte_elements.Goals as goal
 
 pub loop-value-init : goal.loop-value-init
@@ -30,5 +30,5 @@ loop-value-preserved c =
     let pushed : c.push-in-loop-value.new.self.items ≡ l.offsets.items ++ length new ∷ [] = c.in_ok-push-2.ensures.items ∙ ap (λ n. l.offsets.items ++ n ∷ []) (search rules) in
     record {
       rows = rows-more l.rows.items new left rest v all next c.in_ok-push_bytes.ensures.ok l.invariant.rows;
-      offsets = ap (λ os. os ++ ends_from (length new) (list_rows (map value_of rest))) pushed ∙ row_ends-more l.rows.items new left rest v all next c.in_ok-push_bytes.ensures.ok l.offsets.items l.invariant.offsets;
+      offsets = ap (λ os. os ++ ends_from (length new) (list_rows (map value_of rest))) pushed ∙ ends-more (length l.rows.items) (length new) left rest v all l.offsets.items next (rows-longer l.rows.items new left rest v all next c.in_ok-push_bytes.ensures.ok) l.invariant.offsets;
     }

@@ -2,7 +2,7 @@ use Rattle.std.proofs.Common.{rules, ◌≡◌, ◌∙◌, sym, ap, map, ◌++�
 use Rattle.std.specs.Vec.Iter.{into_iter_items}
 use Rattle.vx_base.specs.TypeOf.{value_of}
 use Rattle.vx_model.specs.Nested.{list_rows, elements}
-use Rattle.vx_array.proofs.ValueLemmas.{ends_from, offsets_from-ends, elements-more, ends-more}
+use Rattle.vx_array.proofs.ValueLemmas.{ends_from, offsets_from-ends, elements-more, items-longer, ends-more}
 use Rattle.vx_array.proofs.of_values.within.list_items.Goals as goal
 
 pub loop-value-init : goal.loop-value-init
@@ -28,5 +28,5 @@ loop-value-preserved c =
     let pushed : c.push-in-loop-value.new.self.items ≡ l.offsets.items ++ length new ∷ [] = c.in_ok-push-2.ensures.items ∙ ap (λ n. l.offsets.items ++ n ∷ []) (search rules) in
     record {
       elements = elements-more l.items.items new left rest v all next c.in_ok-push_items.ensures.ok l.invariant.elements;
-      offsets = ap (λ os. os ++ ends_from (length new) (list_rows (map value_of rest))) pushed ∙ ends-more l.items.items new left rest v all next c.in_ok-push_items.ensures.ok l.offsets.items l.invariant.offsets;
+      offsets = ap (λ os. os ++ ends_from (length new) (list_rows (map value_of rest))) pushed ∙ ends-more (length l.items.items) (length new) left rest v all l.offsets.items next (items-longer l.items.items new left rest v all next c.in_ok-push_items.ensures.ok) l.invariant.offsets;
     }

@@ -1,0 +1,94 @@
+//! The rows of a delta node: one by itself, and all in one pass.
+
+ghost use Rattle.std.specs.Prelude.{◌≡◌, ◌<◌, ◌≤ℤ◌, ◌+◌, ◌-◌, ◌*◌, ◌^◌, IsTrue, if◌then◌else◌, length, map, pos, negsuc, take, true};
+ghost use Rattle.vx_array.specs.Sums.{sum_before};
+ghost use Rattle.vx_base.specs.Answers.{OrMemory};
+ghost use Rattle.vx_base.specs.CellValue.{cell_value};
+ghost use Rattle.vx_base.specs.Packed.{block_count};
+ghost use Rattle.vx_base.specs.PlainType.{is_integer, integer_of};
+ghost use Rattle.vx_base.specs.PlainValue.{int, null};
+ghost use Rattle.vx_base.specs.Undelta.{undelta};
+ghost use Rattle.vx_base.specs.Wrapping.{wrap};
+ghost use Rattle.vx_model.specs.Decoded.{zeroed_by};
+ghost use Rattle.vx_model.specs.Refusals.{validity_length};
+ghost use Rattle.vx_model.specs.Rows.{rows, block_rows, is_valid_at};
+ghost use Rattle.vx_model.specs.TreeType.{tree_type};
+ghost use Rattle.vx_values.specs.IntsOf.{ptype_of, wholes_of};
+ghost use Rattle.vx_values.specs.ValuesOf.{ints, AreRows};
+
+use super::offsets::whole_at;
+use super::rle::BLOCK_ROWS;
+use crate::array::ArrayRef;
+use std::alloc::Global;
+use vx_base::{Cell, Mask, PType, VortexResult};
+use vx_values::{Decoded, Ints, behind, copy_validity, is_valid};
+
+// The number in a row, null where it isn't valid.
+#[cycle(cell_at)]
+pub(crate) fn summed_at(
+    base: i128,
+    deltas: &ArrayRef,
+    valid: &Option<Mask>,
+    row: u64,
+) -> Cell<'static>
+    requires least { negsuc (2 ^ 63 - 1) ≤ℤ base }
+    requires most { base ≤ℤ pos (2 ^ 64 - 1) }
+    requires deltas { IsTrue (is_integer (tree_type deltas.now)) }
+    requires in_range { row < length (rows deltas.now) }
+    ensures { cell_value result ≡ (if is_valid_at valid.now row then int (wrap (integer_of (tree_type deltas.now)) (sum_before base (rows deltas.now) row (row + 1))) else null) }
+{
+    if !is_valid(valid, row) {
+        return Cell::Null;
+    }
+    let ptype = deltas.dtype().ptype();
+    Cell::Int(wrapped(ptype, sum_at(base, deltas, row)))
+}
+
+// The base of a row's block and the differences from there up to the row, summed.
+#[cycle(cell_at)]
+fn sum_at(base: i128, deltas: &ArrayRef, row: u64) -> i128
+    requires least { negsuc (2 ^ 63 - 1) ≤ℤ base }
+    requires most { base ≤ℤ pos (2 ^ 64 - 1) }
+    requires deltas { IsTrue (is_integer (tree_type deltas.now)) }
+    requires in_range { row < length (rows deltas.now) }
+    ensures { result ≡ sum_before base (rows deltas.now) row (row + 1) }
+{
+    let _rows = deltas.len();
+    let start = BLOCK_ROWS * (row / BLOCK_ROWS);
+    let mut sum = base;
+    for place in start..row + 1 {
+        sum += whole_at(deltas, place);
+    }
+    sum
+}
+
+// A number wrapped into an integer type.
+fn wrapped(ptype: PType, whole: i128) -> i128
+    ensures { result ≡ wrap ptype whole }
+{
+    let all = ptype.greatest() - ptype.least() + 1;
+    let low = whole.rem_euclid(all);
+    if low <= ptype.greatest() {
+        low
+    } else {
+        low - all
+    }
+}
+
+// The rows, by the bases and the differences.
+pub(crate) fn decoded_delta(
+    alloc: Global,
+    bases: &Ints,
+    deltas: &Ints,
+    len: u64,
+    valid: &Option<Mask>,
+) -> VortexResult<Decoded>
+    requires kinds { ptype_of deltas.now ≡ ptype_of bases.now }
+    requires begins { length (wholes_of bases.now) ≡ block_count len }
+    requires enough { length (wholes_of deltas.now) ≡ block_rows * block_count len }
+    requires bits { validity_length valid.now len ≡ true }
+    ensures { OrMemory result (AreRows (ints (ptype_of bases.now)) (map int (zeroed_by (pos 0) valid.now (take len (undelta (ptype_of bases.now) (wholes_of bases.now) (wholes_of deltas.now))))) valid.now) }
+{
+    let rows = bases.undelta(alloc, deltas)?.truncated(len);
+    Ok(behind(rows, copy_validity(valid, alloc)?))
+}

@@ -1,0 +1,104 @@
+//! The places of the rows of runs in blocks: whether they are places of values, and the value at one.
+
+ghost use Rattle.std.specs.List.{list_all};
+ghost use Rattle.std.specs.Prelude.{◌≡◌, ◌<◌, ◌*◌, ◌/◌, ◌+ℤ◌, ◌==◌, ◌&&◌, IsTrue, length};
+ghost use Rattle.vx_base.specs.Answers.{OrMemory};
+ghost use Rattle.vx_base.specs.CellValue.{cell_value};
+ghost use Rattle.vx_base.specs.Packed.{block_count};
+ghost use Rattle.vx_base.specs.PlainType.{is_integer, is_nullable};
+ghost use Rattle.vx_base.specs.PlainValue.{int};
+ghost use Rattle.vx_model.specs.Rows.{rows, below, block_rows, looked_up, rle_place};
+ghost use Rattle.vx_model.specs.TreeType.{tree_type};
+ghost use Rattle.vx_model.specs.WellFormed.{is_place};
+
+use super::dict::is_place;
+use super::offsets::whole_at;
+use super::places::sums_are_places;
+use super::rle::BLOCK_ROWS;
+use crate::array::ArrayRef;
+use crate::node::picked_at;
+use std::alloc::Global;
+use vx_base::{Cell, VortexResult};
+
+// Whether the sum in each of so many rows is a place among so many values: of the decoded columns where there is memory
+// for them.
+pub(super) fn have_places(
+    alloc: Global,
+    values: u64,
+    indices: &ArrayRef,
+    offsets: &ArrayRef,
+    len: u64,
+) -> bool
+    requires indices { IsTrue (is_integer (tree_type indices.now)) }
+    requires offsets { IsTrue (is_integer (tree_type offsets.now)) }
+    requires enough { length (rows indices.now) ≡ block_rows * block_count len }
+    requires begins { length (rows offsets.now) ≡ block_count len }
+    ensures { result ≡ list_all (is_place values) (below (rle_place (rows offsets.now) (rows indices.now)) len) }
+{
+    match decoded_have_places(alloc, values, indices, offsets, len) {
+        Ok(held) => held,
+        Err(_) => rows_have_places(values, indices, offsets, len),
+    }
+}
+
+// The same of the decoded columns.
+fn decoded_have_places(
+    alloc: Global,
+    values: u64,
+    indices: &ArrayRef,
+    offsets: &ArrayRef,
+    len: u64,
+) -> VortexResult<bool>
+    requires indices { IsTrue (is_integer (tree_type indices.now)) }
+    requires offsets { IsTrue (is_integer (tree_type offsets.now)) }
+    requires enough { length (rows indices.now) ≡ block_rows * block_count len }
+    requires begins { length (rows offsets.now) ≡ block_count len }
+    ensures { OrMemory result (λ held. held ≡ list_all (is_place values) (below (rle_place (rows offsets.now) (rows indices.now)) len)) }
+{
+    indices.known();
+    offsets.known();
+    let (numbers, _) = indices.decoded(alloc)?.into_integers();
+    let (begins, _) = offsets.decoded(alloc)?.into_integers();
+    sums_are_places(alloc, values, &numbers, &begins, len)
+}
+
+// The same row by row.
+#[tactic(auto, using(crate::proofs::RunPlaces::sum_places))]
+fn rows_have_places(values: u64, indices: &ArrayRef, offsets: &ArrayRef, len: u64) -> bool
+    requires indices { IsTrue (is_integer (tree_type indices.now)) }
+    requires offsets { IsTrue (is_integer (tree_type offsets.now)) }
+    requires enough { length (rows indices.now) ≡ block_rows * block_count len }
+    requires begins { length (rows offsets.now) ≡ block_count len }
+    ensures { result ≡ list_all (is_place values) (below (rle_place (rows offsets.now) (rows indices.now)) len) }
+{
+    for row in 0..len {
+        if !is_place(Some(place_at(indices, offsets, row)), values) {
+            return false;
+        }
+    }
+    true
+}
+
+// The place of a row's value.
+fn place_at(indices: &ArrayRef, offsets: &ArrayRef, row: u64) -> i128
+    requires indices { IsTrue (is_integer (tree_type indices.now)) }
+    requires offsets { IsTrue (is_integer (tree_type offsets.now)) }
+    requires in_range { row < length (rows indices.now) }
+    requires in_block { row / block_rows < length (rows offsets.now) }
+    ensures { int result ≡ rle_place (rows offsets.now) (rows indices.now) row }
+{
+    whole_at(offsets, row / BLOCK_ROWS) + whole_at(indices, row)
+}
+
+// The value at the sum of where a row's block begins and the row's own index.
+#[cycle(cell_at)]
+#[tactic(auto, using(crate::proofs::Flat::flats))]
+pub(crate) fn rle_at(values: &ArrayRef, begin: i128, index: i128) -> Cell<'_>
+    requires values { IsTrue (is_integer (tree_type values.now)) }
+    requires place { IsTrue (is_place (length (rows values.now)) (int (begin +ℤ index))) }
+    ensures { cell_value result ≡ looked_up (rows values.now) (int (begin +ℤ index)) }
+{
+    let _places = values.len();
+    let place = begin + index;
+    picked_at(values, Cell::Int(place))
+}

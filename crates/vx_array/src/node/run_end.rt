@@ -1,0 +1,135 @@
+//! Runs of integers by their ends.
+
+ghost use Rattle.std.specs.Prelude.{◌≡◌, ◌<◌, ◌≤◌, ◌-◌, ◌^◌, IsTrue, None, length};
+ghost use Rattle.vx_array.specs.TreeOf.{tree_of};
+ghost use Rattle.vx_base.specs.Answers.{Makes, OrMemory};
+ghost use Rattle.vx_base.specs.PlainType.{is_integer};
+ghost use Rattle.vx_model.specs.Refusals.{run_end_refusal};
+ghost use Rattle.vx_model.specs.Rows.{rows, offset_at};
+ghost use Rattle.vx_model.specs.Tree.{run_end};
+ghost use Rattle.vx_model.specs.TreeType.{tree_type};
+ghost use Rattle.vx_model.specs.WellFormed.{ascend};
+ghost use Rattle.vx_model.proofs.RunEndLemmas.{EndsBefore, EndsAbove};
+
+use super::offsets::are_integers;
+use crate::array::{ArrayRef, Node};
+use crate::node::{Made, boxed, offset_at};
+use std::alloc::Global;
+use vx_base::{Refused, VortexError, VortexResult};
+
+impl ArrayRef {
+    /// Runs of `values`, each from where the run before it ends, the first from row 0, up to before the row where `ends`
+    /// ends it. Child 0: `ends`; child 1: `values`, as many. As many rows as the last end is.
+    ///
+    /// Refuses MismatchedTypes where the ends aren't non-nullable integers or the values no integers; then LengthMismatch
+    /// where there aren't as many ends as values; then OutOfBounds where the ends don't rise from above 0.
+    pub fn run_end(alloc: Global, ends: ArrayRef, values: ArrayRef) -> Made<(ArrayRef, ArrayRef)>
+        ensures { Makes (run_end_refusal ends values) (run_end ends values) (ends, values) result }
+    {
+        match refusal(&ends, &values) {
+            Some(error) => Err(Refused {
+                error,
+                inputs: (ends, values),
+            }),
+            None => ArrayRef::run_end_of_ends(alloc, ends, values),
+        }
+    }
+
+    /// The same of ends that are known to rise from above 0. It looks at the last end alone, and only want of memory
+    /// hands both back.
+    #[tactic(auto, using(crate::proofs::Runs::run_ends))]
+    pub fn run_end_of_ends(
+        alloc: Global,
+        ends: ArrayRef,
+        values: ArrayRef,
+    ) -> Made<(ArrayRef, ArrayRef)>
+        requires { run_end_refusal ends values ≡ None }
+        ensures { Makes None (run_end ends values) (ends, values) result }
+    {
+        let own_type = match values.dtype().copy(alloc) {
+            Ok(own_type) => own_type,
+            Err(error) => {
+                return Err(Refused {
+                    error,
+                    inputs: (ends, values),
+                });
+            }
+        };
+        let len = last_end(&ends);
+        ends.known();
+        values.known();
+        match boxed(alloc, ends, values) {
+            Ok((ends, values)) => Ok(ArrayRef {
+                node: Node::RunEnd(ends, values),
+                own_type: Some(own_type),
+                len,
+            }),
+            Err(inputs) => Err(Refused {
+                error: VortexError::NoMemory,
+                inputs,
+            }),
+        }
+    }
+}
+
+// Why the node isn't made of these.
+fn refusal(ends: &ArrayRef, values: &ArrayRef) -> Option<VortexError>
+    ensures { result ≡ run_end_refusal ends.now values.now }
+{
+    if !are_integers(ends.dtype()) || !values.dtype().is_integer() {
+        return Some(VortexError::MismatchedTypes);
+    }
+    if ends.len() != values.len() {
+        return Some(VortexError::LengthMismatch);
+    }
+    if !ends.is_ascending(1, u64::MAX) {
+        return Some(VortexError::OutOfBounds);
+    }
+    None
+}
+
+// Where the last run ends, 0 where there is none.
+#[tactic(auto, using(crate::proofs::Runs::few_ends))]
+fn last_end(ends: &ArrayRef) -> u64
+    requires integers { IsTrue (is_integer (tree_type ends.now)) }
+    requires rising { IsTrue (ascend 1 (2 ^ 64) (rows ends.now)) }
+    ensures { result ≡ offset_at (rows ends.now) (length (rows ends.now) - 1) }
+{
+    if ends.len() == 0 {
+        return 0;
+    }
+    offset_at(ends, ends.len() - 1) as u64
+}
+
+// The place of the run that a row lies in, found by halves.
+#[cycle(cell_at)]
+#[tactic(auto, using(crate::proofs::Runs::searches))]
+pub(crate) fn run_at(ends: &ArrayRef, row: u64) -> u64
+    requires integers { IsTrue (is_integer (tree_type ends.now)) }
+    requires rising { IsTrue (ascend 1 (2 ^ 64) (rows ends.now)) }
+    ensures most { result ≤ length (rows ends.now) }
+    ensures before { EndsBefore (rows ends.now) row result }
+    ensures above { EndsAbove (rows ends.now) row result }
+{
+    let mut low = 0;
+    let mut high = ends.len();
+    while low < high {
+        let middle = low + (high - low) / 2;
+        if offset_at(ends, middle) <= u128::from(row) {
+            low = middle + 1;
+        } else {
+            high = middle;
+        }
+    }
+    low
+}
+
+// A copy, of a copy of the values.
+#[cycle(copy)]
+pub(crate) fn copied_runs(alloc: Global, ends: &ArrayRef, values: ArrayRef) -> VortexResult<Node>
+    ensures { OrMemory result (λ copy. tree_of copy ≡ run_end ends.now values) }
+{
+    let ends = Box::new(alloc, ends.copy(alloc)?)?;
+    let values = Box::new(alloc, values)?;
+    Ok(Node::RunEnd(ends, values))
+}

@@ -1,0 +1,5 @@
+pub mod Data
+pub mod Encoded
+pub mod Filling
+pub mod Refused
+pub mod Resolved

@@ -1,0 +1,18 @@
+//! Sparse arrays, and columns encoded as one fill with patches.
+#![tactic(auto)]
+
+mod array;
+mod encode;
+mod filled;
+mod integers;
+mod making;
+mod resolved;
+mod rows;
+mod sparse_data;
+
+pub use array::SparseArray;
+pub use encode::Sparse;
+pub use integers::patched_rows;
+pub use resolved::SparseExt;
+pub use rows::rows_at;
+pub use sparse_data::SparseData;

@@ -1,0 +1,5 @@
+pub mod Blocks
+pub mod Facts
+pub mod Produced
+pub mod Ratio
+pub mod Spread

@@ -1,0 +1,6 @@
+-- Sparse values: what holds of the trees that the scheme makes.
+pub mod Produced
+pub mod Ratio
+pub mod Split
+pub mod Tree
+pub mod Vote

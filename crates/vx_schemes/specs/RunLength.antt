@@ -1,0 +1,5 @@
+-- Runs in blocks: the parts and the tree of a column, why they stand for it, and what the scheme means.
+pub mod Back
+pub mod Laws
+pub mod Meaning
+pub mod Tree

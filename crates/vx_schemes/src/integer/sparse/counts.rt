@@ -1,0 +1,98 @@
+//! How many rows of a column are null, how many aren't, and which value most of them have.
+
+ghost use Rattle.std.specs.Prelude.{◌≡◌, ◌<◌, ◌≤◌, ◌==◌, ◌*◌, IsTrue, None, Some, if◌then◌else◌, length, nat_lt, true};
+ghost use Rattle.vx_base.specs.Answers.{Answers};
+ghost use Rattle.vx_base.specs.PlainType.{is_integer};
+ghost use Rattle.vx_model.specs.Rows.{rows};
+ghost use Rattle.vx_model.specs.TreeType.{tree_type};
+ghost use Rattle.vx_scheme.specs.Asked.{most_rows};
+ghost use Rattle.vx_scheme.specs.Bundle.{SameArray};
+ghost use Rattle.vx_stats.specs.Stats.{null_count, value_count, most_frequent};
+
+use vx_base::{ExecutionCtx, VortexResult};
+use vx_scheme::ArrayAndStats;
+
+/// How many rows of a column are null, and how many aren't.
+pub(crate) fn counts_of(column: &mut ArrayAndStats) -> VortexResult<(u64, u64)>
+    requires integer { IsTrue (is_integer (tree_type column.old.array)) }
+    requires few { length (rows column.old.array) ≤ most_rows }
+    ensures answer { Answers result (null_count (rows column.old.array), value_count (rows column.old.array)) }
+    ensures column { SameArray column.old column.new }
+{
+    let summary = column.integer_summary()?;
+    Ok((
+        u64::from(summary.null_count()),
+        u64::from(summary.value_count()),
+    ))
+}
+
+/// Whether more than nine of ten rows are null.
+pub(crate) fn is_mostly_null(rows: u64, nulls: u64) -> bool
+    requires rows { rows ≤ most_rows }
+    requires nulls { nulls ≤ rows }
+    ensures { result ≡ nat_lt (9 * rows) (10 * nulls) }
+{
+    9 * rows < 10 * nulls
+}
+
+/// How many rows of a column are null and how many aren't, its most frequent value and how often that occurs.
+#[derive(Clone, Copy)]
+pub(crate) struct Frequent {
+    nulls: u64,
+    values: u64,
+    value: i128,
+    often: u64,
+}
+
+/// Those of a column with rows.
+pub(crate) fn frequent_of(
+    column: &mut ArrayAndStats,
+    ctx: &mut ExecutionCtx,
+) -> VortexResult<Frequent>
+    requires integer { IsTrue (is_integer (tree_type column.old.array)) }
+    requires some { 0 < length (rows column.old.array) }
+    requires few { length (rows column.old.array) ≤ most_rows }
+    requires options { column.old.options.count_distinct_values ≡ true }
+    ensures answer { Answers result (record { nulls = null_count (rows column.old.array); values = value_count (rows column.old.array); value = (most_frequent (rows column.old.array)).0; often = (most_frequent (rows column.old.array)).1 }) }
+    ensures column { SameArray column.old column.new }
+    ensures ctx { ctx.new ≡ ctx.old }
+{
+    let stats = column.integer_stats(ctx)?;
+    let Some((frequent, often)) = stats.most_frequent_value_and_count() else {
+        unreachable!();
+    };
+    Ok(Frequent {
+        nulls: u64::from(stats.null_count()),
+        values: u64::from(stats.value_count()),
+        value: frequent.value,
+        often: u64::from(often),
+    })
+}
+
+impl Frequent {
+    /// What stands in most of so many rows: null, where there is no integer, or the most frequent value.
+    pub(crate) fn fill(self, rows: u64) -> Option<i128>
+        requires rows { rows ≤ most_rows }
+        requires nulls { self.nulls ≤ rows }
+        ensures { result ≡ (if nat_lt (9 * rows) (10 * self.nulls) then None else Some self.value) }
+    {
+        if is_mostly_null(rows, self.nulls) {
+            None
+        } else {
+            Some(self.value)
+        }
+    }
+
+    /// The one value in all of so many rows, if they share one: null, where there is no integer, or the most frequent.
+    pub(crate) fn shared(self, rows: u64) -> Option<Option<i128>>
+        ensures { result ≡ (if self.values == 0 then Some None else (if self.often == rows then Some (Some self.value) else None)) }
+    {
+        if self.values == 0 {
+            Some(None)
+        } else if self.often == rows {
+            Some(Some(self.value))
+        } else {
+            None
+        }
+    }
+}
