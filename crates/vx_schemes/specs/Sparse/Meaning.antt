@@ -33,6 +33,7 @@ sparse_verdict rows nulls values often =
     else (if (often == values) || nat_lt (10 * often) (9 * values) then Skip
     else ratio_of values (values - often)))
 
+-- the verdict on a column, by its own counts and how often its most frequent value occurs
 abbrev pub sparse_estimate : Column → EstimateVerdict
 sparse_estimate c = sparse_verdict (length c.values) (null_count c.values) (value_count c.values) (most_frequent c.values).1
 

@@ -12,6 +12,7 @@ use Rattle.vx_schemes.specs.Narrowed.{narrowed_numbers}
 abbrev pub sparse_fill : List PlainValue → Option ℤ
 sparse_fill values = if is_mostly_null values then None else Some (most_frequent values).0
 
+-- that value in every row but those that are patched
 abbrev pub sparse_filling : Column → Filling
 sparse_filling c = filling_of (sparse_fill c.values)
 
