@@ -27,5 +27,5 @@ pub use runs_in_blocks::{BlockRuns, block_runs};
 pub use sequence::sequence_of;
 pub use undeltas::undelta;
 pub use unpacking::{unpack, unpack_integers};
-pub use widths::{best_width, bit_width_histogram, wide_rows};
+pub use widths::{best_width, bit_width_histogram, bit_widths_of_all, wide_rows};
 pub use zig_zag::{unzigzag, zigzag};

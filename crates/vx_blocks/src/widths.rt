@@ -1,6 +1,6 @@
 //! How wide rows are, which rows a width leaves out, and which width costs least.
 
-ghost use Rattle.std.specs.Prelude.{◌≡◌, ◌<◌, ◌≤◌, ◌+◌, ◌-◌, ◌^◌, ◌++◌, ◌∷◌, [], ℕ, List, length, map, filter, slice_index, slice_index_or, sum, false};
+ghost use Rattle.std.specs.Prelude.{◌≡◌, ◌<◌, ◌≤◌, ◌+◌, ◌-◌, ◌^◌, ◌++◌, ◌∷◌, [], ℕ, List, length, map, filter, slice_index, slice_index_or, sum, true, false, replicate};
 ghost use Rattle.std.specs.List.{range_with_len};
 ghost use Rattle.vx_base.specs.Answers.{OrMemory};
 ghost use Rattle.vx_base.specs.Integers.{bits_in, bits_of, bytes_of};
@@ -72,6 +72,27 @@ fn count_widths<T: Integer>(alloc: Global, values: &[T], valid: &[bool]) -> Vort
     Ok(counts)
 }
 
+// The same of rows none of which is null.
+fn count_all_widths<T: Integer>(alloc: Global, values: &[T]) -> VortexResult<Vec<u64>>
+    ensures total { OrMemory result (λ counts. sum counts.items ≡ length values.now) }
+    ensures widths { OrMemory result (λ counts. IsHistogram (bits_of T.kind) (kept_rows 64 (map (bits_in T.kind) (map T.whole values.now)) (replicate (length values.now) true)) counts.items) }
+{
+    let half = values.len() / 2;
+    let start = values.len() - half;
+    let mut first = [0u64; 65];
+    let mut second = [0u64; 65];
+    for i in 0..half {
+        count_row(&mut first, values[i], true);
+        count_row(&mut second, values[start + i], true);
+    }
+    for i in half..start {
+        count_row(&mut first, values[i], true);
+    }
+    let width = T::ptype().bit_width() as usize;
+    let counts = by_digits(alloc, &first, &second, width, values.len() as u64)?;
+    Ok(counts)
+}
+
 /// How many rows have exactly w binary digits, as entry w, for w from 0 to the type's bits. A null has none, and a
 /// negative number those of its two's complement. `valid` has a truth value for each row.
 pub fn bit_width_histogram<T: Integer>(
@@ -84,6 +105,14 @@ pub fn bit_width_histogram<T: Integer>(
     ensures widths { OrMemory result (λ counts. IsHistogram (bits_of T.kind) (kept_rows 64 (map (bits_in T.kind) (map T.whole values.now)) valid.now) counts.items) }
 {
     count_widths(alloc, values, valid.as_slice())
+}
+
+/// The same of rows none of which is null, without a truth value for each.
+pub fn bit_widths_of_all<T: Integer>(alloc: Global, values: &[T]) -> VortexResult<Vec<u64>>
+    ensures total { OrMemory result (λ counts. sum counts.items ≡ length values.now) }
+    ensures widths { OrMemory result (λ counts. IsHistogram (bits_of T.kind) (kept_rows 64 (map (bits_in T.kind) (map T.whole values.now)) (replicate (length values.now) true)) counts.items) }
+{
+    count_all_widths(alloc, values)
 }
 
 /// The first width of least cost, from 0 bits to the type's. A width costs the bytes of the rows packed at it, and for

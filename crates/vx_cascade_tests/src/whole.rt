@@ -3,7 +3,7 @@
 use std::alloc::Global;
 use std::sync::ledger::Ledger;
 use vx_array::{ArrayRef, Arrays};
-use vx_base::{DType, ExecutionCtx, Fraction, IdSet, Steps, VortexResult};
+use vx_base::{DType, ExecutionCtx, Fraction, IdSet, Steps, VortexError, VortexResult};
 use vx_scheme::{
     AllowedIds, AncestorRules, ArrayAndStats, CompressionEstimate, CompressorContext,
     DescendantRules, EstimateVerdict, GenerateStatsOptions, Scheme, Split,
@@ -13,6 +13,8 @@ use vx_scheme::{
 #[derive(Clone, Copy, Debug)]
 pub(crate) struct Whole {
     pub(crate) estimate: CompressionEstimate,
+    // The threshold that it awaits where it is asked later. With any other it tells that memory is wanting.
+    pub(crate) awaits: Option<Fraction>,
 }
 
 impl Scheme for Whole {
@@ -71,11 +73,15 @@ impl Scheme for Whole {
     fn resolve_estimate(
         &self,
         _column: &mut ArrayAndStats,
-        _threshold: Option<Fraction>,
+        threshold: Option<Fraction>,
         _site: &CompressorContext,
         _ctx: &mut ExecutionCtx,
     ) -> VortexResult<EstimateVerdict> {
-        Ok(EstimateVerdict::AlwaysUse)
+        if threshold == self.awaits {
+            Ok(EstimateVerdict::AlwaysUse)
+        } else {
+            Err(VortexError::NoMemory)
+        }
     }
 
     fn split<L: Ledger>(

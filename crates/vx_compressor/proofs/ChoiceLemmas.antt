@@ -65,7 +65,7 @@ and_false a true c e = absurd cc
 and_false true false c e = refl
 and_false false false c e = refl
 
-and_no : (a : Bool) → (a && false) ≡ false
+pub and_no : (a : Bool) → (a && false) ≡ false
 and_no true = refl
 and_no false = refl
 

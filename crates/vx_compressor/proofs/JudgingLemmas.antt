@@ -1,20 +1,25 @@
 -- How the passes over the schemes go on by one step, and that what they find is the choice.
-use Rattle.std.proofs.Common.{◌≡◌, ◌<◌, ℕ, ◌+◌, Bool, true, false, not, cond, List, [], ◌∷◌, ◌++◌, length, get_or, drop, map, Option, Some, None, option_map, refl, sym, ◌∙◌, ap, append_assoc}
+use Rattle.std.proofs.Common.{◌≡◌, ◌<◌, ℕ, ◌+◌, ◌&&◌, inl, inr, Bool, true, false, not, cond, List, [], ◌∷◌, ◌++◌, length, get_or, drop, map, Option, Some, None, Result, Ok, Err, option_map, refl, sym, ◌∙◌, ap, append_assoc}
 use Rattle.std.proofs.lemmas.List.{drop_more, map-append, append-nil}
+use Rattle.vx_base.specs.Answers.{Answers, OrMemory}
 use Rattle.vx_base.specs.Fractions.{is_above_one}
+use Rattle.vx_base.specs.declared.error.VortexError.{VortexError}
 use Rattle.vx_model.specs.Cascade.{Leaves}
 use Rattle.vx_model.specs.Column.{Column}
 use Rattle.vx_model.specs.Site.{Site}
 use Rattle.vx_scheme.specs.Meaning.{Meaning}
+use Rattle.vx_scheme.specs.Resolved.{IsResolved}
 use Rattle.vx_scheme.specs.declared.estimate.CompressionEstimate.{CompressionEstimate}
 use Rattle.vx_scheme.specs.declared.estimate.CompressionEstimate.TheVariants.{Verdict, Deferred}
 use Rattle.vx_scheme.specs.declared.estimate.DeferredEstimate.{DeferredEstimate}
+use Rattle.vx_scheme.specs.declared.estimate.EstimateVerdict.{EstimateVerdict}
+use Rattle.vx_scheme.specs.declared.estimate.EstimateVerdict.TheVariants.{Skip, AlwaysUse, Ratio}
 use Rattle.vx_compressor.specs.declared.choice.Score.{Score}
 use Rattle.vx_compressor.specs.declared.choice.Score.TheVariants.{Always, Finite}
 use Rattle.vx_compressor.specs.Cascade.{Setting, verdict_score, deferred_score, estimate_score, score, eligible, is_verdict, with_verdict, deferring, choice}
 use Rattle.vx_compressor.specs.Choice.{better, best_of, is_always}
-use Rattle.vx_compressor.specs.Judging.{told, told_by, put_off, put_off_by, found, meant, meant_pair}
-use Rattle.vx_compressor.proofs.ChoiceLemmas.{best_of-always, best_is_choice}
+use Rattle.vx_compressor.specs.Judging.{told, told_by, put_off, put_off_by, found, threshold_of, DoesFor, meant, meant_pair}
+use Rattle.vx_compressor.proofs.ChoiceLemmas.{and_no, best_of-always, best_is_choice}
 
 pub best_of-append : {A : Type 0} (best : Option (A × Score)) (xs ys : List (A × Option Score)) → best_of best (xs ++ ys) ≡ best_of (best_of best xs) ys
 best_of-append best [] ys = refl
@@ -142,15 +147,31 @@ module _ {S : Type 0} (meaning : S → Meaning) (c : Column) (site : Site) where
 
 -- ---- a step of the second pass
 
+-- the score itself does
+pub does-answers : {A : Type 0} (best : Option (A × Score)) (x : A) (result : Result (Option Score) VortexError) (score : Option Score) → Answers result score → OrMemory result (DoesFor best x score)
+does-answers best x (Ok told) score e = ap (better best x) e
+does-answers best x (Err f) score e = e
+
+-- a ratio that isn't above the best so far may be left out
+pub does-resolved : {A : Type 0} (best : Option (A × Score)) (x : A) (v w : EstimateVerdict) → IsResolved (threshold_of best) v w → DoesFor best x (verdict_score v) (verdict_score w)
+does-resolved None x v w e = ap (λ u. better None x (verdict_score u)) e
+does-resolved (Some (y, Always)) x v w e = ap (λ u. better (Some (y, Always)) x (verdict_score u)) e
+does-resolved (Some (y, Finite g)) x Skip w e = ap (λ u. better (Some (y, Finite g)) x (verdict_score u)) e
+does-resolved (Some (y, Finite g)) x AlwaysUse w e = ap (λ u. better (Some (y, Finite g)) x (verdict_score u)) e
+does-resolved (Some (y, Finite g)) x (Ratio r) w (inl e) = ap (λ u. better (Some (y, Finite g)) x (verdict_score u)) e
+does-resolved (Some (y, Finite g)) x (Ratio r) w (inr (skip, low)) =
+    ap (λ u. better (Some (y, Finite g)) x (verdict_score u)) skip
+    ∙ sym (ap (λ b. cond (is_above_one r && b) (Some (x, Finite r)) (Some (y, Finite g))) low ∙ ap (λ b. cond b (Some (x, Finite r)) (Some (y, Finite g))) (and_no (is_above_one r)))
+
 module _ {S : Type 0} (meaning : S → Meaning) (child : Leaves) (words : List ℕ) (c : Column) (site : Site) where
   -- the best of all, where these are left to be judged
   abbrev pub best_found : Option (S × Score) → List (S × DeferredEstimate) → Option (Meaning × Score)
   best_found best left = best_of (meant meaning best) (found child words c site (map (meant_pair meaning) left))
 
   pub best_found-step : (best best' : Option (S × Score)) (xs : List (S × DeferredEstimate)) (i : ℕ) (x : S × DeferredEstimate) (s : Option Score) → i < length xs → x ≡ get_or xs i x
-      → s ≡ deferred_score child words (meaning x.0) c site x.1 → best' ≡ better best x.0 s → best_found best' (drop (i + 1) xs) ≡ best_found best (drop i xs)
-  best_found-step best best' xs i x s within read scored is =
-      ap (λ b. best_found b (drop (i + 1) xs)) (is ∙ ap (better best x.0) scored)
+      → DoesFor best x.0 (deferred_score child words (meaning x.0) c site x.1) s → best' ≡ better best x.0 s → best_found best' (drop (i + 1) xs) ≡ best_found best (drop i xs)
+  best_found-step best best' xs i x s within read does is =
+      ap (λ b. best_found b (drop (i + 1) xs)) (is ∙ does)
       ∙ ap (λ b. best_of b (found child words c site (map (meant_pair meaning) (drop (i + 1) xs)))) (meant-better meaning best x.0 (deferred_score child words (meaning x.0) c site x.1))
       ∙ ap (best_found best) (ap (λ y. y ∷ drop (i + 1) xs) read ∙ sym (drop_more xs i x within))
 

@@ -1,5 +1,6 @@
 -- What the two passes over the schemes of a site have found, and what they rest on.
-use Rattle.std.specs.Prelude.{◌≡◌, ◌<◌, ◌≤◌, ℕ, true, List, [], ◌∷◌, map, length, Option, option_map}
+use Rattle.std.specs.Prelude.{◌≡◌, ◌<◌, ◌≤◌, ℕ, true, List, [], ◌∷◌, map, length, Option, Some, None, option_map}
+use Rattle.vx_base.specs.declared.fraction.Fraction.{Fraction}
 use Rattle.vx_base.specs.PlainType.{is_flat}
 use Rattle.vx_model.specs.Cascade.{Leaves}
 use Rattle.vx_model.specs.Column.{Column, IsColumn}
@@ -14,7 +15,9 @@ use Rattle.vx_scheme.specs.declared.estimate.CompressionEstimate.TheVariants.{Ve
 use Rattle.vx_scheme.specs.declared.estimate.DeferredEstimate.{DeferredEstimate}
 use Rattle.vx_stats.specs.declared.options.GenerateStatsOptions.{GenerateStatsOptions}
 use Rattle.vx_compressor.specs.declared.choice.Score.{Score}
+use Rattle.vx_compressor.specs.declared.choice.Score.TheVariants.{Always, Finite}
 use Rattle.vx_compressor.specs.Cascade.{verdict_score, deferred_score}
+use Rattle.vx_compressor.specs.Choice.{better}
 
 -- a bundle holds the plain tree of a column whose values fit its type, and these options
 pub record Holds (b : Bundle) (c : Column) (opts : GenerateStatsOptions) : Type 0 where
@@ -65,6 +68,16 @@ put_off c site (m ∷ ms) = put_off_by m (m.estimate c site) (put_off c site ms)
 -- the scores that are found later
 abbrev pub found : Leaves → List ℕ → Column → Site → List (Meaning × DeferredEstimate) → List (Meaning × Option Score)
 found child words c site ps = map (λ p. (p.0, deferred_score child words p.0 c site p.1)) ps
+
+-- the ratio that a later scheme has to pass; none where there is no best, or an always-use
+abbrev pub threshold_of : {A : Type 0} → Option (A × Score) → Option Fraction
+threshold_of (Some (x, Finite f)) = Some f
+threshold_of (Some (x, Always)) = None
+threshold_of None = None
+
+-- where this is the best so far, what is told of a scheme does as well as its score
+abbrev pub DoesFor : {A : Type 0} → Option (A × Score) → A → Option Score → Option Score → Type 0
+DoesFor best x score told = better best x told ≡ better best x score
 
 -- ---- schemes by what they mean
 

@@ -2,6 +2,7 @@
 
 ghost use Rattle.std.specs.Prelude.{◌≡◌, option_map};
 ghost use Rattle.vx_compressor.specs.Choice.{better, is_always, BestIsChoice};
+ghost use Rattle.vx_compressor.specs.Judging.{threshold_of};
 
 use vx_base::Fraction;
 
@@ -45,6 +46,16 @@ pub(crate) fn scheme_of<S: Copy>(best: Option<(S, Score)>) -> Option<S>
 {
     let (scheme, _) = best?;
     Some(scheme)
+}
+
+// The ratio that a later scheme has to pass, where the best so far has one.
+pub(crate) fn threshold<S: Copy>(best: Option<(S, Score)>) -> Option<Fraction>
+    ensures { result ≡ threshold_of best }
+{
+    match best {
+        Some((_, Score::Finite(ratio))) => Some(ratio),
+        Some((_, Score::Always)) | None => None,
+    }
 }
 
 // Whether no later scheme can be better.

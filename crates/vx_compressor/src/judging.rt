@@ -6,6 +6,7 @@ ghost use Rattle.vx_model.specs.Column.{column_of};
 ghost use Rattle.vx_model.specs.Size.{size};
 ghost use Rattle.vx_scheme.specs.Asked.{HasPutOff, HasValue};
 ghost use Rattle.vx_scheme.specs.Contexts.{site_of, options_of};
+ghost use Rattle.vx_scheme.specs.Resolved.{IsResolved};
 ghost use Rattle.vx_compressor.specs.Cascade.{verdict_score, size_score};
 ghost use Rattle.vx_compressor.specs.Choice.{best_of, is_always};
 ghost use Rattle.vx_compressor.specs.Judging.{Holds, IsAskable, IsReady, told, told_by, put_off, put_off_by, meant, meant_pair};
@@ -45,10 +46,11 @@ fn ask<S: Scheme>(
     scheme.expected_compression_ratio(column, site, ctx)
 }
 
-/// The verdict that a scheme put off.
+/// The verdict that a scheme put off, or Skip where it is a ratio that isn't above the threshold.
 pub(crate) fn resolve<S: Scheme>(
     scheme: &S,
     column: &mut ArrayAndStats,
+    threshold: Option<Fraction>,
     site: &CompressorContext,
     ctx: &mut ExecutionCtx,
 ) -> VortexResult<EstimateVerdict>
@@ -57,11 +59,11 @@ pub(crate) fn resolve<S: Scheme>(
     requires value { HasValue (column_of column.old.array) }
     requires ready { IsReady (column_of column.old.array) (options_of site.now) (S.meaning scheme.now) }
     requires put_off { HasPutOff (S.meaning scheme.now) (column_of column.old.array) (site_of site.now) }
-    ensures answer { Answers result ((S.meaning scheme.now).resolve (column_of column.old.array) (site_of site.now)) }
+    ensures answer { OrMemory result (IsResolved threshold ((S.meaning scheme.now).resolve (column_of column.old.array) (site_of site.now))) }
     ensures holds { Holds column.new (column_of column.old.array) (options_of site.now) }
     ensures ctx { ctx.new ≡ ctx.old }
 {
-    scheme.resolve_estimate(column, None, site, ctx)
+    scheme.resolve_estimate(column, threshold, site, ctx)
 }
 
 impl<S: Scheme> Told<S> {

@@ -12,11 +12,11 @@ ghost use Rattle.vx_scheme.specs.Asked.{HasValue};
 ghost use Rattle.vx_scheme.specs.Contexts.{site_of, options_of};
 ghost use Rattle.vx_compressor.specs.Cascade.{setting, deferred_score, eligible, choice, chosen, children_of, leaf_tree};
 ghost use Rattle.vx_compressor.specs.Choice.{best_of};
-ghost use Rattle.vx_compressor.specs.Judging.{Holds, IsAskable, IsReady, WasPutOff, found, meant, meant_pair};
+ghost use Rattle.vx_compressor.specs.Judging.{Holds, IsAskable, IsReady, WasPutOff, DoesFor, found, meant, meant_pair};
 ghost use Rattle.vx_compressor.specs.Reach.{IsInReach};
 
 use crate::by_value::{by_value, smaller};
-use crate::choice::{Score, better, is_always, scheme_of};
+use crate::choice::{Score, better, is_always, scheme_of, threshold};
 use crate::compressor::CascadingCompressor;
 use crate::eligible::merged_options;
 use crate::judging::{first_pass, resolve, verdict_score};
@@ -136,7 +136,7 @@ impl<S: Scheme> CascadingCompressor<S> {
     {
         let mut best = best;
         for (scheme, how) in deferred {
-            let score = self.deferred_score(words, scheme, *how, column, site, ctx, steps)?;
+            let score = self.deferred_score(words, scheme, *how, best, column, site, ctx, steps)?;
             best = better(best, *scheme, score);
             if is_always(best) {
                 return Ok(best);
@@ -145,13 +145,14 @@ impl<S: Scheme> CascadingCompressor<S> {
         Ok(best)
     }
 
-    // The score that a scheme put off.
+    // The score that a scheme put off. None may stand in its place where it is no better than the best so far.
     #[cycle(site)]
     fn deferred_score<L: Ledger>(
         &self,
         words: &[u64],
         scheme: &S,
         how: DeferredEstimate,
+        best: Option<(S, Score)>,
         column: &mut ArrayAndStats,
         site: &CompressorContext,
         ctx: &mut ExecutionCtx,
@@ -164,13 +165,13 @@ impl<S: Scheme> CascadingCompressor<S> {
         requires askable { IsAskable (column_of column.old.array) }
         requires reach { IsInReach (column_of column.old.array) (site_of site.now).budget }
         requires value { HasValue (column_of column.old.array) }
-        ensures answer { Answers result (deferred_score (children_of (setting S.meaning self.now words.now) (site_of site.now)) words.now (S.meaning scheme.now) (column_of column.old.array) (site_of site.now) how) }
+        ensures answer { OrMemory result (DoesFor best scheme.now (deferred_score (children_of (setting S.meaning self.now words.now) (site_of site.now)) words.now (S.meaning scheme.now) (column_of column.old.array) (site_of site.now) how)) }
         ensures holds { Holds column.new (column_of column.old.array) (options_of site.now) }
         ensures ctx { ctx.new ≡ ctx.old }
     {
         match how {
             DeferredEstimate::Callback => {
-                let verdict = resolve(scheme, column, site, ctx)?;
+                let verdict = resolve(scheme, column, threshold(best), site, ctx)?;
                 Ok(verdict_score(verdict))
             }
             DeferredEstimate::Sample => {

@@ -15,9 +15,8 @@ use Rattle.vx_model.specs.Rows.{rows, row_at, below, patched}
 use Rattle.vx_model.specs.Tree.{Tree, patches}
 use Rattle.vx_model.specs.TreeType.{tree_type}
 use Rattle.vx_model.specs.WellFormed.{WellFormed, IsPatches, ascend}
-use Rattle.vx_model.proofs.PatchLemmas.{ascend_from}
-use Rattle.vx_model.proofs.AscentLemmas.{by_ascent}
 use Rattle.vx_model.proofs.SparseLemmas.{sparse_accepted}
+use Rattle.vx_encode.proofs.RisingLemmas.{filter-ascends}
 use Rattle.vx_encode.specs.Filling.{Filling, null_filling, value_filling, patched_rows, patch_values, filled_over}
 
 -- ---- the fill stands in every row that isn't patched
@@ -101,19 +100,6 @@ module _ (f : Filling) (stands : Stands f) (vs : List PlainValue) where
   rows-back = by_rows _ 0 vs (λ i k e l. let same : i ≡ k = omega arith in row-back i (omega arith) ∙ ap (row_at vs) same)
 
 -- ---- the patches are admitted
-
-ascend-lower : (low lower high : ℕ) (is : List PlainValue) → lower ≤ low → ascend low high is ≡ true → ascend lower high is ≡ true
-ascend-lower low lower high is l h =
-    by_ascent high (λ first is. (before : ℕ) → before ≤ first → ascend before high is ≡ true) (λ first before l. refl) (λ first n is from under rest later before l. ascend_from before high n is (omega arith) under rest) low is h lower l
-
-filter-ascends : (p : ℕ → Bool) (start n high : ℕ) → start + n ≤ high → ascend start high (map int (map pos (filter p (range_with_len start n)))) ≡ true
-filter-ascends p start zero high h = refl
-filter-ascends p start (suc n) high h = pick (p start) (filter-ascends p (start + 1) n high (omega arith))
-  where
-    pick : (b : Bool) → ascend (start + 1) high (map int (map pos (filter p (range_with_len (start + 1) n)))) ≡ true
-        → ascend start high (map int (map pos (cond b (start ∷ filter p (range_with_len (start + 1) n)) (filter p (range_with_len (start + 1) n))))) ≡ true
-    pick true rest = ascend_from start high start _ (omega arith) (omega arith) rest
-    pick false rest = ascend-lower (start + 1) start high _ (omega arith) rest
 
 pub patched_rows-ascend : (f : Filling) (vs : List PlainValue) → ascend 0 (0 + length vs) (map int (map pos (patched_rows f vs))) ≡ true
 patched_rows-ascend f vs = filter-ascends (λ i. f.patched (row_at vs i)) 0 (length vs) (0 + length vs) (omega arith)

@@ -6,6 +6,7 @@ pub mod MakingLemmas
 pub mod NullCounts
 pub mod PlainMade
 pub mod ResolvedLemmas
+pub mod RisingLemmas
 pub mod RowsAt
 pub mod SharedLemmas
 pub mod StandardFacts

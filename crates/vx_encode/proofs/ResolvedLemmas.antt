@@ -6,7 +6,7 @@ use Rattle.std.proofs.lemmas.Bool.{and_from, and_parts, eq-eqb, ltb-true, lt-ltb
 use Rattle.std.proofs.lemmas.Int.{ints}
 use Rattle.std.proofs.lemmas.List.{length-map}
 use Rattle.vx_base.specs.declared.ptype.PType.{PType}
-use Rattle.vx_base.specs.declared.ptype.PType.TheVariants.{U64, U8, U16, U32, I8, I16, I32, I64}
+use Rattle.vx_base.specs.declared.ptype.PType.TheVariants.{U64}
 use Rattle.vx_base.specs.declared.dtype.Nullability.{Nullability}
 use Rattle.vx_base.specs.Integers.{lies_in}
 use Rattle.vx_base.specs.PlainScalar.{fits}
@@ -24,28 +24,15 @@ use Rattle.vx_model.specs.WellFormed.{WellFormedPatches, ascend}
 use Rattle.vx_model.proofs.AscentLemmas.{by_ascent}
 use Rattle.vx_model.proofs.MadeLemmas.{rows_fit}
 use Rattle.vx_model.proofs.PatchLemmas.{ascend_from}
+use Rattle.vx_encode.proofs.RisingLemmas.{word_of}
 use Rattle.vx_encode.specs.Resolved.{patched_places, resolved}
 
--- ---- an index is a word
-
-natural_word : (p : PType) (n : ℕ) → lies_in p (pos n) ≡ true → lies_in U64 (pos n) ≡ true
-natural_word U8 n h = lt-ltb _ _ (omega (arith, ltb-true _ _ h))
-natural_word U16 n h = lt-ltb _ _ (omega (arith, ltb-true _ _ h))
-natural_word U32 n h = lt-ltb _ _ (omega (arith, ltb-true _ _ h))
-natural_word U64 n h = lt-ltb _ _ (omega (arith, ltb-true _ _ h))
-natural_word I8 n h = lt-ltb _ _ (omega (arith, ltb-true _ _ h))
-natural_word I16 n h = lt-ltb _ _ (omega (arith, ltb-true _ _ h))
-natural_word I32 n h = lt-ltb _ _ (omega (arith, ltb-true _ _ h))
-natural_word I64 n h = lt-ltb _ _ (omega (arith, ltb-true _ _ h))
-
-index_word : (t : PlainType) (n : ℕ) → is_integer t ≡ true → fits t (int (pos n)) ≡ true → lies_in U64 (pos n) ≡ true
-index_word (types.primitive p m) n j h = natural_word p n h
-index_word t n j h = absurd cc
+-- ---- indices are words
 
 words_held : (t : PlainType) (low high : ℕ) (is : List PlainValue) → is_integer t ≡ true → ascend low high is ≡ true → list_all (fits t) is ≡ true → list_all (lies_in U64) (map whole_or_zero is) ≡ true
 words_held t low high is j =
     by_ascent high (λ low is. list_all (fits t) is ≡ true → list_all (lies_in U64) (map whole_or_zero is) ≡ true) (λ low f. refl)
-    (λ low n is from under rest later f. (let d = and_parts (fits t (int (pos n))) (list_all (fits t) is) f in and_from _ _ (index_word t n j d.0) (later d.1))) low is
+    (λ low n is from under rest later f. (let d = and_parts (fits t (int (pos n))) (list_all (fits t) is) f in and_from _ _ (word_of t n d.0) (later d.1))) low is
 
 -- ---- less the offset it is one too
 
@@ -61,7 +48,7 @@ words-less t offset low high is j =
     by_ascent high (λ low is. list_all (fits t) is ≡ true → offset ≤ low → map (λ z. wrap U64 (z -ℤ pos offset)) (map whole_or_zero is) ≡ map (λ v. whole_or_zero v -ℤ pos offset) is)
     (λ low f l. refl)
     (λ low n is from under rest later f l. (let d = and_parts (fits t (int (pos n))) (list_all (fits t) is) f in
-    let here = less-word n offset (omega arith) (index_word t n j d.0) in
+    let here = less-word n offset (omega arith) (word_of t n d.0) in
     let others = later d.1 (omega arith) in
     λ i. here i ∷ others i)) low is
 

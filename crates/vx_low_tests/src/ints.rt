@@ -93,3 +93,33 @@ fn widths_are_counted(rt: HostRuntime) -> Result<(), Fail> {
     assert_eq!(rt; counts?.get(16).copied(), Some(2));
     Ok(())
 }
+
+#[test]
+fn widths_without_nulls_are_counted(rt: HostRuntime) -> Result<(), Fail> {
+    let values = Ints::U16(IntList::from_vec(vec![in rt.alloc(); 0, 65535, 65534]?));
+    let counts = values.bit_widths_of_all(rt.alloc());
+    drop(values);
+    assert_eq!(rt; counts?.get(16).copied(), Some(2));
+    Ok(())
+}
+
+#[test]
+fn widths_of_differences_are_counted(rt: HostRuntime) -> Result<(), Fail> {
+    let valid = Some(Mask::from_bits(vec![in rt.alloc(); false, true, true]?));
+    let values = Ints::I16(IntList::from_vec(vec![in rt.alloc(); 32767, -32768, -7]?));
+    let counts = values.difference_widths(rt.alloc(), -32768, &valid);
+    drop(values);
+    let counts = counts?;
+    assert_eq!(rt; counts.get(0).copied(), Some(2));
+    assert_eq!(rt; counts.get(15).copied(), Some(1));
+    Ok(())
+}
+
+#[test]
+fn differences_are_packed(rt: HostRuntime) -> Result<(), Fail> {
+    let values = Ints::I16(IntList::from_vec(vec![in rt.alloc(); -3, -1, 0]?));
+    let packed = values.pack_differences(rt.alloc(), -3, &None, 2);
+    drop(values);
+    assert_eq!(rt; packed?.get(0).copied(), Some(0x38));
+    Ok(())
+}

@@ -5,7 +5,7 @@ ghost use Rattle.std.specs.Prelude.{◌≡◌, length, vec_len, IfOk};
 use std::alloc::{AllocError, Global};
 use std::test::Fail;
 use vx_base::{Mask, PType};
-use vx_blocks::{best_width, bit_width_histogram};
+use vx_blocks::{best_width, bit_width_histogram, bit_widths_of_all};
 
 // The numbers from 0 to 9, over and over.
 fn digits(alloc: Global, rows: u32) -> Result<Vec<u32>, AllocError>
@@ -25,5 +25,13 @@ fn widths_of_decimal_digits(rt: HostRuntime) -> Result<(), Fail> {
     let counts = bit_width_histogram(rt.alloc(), values.as_slice(), &valid)?;
     assert_eq!(rt; &counts[..5], [100, 100, 200, 400, 200].as_slice());
     assert_eq!(rt; best_width(counts.as_slice(), PType::U32), 4);
+    Ok(())
+}
+
+#[test]
+fn widths_of_rows_without_nulls(rt: HostRuntime) -> Result<(), Fail> {
+    let values = digits(rt.alloc(), 1000)?;
+    let counts = bit_widths_of_all(rt.alloc(), values.as_slice())?;
+    assert_eq!(rt; &counts[..5], [100, 100, 200, 400, 200].as_slice());
     Ok(())
 }

@@ -45,6 +45,8 @@ fn more_than_half_of_the_values_are_most(rt: HostRuntime) -> Result<(), Fail> {
         (&[Some(0), FAR, Some(0), FAR], false),
         // Close together.
         (&[Some(7), Some(8), Some(7)], true),
+        // Rising.
+        (&[Some(7), Some(8), Some(9)], true),
         // A null is neither a value nor distinct.
         (&[FAR, None, FAR, None], false),
         (&[], false),

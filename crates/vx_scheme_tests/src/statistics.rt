@@ -88,6 +88,25 @@ fn distinct_values_ascend_with_their_counts(rt: HostRuntime) -> Result<(), Fail>
     Ok(())
 }
 
+// 40 times 9, 40 times 4, and 41 times 9: runs so long that they are counted in place of values.
+#[test]
+fn long_runs_are_counted_as_their_values_are(rt: HostRuntime) -> Result<(), Fail> {
+    let mut ctx = context(rt.alloc())?;
+    let mut rows = [Some(9); 121];
+    for row in 40..80 {
+        rows[row] = Some(4);
+    }
+    let array = column(rt.alloc(), I32, &rows)?;
+    let stats = IntegerStats::generate_opts(&array, DISTINCT, &mut ctx)?;
+    assert!(rt; have_counts(&stats, &[(4, 40), (9, 81)]));
+    // A null in a run is none of its values.
+    rows[50] = None;
+    let array = column(rt.alloc(), I32, &rows)?;
+    let stats = IntegerStats::generate_opts(&array, DISTINCT, &mut ctx)?;
+    assert!(rt; have_counts(&stats, &[(4, 39), (9, 81)]));
+    Ok(())
+}
+
 #[test]
 fn without_a_value_the_extremes_are_swapped(rt: HostRuntime) -> Result<(), Fail> {
     let mut ctx = context(rt.alloc())?;

@@ -3,3 +3,4 @@ pub mod Facts
 pub mod Produced
 pub mod Ratio
 pub mod Spread
+pub mod Words

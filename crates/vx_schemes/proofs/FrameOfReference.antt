@@ -1,4 +1,5 @@
 -- Lemmas of frames of reference.
+pub mod Blocks
 pub mod Facts
 pub mod Framed
 pub mod Least

@@ -1,10 +1,8 @@
 -- What may be answered where a ratio isn't above the threshold.
-use Rattle.std.proofs.Common.{◌≡◌, ◌≤◌, ◌*◌, ℕ, zero, suc, Bool, true, false, cond, Option, Some, None, refl, subst, arith, inl, inr}
+use Rattle.std.proofs.Common.{◌≡◌, ℕ, Bool, true, false, cond, Option, Some, None, refl, subst, inl, inr}
 use Rattle.std.specs.Prelude.{not}
 use Rattle.std.specs.Ordering.{is_ge}
 use Rattle.std.specs.declared.cmp.Ordering.TheVariants.{Less, Equal, Greater}
-use Rattle.std.proofs.Math.Nat.{mul-le-mul_left}
-use Rattle.std.proofs.lemmas.Bool.{ltb-false, le-ltb}
 use Rattle.vx_base.specs.declared.fraction.Fraction.{Fraction}
 use Rattle.vx_base.specs.Fractions.{numerator, divisor, is_less, fraction_cmp, same_fraction}
 use Rattle.vx_scheme.specs.Resolved.{IsResolved}
@@ -46,18 +44,3 @@ resolved-beaten (Some t) bound (Ratio r) b m = inr (refl, m t (negated (is_less 
 
 pub ratio-bounds : (x : Fraction) (n d : ℕ) → numerator x ≡ n → divisor x ≡ d → IsAtMost x (ratio_of n d)
 ratio-bounds x n d num den = subst (IsAtMost x) (Ratio-parts x n d num den) (λ t h. h)
-
-no_ratio : (x : Fraction) → Ratio x ≡ Skip → ⊥
-no_ratio x e = cc
-
--- a greater number below the line makes no greater ratio
-pub ratio-falls : (x : Fraction) (n a b : ℕ) → Ratio x ≡ ratio_of n a → a ≤ b → IsAtMost x (ratio_of n b)
-ratio-falls x n zero b e l = absurd (no_ratio x e)
-ratio-falls x n (suc a) zero e l = tt
-ratio-falls x n (suc a) (suc b) e l = λ t h.
-    let num : x.num ≡ n = cc in
-    let den : x.den ≡ suc a = cc in
-    let here : x.num * t.den ≤ t.num * x.den = ltb-false _ _ h in
-    let there : n * t.den ≤ t.num * suc a = subst (λ k. n * t.den ≤ t.num * k) den (subst (λ k. k * t.den ≤ t.num * x.den) num here) in
-    let more : t.num * suc a ≤ t.num * suc b = mul-le-mul_left t.num l in
-    le-ltb _ _ (omega (arith, there, more))

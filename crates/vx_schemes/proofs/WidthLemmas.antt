@@ -1,6 +1,6 @@
 -- Widths: the kernel's histogram is that of the definitions, and when differences from the least value are as wide as the
 -- greatest.
-use Rattle.std.proofs.Common.{◌≡◌, ◌+◌, ℕ, ℤ, Bool, List, map, ◌∙◌, ◌<◌, ◌-◌, ◌/◌, zero, suc, pos, negsuc, false, Some, None, sym, ap, arith}
+use Rattle.std.proofs.Common.{◌≡◌, ◌+◌, ℕ, ℤ, Bool, List, map, ◌∙◌, ◌<◌, ◌≤◌, ◌-◌, ◌*◌, ◌/◌, ◌^◌, zero, suc, pos, negsuc, false, Some, None, sym, ap, inl, inr, arith}
 use Rattle.std.specs.Prelude.{◌==◌, count_by, ◌≤ℤ◌, ◌-ℤ◌, ◌&&◌, not, nat_lt, nat_le, int_lt, unsigned_abs}
 use Rattle.std.proofs.lemmas.List.FromFn.{fill_by_all}
 use Rattle.vx_base.specs.declared.ptype.PType.{PType}
@@ -8,13 +8,14 @@ use Rattle.vx_base.specs.Digits.{digits}
 use Rattle.vx_base.specs.Integers.{bits_of, bits_in}
 use Rattle.vx_base.specs.Packed.{kept_rows}
 use Rattle.vx_blocks.specs.Histogram.{IsHistogram}
+use Rattle.vx_blocks.proofs.Counts.{le-digits}
 use Rattle.vx_schemes.specs.Widths.{widths_of}
 use Rattle.std.specs.Int.Count.{count_leading_zeros}
 use Rattle.std.specs.Ordering.{int_eq}
-use Rattle.std.proofs.lemmas.Bool.{cond-false, ne_eqb}
+use Rattle.std.proofs.lemmas.Bool.{cases_lt, cond-false, ne_eqb}
 use Rattle.std.proofs.lemmas.Bool.Decides.{nat_tests}
 use Rattle.std.proofs.lemmas.Int.{ints}
-use Rattle.std.proofs.lemmas.Nat.{leading_le}
+use Rattle.std.proofs.lemmas.Nat.{leading_le, pow-add, pow_pos, shr_high}
 use Rattle.vx_base.specs.declared.fraction.Fraction.{Fraction}
 use Rattle.vx_base.specs.Fractions.{numerator, divisor}
 use Rattle.vx_stats.specs.Erased.{log2_of}
@@ -59,3 +60,27 @@ wide-some p low (negsuc n) s log o l e is = absurd (negative low o l)
 -- ---- the ratio where there is a gain
 pub verdict-ratio : (bits : ℕ) (e : Extremes) (s : ℕ) (x : Fraction) → gains_nothing e ≡ false → pos s ≡ e.greatest -ℤ e.least → numerator x ≡ bits → divisor x ≡ digits s → Ratio x ≡ for_verdict bits e
 verdict-ratio bits e s x gain is num den = Ratio-parts x bits (digits (span e)) num (den ∙ ap digits (ap unsigned_abs is)) ∙ sym (cond-false (gains_nothing e) Skip (ratio_of bits (digits (span e))) gain)
+
+-- ---- the greatest number of so many digits
+
+all_but_one : (a b : ℕ) → 0 < a → 0 < b → (a - 1) * b + (b - 1) ≡ a * b - 1
+all_but_one zero b h k = absurd (omega arith)
+all_but_one (suc a) zero h k = absurd (omega arith)
+all_but_one (suc a) (suc b) h k =
+    let rows : suc a - 1 ≡ a = omega arith in
+    let columns : suc b - 1 ≡ b = omega arith in
+    rw (rows, columns) (omega arith)
+
+pub high_digits : (width : ℕ) → width ≤ 64 → 18446744073709551615 / 2 ^ (64 - width) ≡ 2 ^ width - 1
+high_digits width h =
+    let all : 64 ≡ width + (64 - width) = omega arith in
+    let whole : 2 ^ 64 ≡ 2 ^ width * 2 ^ (64 - width) = ap (λ k. 2 ^ k) all ∙ pow-add 2 width (64 - width) in
+    let parts : 18446744073709551615 ≡ (2 ^ width - 1) * 2 ^ (64 - width) + (2 ^ (64 - width) - 1) = ap (λ k. k - 1) whole ∙ sym (all_but_one (2 ^ width) (2 ^ (64 - width)) (pow_pos width) (pow_pos (64 - width))) in
+    ap (λ k. k / 2 ^ (64 - width)) parts ∙ shr_high (2 ^ width - 1) (64 - width) (2 ^ (64 - width) - 1) (omega (arith, pow_pos (64 - width)))
+
+-- a number above the greatest of so many digits has more
+pub more_digits : (width n : ℕ) → 2 ^ width - 1 < n → n < 2 ^ 64 → width < digits n
+more_digits width n above h = elim (cases_lt width (digits n)) [
+  | inl more ↦ more
+  | inr few ↦ absurd (omega (arith, le-digits n width h few))
+]

@@ -10,7 +10,7 @@ use Rattle.std.specs.List.Sorted.{IsPermutation, IsSorted, IsStrictlySortedBy}
 use Rattle.std.proofs.lemmas.Bool.{cond_both, cond-true, cond-false, cases_lt, lt-ltb, le-ltb, eq-eqb, ne_eqb}
 use Rattle.std.proofs.lemmas.Bool.Decides.{nat_tests}
 use Rattle.std.proofs.lemmas.Int.{ints}
-use Rattle.std.proofs.lemmas.List.{drop_more, map-append}
+use Rattle.std.proofs.lemmas.List.{drop_more, length-map, map-append}
 use Rattle.std.proofs.lemmas.List.Sums.{sum_by-cons}
 use Rattle.std.proofs.lemmas.List.Sorted.{sum_by-IsPermutation}
 use Rattle.vx_stats.specs.Distinct.{times, with_number, distinct, counted, most_frequent}
@@ -85,6 +85,10 @@ times-below z (w ∷ ws) b = times-next z w ws ∙ rw (lt-unequal z w b.0) (omeg
 with-at_front : (z : ℤ) (ds : List ℤ) → IsBelow z ds → with_number z ds ≡ z ∷ ds
 with-at_front z [] b = refl
 with-at_front z (d ∷ ds) b = cond-true (int_lt z d) _ _ b.0
+
+pub ascending-distinct : (zs : List ℤ) → IsAscending zs → distinct zs ≡ zs
+ascending-distinct [] a = refl
+ascending-distinct (z ∷ zs) a = ap (with_number z) (ascending-distinct zs a.1) ∙ with-at_front z zs a.0
 
 with-same : (z : ℤ) (ds : List ℤ) → with_number z (z ∷ ds) ≡ z ∷ ds
 with-same z ds = cond-false (int_lt z z) _ _ (not-below-self z) ∙ cond-true (int_eq z z) _ _ (same-eq z)
@@ -359,6 +363,35 @@ run-next whole items row v x n done all within is e =
       λ t. ap (λ l. whole_counts whole done ++ l) (sym (next ∙ cond-true _ _ _ t)) ∙ e,
       λ f. done-more (whole_count whole) done (v, n) (runs_from (whole x) 1 rest) all (ap (λ l. whole_counts whole done ++ l) (sym (next ∙ cond-false _ _ _ f)) ∙ e),
     )
+
+-- ---- numbers of which each is above the one before
+
+abbrev pub IsClimbing : ℤ → List ℤ → Type 0
+IsClimbing z [] = ⊤
+IsClimbing z (w ∷ ws) = (int_lt z w ≡ true) × IsClimbing w ws
+
+climbing-below : (z w : ℤ) (ws : List ℤ) → int_lt z w ≡ true → IsClimbing w ws → IsBelow z (w ∷ ws)
+climbing-below z w [] l c = (l, tt)
+climbing-below z w (v ∷ vs) l c = (l, climbing-below z v vs (lt-trans z w v l c.0) c.1)
+
+climbing-ascends : (z : ℤ) (zs : List ℤ) → IsClimbing z zs → IsAscending (z ∷ zs)
+climbing-ascends z [] c = (tt, tt)
+climbing-ascends z (w ∷ ws) c = (climbing-below z w ws c.0 c.1, climbing-ascends w ws c.1)
+
+pub climbing-start : {T : Type 0} (whole : T → ℤ) (items : List T) (x : T) → (length items == 0) ≡ false → x ≡ get_or items 0 x
+    → IsClimbing (whole x) (map whole (drop 1 items)) → IsAscending (map whole items)
+climbing-start whole [] x some is c = absurd cc
+climbing-start whole (y ∷ ys) x some is c = climbing-ascends (whole y) (map whole ys) (subst (λ v. IsClimbing (whole v) (map whole ys)) is c)
+
+pub climbing-next : {T : Type 0} (whole : T → ℤ) (items : List T) (row : ℕ) (last x : T) → row < length items → x ≡ get_or items row x → int_lt (whole last) (whole x) ≡ true
+    → IsClimbing (whole x) (map whole (drop (row + 1) items)) → IsClimbing (whole last) (map whole (drop row items))
+climbing-next whole items row last x within is l c =
+    let next : drop row items ≡ x ∷ drop (row + 1) items = drop_more items row x within ∙ ap (λ y. y ∷ drop (row + 1) items) (sym is) in
+    let both : IsClimbing (whole last) (map whole (x ∷ drop (row + 1) items)) = (l, c) in
+    subst (λ xs. IsClimbing (whole last) (map whole xs)) (sym next) both
+
+pub ascending-all : {T : Type 0} (whole : T → ℤ) (items : List T) → IsAscending (map whole items) → length (distinct (map whole items)) ≡ length items
+ascending-all whole items a = ap length (ascending-distinct (map whole items) a) ∙ length-map items whole
 
 -- ---- the laws
 

@@ -17,7 +17,7 @@ use Rattle.vx_model.specs.Refusals.{validity_length}
 use Rattle.vx_model.specs.Rows.{valid_rows}
 use Rattle.vx_stats.specs.Stats.{valid_wholes}
 use Rattle.vx_stats.specs.Distinct.{times, with_number, distinct, counted}
-use Rattle.vx_stats.specs.Runs.{IsRising, IsRisingFrom, whole_count, whole_counts}
+use Rattle.vx_stats.specs.Runs.{runs, runs_from, IsRising, IsRisingFrom, whole_count, whole_counts}
 use Rattle.vx_stats.specs.Seen.{share, total, empties, merged, merged_from}
 use Rattle.vx_stats.proofs.DistinctLemmas.{IsBelow, IsAscending, distinct-ascends, distinct-times, same-ascending, times-next, times-below, eq-same, by-order, map-below, map-same, done-more}
 use Rattle.vx_stats.proofs.StatsLemmas.{few-values, valid_wholes-map-int}
@@ -102,6 +102,35 @@ merged-some z n (c ∷ cs) h e =
     let first = some-first c cs e in
     cond_both (int_eq z c.0) (merged_from z (n + c.1) cs) ((z, n) ∷ merged_from c.0 c.1 cs) (λ l. empties l ≡ 0) (λ same. merged-some z (n + c.1) cs (omega arith) first.1)
     (λ other. omega (arith, empties-cons (z, n) (merged_from c.0 c.1 cs), ap ones (not-zero n h), merged-some c.0 c.1 cs first.0 first.1))
+
+-- ---- the lengths of runs
+
+tot-runs_from : (z : ℤ) (n : ℕ) (zs : List ℤ) (x : ℤ) → tot (runs_from z n zs) x ≡ share x (z, n) + times zs x
+tot-runs_from z n [] x = tot-cons (z, n) [] x
+tot-runs_from z n (w ∷ ws) x =
+    cond_both (int_eq z w) (runs_from z (n + 1) ws) ((z, n) ∷ runs_from w 1 ws) (λ l. tot l x ≡ share x (z, n) + times (w ∷ ws) x)
+    (λ same. omega (arith, tot-runs_from z (n + 1) ws x, share-sum x z w n 1 (eq-same z w same), times-next x w ws))
+    (λ other. omega (arith, tot-cons (z, n) (runs_from w 1 ws) x, tot-runs_from w 1 ws x, times-next x w ws))
+
+tot-runs : (zs : List ℤ) (x : ℤ) → tot (runs zs) x ≡ times zs x
+tot-runs [] x = refl
+tot-runs (z ∷ zs) x = tot-runs_from z 1 zs x ∙ sym (times-next x z zs)
+
+runs_from-some : (z : ℤ) (n : ℕ) (zs : List ℤ) → 0 < n → empties (runs_from z n zs) ≡ 0
+runs_from-some z n [] h = empties-cons (z, n) [] ∙ ap (λ b. ones b + 0) (not-zero n h)
+runs_from-some z n (w ∷ ws) h =
+    cond_both (int_eq z w) (runs_from z (n + 1) ws) ((z, n) ∷ runs_from w 1 ws) (λ l. empties l ≡ 0) (λ same. runs_from-some z (n + 1) ws (omega arith))
+    (λ other. omega (arith, empties-cons (z, n) (runs_from w 1 ws), ap ones (not-zero n h), runs_from-some w 1 ws (omega arith)))
+
+runs-some : (zs : List ℤ) → empties (runs zs) ≡ 0
+runs-some [] = refl
+runs-some (z ∷ zs) = runs_from-some z 1 zs (omega arith)
+
+pub run-totals : {T : Type 0} (whole : T → ℤ) (counts : List (T × ℕ)) (zs : List ℤ) → whole_counts whole counts ≡ runs zs → (z : ℤ) → total whole counts z ≡ times zs z
+run-totals whole counts zs e z = sym (total-whole whole counts z) ∙ ap (λ l. tot l z) e ∙ tot-runs zs z
+
+pub run-some : {T : Type 0} (whole : T → ℤ) (counts : List (T × ℕ)) (zs : List ℤ) → whole_counts whole counts ≡ runs zs → empties counts ≡ 0
+run-some whole counts zs e = sym (empties-whole whole counts) ∙ ap empties e ∙ runs-some zs
 
 -- ---- one count for each number, ascending
 

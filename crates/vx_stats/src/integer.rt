@@ -11,6 +11,7 @@ mod distinct;
 mod erased;
 mod generating;
 mod range;
+mod rising;
 mod seen;
 mod slots;
 mod sorting;

@@ -5,3 +5,5 @@ pub mod Offsets
 pub mod Steps
 pub mod Types
 pub mod Unpacked
+pub mod DifferenceBlocks
+pub mod DifferenceRows

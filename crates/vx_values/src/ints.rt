@@ -59,6 +59,7 @@ mod bit_packing;
 mod converting;
 mod deltas;
 mod dictionary;
+mod difference_blocks;
 mod frame_of_reference;
 mod gathering;
 mod one_value;

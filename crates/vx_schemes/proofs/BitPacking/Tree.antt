@@ -30,6 +30,10 @@ all_bits-true (Some bits) count e = absurd cc
 all_bits-true None zero e = refl
 all_bits-true None (suc count) e = all_bits-true None count e
 
+pub all_bits-none : (valid : Validity) (count : ℕ) → is_some valid ≡ false → unwrap_or valid (replicate count true) ≡ replicate count true
+all_bits-none (Some bits) count e = absurd cc
+all_bits-none None count e = refl
+
 -- ---- the packing of a plain tree is that of its column
 
 module _ (t : Tree) (p : PType) (xs : List ℤ) (valid : Validity) (n : Nullability) (w : WellFormed t) (at : t ≡ primitive p xs valid n) (is_plain : IsPlain t) where

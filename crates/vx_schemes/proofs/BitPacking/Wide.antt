@@ -84,7 +84,7 @@ filter-none : (q : ℕ → Bool) (start n : ℕ) → ((i : ℕ) → i < start + 
 filter-none q start zero h = refl
 filter-none q start (suc n) h = rw (h start (omega arith)) (filter-none q (start + 1) n (λ i l. h i (omega arith)))
 
-word_bits : (p : PType) → 2 ^ natural_bits p ≤ 2 ^ 64
+pub word_bits : (p : PType) → 2 ^ natural_bits p ≤ 2 ^ 64
 word_bits U8 = omega arith
 word_bits U16 = omega arith
 word_bits U32 = omega arith

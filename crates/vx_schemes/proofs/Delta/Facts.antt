@@ -1,6 +1,6 @@
 -- Worked values of differences from row to row.
 use Rattle.std.proofs.Common.{zero-lt-suc}
-use Rattle.std.specs.Prelude.{◌≡◌, ◌*◌, [], ◌∷◌, pos, negsuc, refl}
+use Rattle.std.specs.Prelude.{◌≡◌, ◌*◌, [], ◌∷◌, pos, negsuc, Some, None, refl}
 use Rattle.vx_base.specs.declared.fraction.Fraction.{Fraction}
 use Rattle.vx_base.specs.declared.ptype.PType.TheVariants.{I32}
 use Rattle.vx_base.specs.declared.dtype.Nullability.TheVariants.{NonNullable, Nullable}
@@ -9,7 +9,7 @@ use Rattle.vx_base.specs.PlainValue.{null, int}
 use Rattle.vx_model.specs.Column.{column}
 use Rattle.vx_scheme.specs.Scores.{ratio_of}
 use Rattle.vx_scheme.specs.declared.estimate.EstimateVerdict.TheVariants.{Skip}
-use Rattle.vx_schemes.specs.Delta.Meaning.{spread, padded, delta_verdict}
+use Rattle.vx_schemes.specs.Delta.Meaning.{spread, spread_within, padded, delta_verdict}
 use Rattle.vx_schemes.specs.Delta.Tree.{filled_rows, delta_bases}
 
 -- 5/4
@@ -29,6 +29,10 @@ delta_verdict-least = (refl, refl, refl)
 -- from -3 to 2, and of no number
 pub spread-five : (spread (pos 0 ∷ pos 2 ∷ negsuc 2 ∷ []) ≡ 5) × (spread (pos 7 ∷ []) ≡ 0) × (spread [] ≡ 0)
 spread-five = (refl, refl, refl)
+
+-- told up to itself, and not where less is the most
+pub spread_within-five : (spread_within 5 (pos 0 ∷ pos 2 ∷ negsuc 2 ∷ []) ≡ Some 5) × (spread_within 4 (pos 0 ∷ pos 2 ∷ negsuc 2 ∷ []) ≡ None)
+spread_within-five = (refl, refl)
 
 -- whole blocks of 1,024
 pub padded-blocks : (padded 1024 ≡ 1024) × (padded 1025 ≡ 2048)

@@ -1,36 +1,15 @@
--- The ratio of differences: it falls with their digits, and what a verdict answers.
-use Rattle.std.proofs.Common.{◌≡◌, ◌<◌, ◌≤◌, ◌+◌, ◌*◌, ◌∙◌, ℕ, Bool, true, false, cond, refl, sym, ap, arith}
+-- The ratio of differences: what a verdict answers, and where it may be skipped.
+use Rattle.std.proofs.Common.{◌≡◌, ◌<◌, ◌∙◌, ℕ, zero, suc, Bool, true, false, cond, Option, refl, sym, ap, arith}
 use Rattle.std.specs.Prelude.{not, ◌==◌}
-use Rattle.std.proofs.Math.Nat.{mul-le-mul_left}
-use Rattle.std.proofs.lemmas.Bool.{cond_both, cond-true, cond-false, ne_eqb}
-use Rattle.std.proofs.lemmas.Bool.Decides.{nat_tests}
+use Rattle.std.proofs.lemmas.Bool.{cond-true, cond-false, ne_eqb}
 use Rattle.vx_base.specs.declared.fraction.Fraction.{Fraction}
 use Rattle.vx_base.specs.Digits.{digits}
 use Rattle.vx_base.specs.Fractions.{is_less}
+use Rattle.vx_scheme.specs.Resolved.{IsResolved}
 use Rattle.vx_scheme.specs.declared.estimate.EstimateVerdict.{EstimateVerdict}
-use Rattle.vx_scheme.specs.declared.estimate.EstimateVerdict.TheVariants.{Skip, AlwaysUse, Ratio}
-use Rattle.vx_schemes.specs.Delta.Meaning.{padded, delta_ratio, if_above, delta_verdict}
-use Rattle.vx_schemes.specs.Thresholds.{IsAtMost}
-use Rattle.vx_schemes.proofs.ThresholdLemmas.{negated, ratio-falls}
-use Rattle.vx_schemes.proofs.WidthLemmas.{digits-some}
-
--- ---- bounds
-
-if_above-bounded : (x least : Fraction) (v : EstimateVerdict) → IsAtMost x v → IsAtMost x (if_above least v)
-if_above-bounded x least Skip m = tt
-if_above-bounded x least AlwaysUse m = absurd m
-if_above-bounded x least (Ratio r) m = cond_both (is_less least r) (Ratio r) Skip (IsAtMost x) (λ e. m) (λ e. tt)
-
--- no verdict is above the ratio at one digit
-pub verdict-bounded : (least : Fraction) (len bits span : ℕ) (x : Fraction) → Ratio x ≡ delta_ratio len bits 1 → IsAtMost x (delta_verdict least len bits span)
-verdict-bounded least len bits span x e = by_test (span == 0) refl
-  where
-    by_test : (b : Bool) → (span == 0) ≡ b → IsAtMost x (cond b Skip (if_above least (delta_ratio len bits (digits span))))
-    by_test true q = tt
-    by_test false q =
-        let some : 0 < span = grind (arith, nat_tests) in
-        let more : 1 + 1 ≤ digits span + 1 = omega (arith, digits-some span some) in
-        if_above-bounded x least (delta_ratio len bits (digits span)) (ratio-falls x (95 * len * bits) (100 * padded len * (1 + 1)) (100 * padded len * (digits span + 1)) e (mul-le-mul_left (100 * padded len) more))
+use Rattle.vx_scheme.specs.declared.estimate.EstimateVerdict.TheVariants.{Skip, Ratio}
+use Rattle.vx_schemes.specs.Delta.Meaning.{delta_ratio, if_above, delta_verdict}
+use Rattle.vx_schemes.proofs.ThresholdLemmas.{negated, resolved-itself}
 
 -- ---- verdicts
 
@@ -53,3 +32,8 @@ pub verdict-above : (least : Fraction) (len bits span : ℕ) (x : Fraction) → 
 verdict-above least len bits span x some e above =
     sym (cond-true (is_less least x) (Ratio x) Skip (kept_true (is_less least x) above)) ∙ above-test least x (delta_ratio len bits (digits span)) e
     ∙ sym (cond-false (span == 0) Skip (if_above least (delta_ratio len bits (digits span))) (ne_eqb span 0 some))
+
+-- Skip may be answered where it may for each spread above 0
+pub skipped-all : (t : Option Fraction) (least : Fraction) (len bits span : ℕ) → (0 < span → IsResolved t (delta_verdict least len bits span) Skip) → IsResolved t (delta_verdict least len bits span) Skip
+skipped-all t least len bits zero h = resolved-itself t Skip
+skipped-all t least len bits (suc n) h = h (omega arith)

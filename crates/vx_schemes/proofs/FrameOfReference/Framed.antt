@@ -12,6 +12,7 @@ use Rattle.vx_base.specs.PlainScalar.{fits}
 use Rattle.vx_base.proofs.IntegerLemmas.{by_integer}
 use Rattle.vx_base.specs.PlainType.{is_integer, integer_of}
 use Rattle.vx_base.specs.PlainType as types
+use Rattle.vx_base.specs.PlainValue.{whole_or_zero}
 use Rattle.vx_model.specs.Column.{Column, IsColumn, column, column_of}
 use Rattle.vx_model.specs.Plain.{plain}
 use Rattle.vx_model.specs.Rows.{rows}
@@ -65,6 +66,14 @@ module _ (t : Tree) (z : ℤ) (i : is_integer (tree_type t) ≡ true) (w : WellF
 
   pub less-column : IsColumn less
   less-column = differences-column (column_of t) z i (rows_fit t w)
+
+  pub less-natural : list_any is_negative (map whole_or_zero less.values) ≡ false
+  less-natural = differences-natural (column_of t) z i (rows_fit t w)
+
+  pub less-held : list_all (lies_in (unsigned_of (integer_of (tree_type t)))) (map whole_or_zero less.values) ≡ true
+  less-held =
+      by_integer (λ s. list_all (fits s) (rows t) ≡ true → list_all (lies_in (unsigned_of (integer_of s))) (map whole_or_zero (map (difference (integer_of s) z) (rows t))) ≡ true)
+      (λ p n k. wholes_lie_in (unsigned_of p) n (map (difference p z) (rows t)) (differences_fit p z n (rows t) k)) (tree_type t) i (rows_fit t w)
 
   pub plain-natural : has_negative (column_of (plain less)) ≡ false
   plain-natural = ap has_negative (column_of-plain less less-column) ∙ differences-natural (column_of t) z i (rows_fit t w)

@@ -1,18 +1,19 @@
--- A vote finds the number that more than half of the numbers are, and the verdict by its count is that by the most frequent one.
+-- A vote finds the number that more than half of the numbers are, and the verdict by its count is that by the most frequent one; where runs are short, no count is needed.
 use Rattle.std.proofs.Common.{◌≡◌, ◌<◌, ◌≤◌, ◌+◌, ◌*◌, ◌∙◌, ℕ, suc, ℤ, pos, Bool, true, false, cond, List, [], ◌∷◌, length, map, refl, sym, ap, subst, arith}
-use Rattle.std.specs.Prelude.{◌-◌, ◌==◌, ◌||◌, nat_lt, fold}
+use Rattle.std.specs.Prelude.{◌-◌, ◌==◌, ◌||◌, ◌&&◌, nat_le, nat_lt, fold}
 use Rattle.std.specs.Ordering.{int_eq}
-use Rattle.std.proofs.lemmas.Bool.{cond_both, eqb-true, eqb-false, ne_eqb, lt-ltb, ltb-true, ltb-false}
+use Rattle.std.proofs.lemmas.Bool.{cond_both, eqb-true, eqb-false, ne_eqb, lt-ltb, leb-true, ltb-true, ltb-false, and_parts}
 use Rattle.std.proofs.lemmas.Int.{ints}
 use Rattle.vx_base.specs.PlainValue.{PlainValue}
 use Rattle.vx_stats.specs.Distinct.{times, distinct}
 use Rattle.vx_stats.specs.Distinct as numbers
 use Rattle.vx_stats.specs.Runs.{better}
-use Rattle.vx_stats.specs.Stats.{valid_wholes, value_count, most_frequent}
+use Rattle.vx_stats.specs.Stats.{valid_wholes, value_count, average_run_length, most_frequent}
 use Rattle.vx_stats.proofs.DistinctLemmas.{times-next, distinct-times, eq-same, best-most_frequent}
 use Rattle.vx_encode.proofs.SharedLemmas.{frequent-few}
 use Rattle.vx_schemes.specs.Sparse.Meaning.{sparse_verdict}
 use Rattle.vx_schemes.specs.Sparse.Vote.{after_vote, winner, winner_count}
+use Rattle.vx_schemes.proofs.Sparse.Runs.{runs-long}
 
 -- ---- a vote
 
@@ -129,8 +130,8 @@ winner-most vs most =
     let same : winner_count vs ≡ times (valid_wholes vs) z = ap (times (valid_wholes vs)) (sym (elected (valid_wholes vs) z (omega (arith, most, own)))) in
     omega (arith, same, own, often-most vs z)
 
-skips : (values often : ℕ) → (values ≡ 0 → ⊥) → 2 * often ≤ values → ((often == values) || nat_lt (10 * often) (9 * values)) ≡ true
-skips values often some few = either (often == values) (nat_lt (10 * often) (9 * values)) (lt-ltb _ _ (omega (arith, some, few)))
+skips : (values often : ℕ) → 10 * often < 9 * values → ((often == values) || nat_lt (10 * often) (9 * values)) ≡ true
+skips values often few = either (often == values) (nat_lt (10 * often) (9 * values)) (lt-ltb _ _ few)
   where
     either : (a b : Bool) → b ≡ true → (a || b) ≡ true
     either true b h = refl
@@ -142,7 +143,7 @@ verdict-by rows nulls values count often few most = by_half (nat_lt values (2 * 
   where
     by_value : 2 * often ≤ values → (b : Bool) → (values == 0) ≡ b → sparse_verdict rows nulls values count ≡ sparse_verdict rows nulls values often
     by_value half true none = rw none refl
-    by_value half false some = rw (skips values count (eqb-false values 0 some) (omega (arith, few, half)), skips values often (eqb-false values 0 some) half) refl
+    by_value half false some = let more = eqb-false values 0 some in rw (skips values count (omega (arith, few, half, more)), skips values often (omega (arith, half, more))) refl
 
     by_half : (b : Bool) → nat_lt values (2 * often) ≡ b → sparse_verdict rows nulls values count ≡ sparse_verdict rows nulls values often
     by_half true e = ap (sparse_verdict rows nulls values) (most (ltb-true _ _ e))
@@ -151,6 +152,31 @@ verdict-by rows nulls values count often few most = by_half (nat_lt values (2 * 
 -- the verdict by the winner's count is that by the greatest
 pub verdict-same : (rows nulls : ℕ) (vs : List PlainValue) → sparse_verdict rows nulls (value_count vs) (winner_count vs) ≡ sparse_verdict rows nulls (value_count vs) (most_frequent vs).1
 verdict-same rows nulls vs = verdict-by rows nulls (value_count vs) (winner_count vs) (most_frequent vs).1 (often-most vs (winner (valid_wholes vs))) (winner-most vs)
+
+-- ---- without a vote
+
+frequent-rare : (vs : List PlainValue) → 20 ≤ value_count vs → average_run_length vs < 4 → 10 * (most_frequent vs).1 < 9 * value_count vs
+frequent-rare vs many short = by_test (nat_lt (10 * (most_frequent vs).1) (9 * value_count vs)) refl
+  where
+    by_test : (b : Bool) → nat_lt (10 * (most_frequent vs).1) (9 * value_count vs) ≡ b → 10 * (most_frequent vs).1 < 9 * value_count vs
+    by_test true e = ltb-true _ _ e
+    by_test false e =
+        let own = most-own (times (valid_wholes vs)) (distinct (valid_wholes vs)) in
+        absurd (omega (arith, short, runs-long (valid_wholes vs) (most_frequent vs).0 many (omega (arith, own, ltb-false _ _ e))))
+
+-- where most rows are null, or runs are short, no count changes the verdict
+pub verdict-unvoted : (rows nulls : ℕ) (vs : List PlainValue) → (nat_lt (9 * rows) (10 * nulls) || (nat_le 20 (value_count vs) && nat_lt (average_run_length vs) 4)) ≡ true
+    → sparse_verdict rows nulls (value_count vs) 0 ≡ sparse_verdict rows nulls (value_count vs) (most_frequent vs).1
+verdict-unvoted rows nulls vs told = by_tests (value_count vs == 0) (nat_lt (9 * rows) (10 * nulls)) refl refl told
+  where
+    by_tests : (a b : Bool) → (value_count vs == 0) ≡ a → nat_lt (9 * rows) (10 * nulls) ≡ b → (b || (nat_le 20 (value_count vs) && nat_lt (average_run_length vs) 4)) ≡ true
+        → sparse_verdict rows nulls (value_count vs) 0 ≡ sparse_verdict rows nulls (value_count vs) (most_frequent vs).1
+    by_tests true b none most h = rw none refl
+    by_tests false true some most h = rw (some, most) refl
+    by_tests false false some few h =
+        let both = and_parts (nat_le 20 (value_count vs)) _ h in
+        let many : 20 ≤ value_count vs = leb-true _ _ both.0 in
+        rw (some, few, skips (value_count vs) 0 (omega (arith, many)), skips (value_count vs) (most_frequent vs).1 (frequent-rare vs many (ltb-true _ _ both.1))) refl
 
 -- ---- a loop's steps
 

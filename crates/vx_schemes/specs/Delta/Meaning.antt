@@ -1,5 +1,5 @@
 -- What the delta scheme means.
-use Rattle.std.specs.Prelude.{◌≡◌, ◌≤◌, ℕ, ℤ, ◌+◌, ◌*◌, ◌==◌, nat_lt, ◌-ℤ◌, unsigned_abs, ◌||◌, false, if◌then◌else◌, List, [], ◌∷◌, length, fold, All, codes}
+use Rattle.std.specs.Prelude.{◌≡◌, ◌≤◌, ℕ, ℤ, ◌+◌, ◌*◌, ◌==◌, nat_lt, ◌-ℤ◌, unsigned_abs, ◌||◌, false, if◌then◌else◌, List, [], ◌∷◌, length, fold, Option, None, Some, All, codes}
 use Rattle.std.specs.Int.{int_min, int_max}
 use Rattle.std.proofs.Common.{arith, subst, sym, ◌∙◌, zero-lt-suc}
 use Rattle.vx_base.specs.declared.array_id.ArrayId.TheVariants.{Delta}
@@ -43,6 +43,10 @@ not_twice = record { scheme = codes "vortex.int.delta"; children = selections.Al
 abbrev pub spread : List ℤ → ℕ
 spread [] = 0
 spread (z ∷ zs) = unsigned_abs (fold int_max z zs -ℤ fold int_min z zs)
+
+-- the spread, where it isn't above a greatest one
+abbrev pub spread_within : ℕ → List ℤ → Option ℕ
+spread_within most zs = if nat_lt most (spread zs) then None else Some (spread zs)
 
 -- the rows, and those that fill their last block of 1,024
 abbrev pub padded : ℕ → ℕ

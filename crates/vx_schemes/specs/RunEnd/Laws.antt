@@ -19,7 +19,7 @@ use Rattle.vx_model.specs.WellFormed.{WellFormed, ascend}
 use Rattle.vx_model.proofs.RunEndLemmas.{last_end, run_end_accepted}
 use Rattle.vx_scheme.specs.Asked.{most_rows}
 use Rattle.vx_scheme.specs.Lawful.{IsPart}
-use Rattle.vx_schemes.specs.BitPacking.Rising.{filter-ascends}
+use Rattle.vx_encode.proofs.RisingLemmas.{filter-ascends}
 use Rattle.vx_schemes.specs.Narrowed.{number_rows}
 use Rattle.vx_schemes.specs.NarrowedLaws.{rising-column, number_rows-long}
 use Rattle.vx_schemes.specs.Pairs.{pair_of}

@@ -12,6 +12,7 @@ ghost use Rattle.vx_schemes.specs.FrameOfReference.Tree.{least_value};
 ghost use Rattle.vx_schemes.specs.Produced.{MakesProduced};
 ghost use Rattle.vx_schemes.specs.FrameOfReference.Meaning.{for_meaning, is_as_wide, gains_nothing, for_verdict};
 
+mod blocks;
 mod tree;
 
 use crate::exclusions::not_in_codes;

@@ -8,11 +8,12 @@ ghost use Rattle.vx_model.specs.Refusals.{validity_length};
 ghost use Rattle.vx_model.specs.Rows.{valid_rows};
 ghost use Rattle.vx_stats.specs.Counts.{counts_of};
 ghost use Rattle.vx_stats.specs.Erased.{ptype_in, typed_of, extremes_of};
-ghost use Rattle.vx_stats.specs.Stats.{distinct_count, extremes_in, extremes_alone};
+ghost use Rattle.vx_stats.specs.Stats.{distinct_count, value_count, extremes_in, extremes_alone};
 ghost use Rattle.vx_stats.specs.Stats as stats;
 
 use crate::integer::counts::{RowCounts, summary, with_distinct};
 use crate::integer::erased::ErasedStats;
+use crate::integer::rising::rises;
 use crate::integer::slots::distinct_at_least;
 use crate::options::GenerateStatsOptions;
 use std::alloc::Global;
@@ -43,11 +44,12 @@ pub(crate) fn summary_of(values: &Ints, valid: &Option<Mask>) -> (RowCounts, Era
 }
 
 macro_rules! completed_by_type {
-    ($alloc:expr, $erased:expr, $values:expr, $valid:expr, $opts:expr; $($kind:ident),*) => {
+    ($alloc:expr, $erased:expr, $values:expr, $valid:expr, $opts:expr, $run_length:expr; $($kind:ident),*) => {
         match $values {
             $(Ints::$kind(items) => match $erased {
                 ErasedStats::$kind(extremes) => {
-                    let typed = with_distinct($alloc, items.as_slice(), $valid, $opts, extremes)?;
+                    let items = items.as_slice();
+                    let typed = with_distinct($alloc, items, $valid, $opts, extremes, $run_length)?;
                     Ok(ErasedStats::$kind(typed))
                 }
                 _ => unreachable!(),
@@ -56,13 +58,15 @@ macro_rules! completed_by_type {
     };
 }
 
-/// The extremes of the valid rows, which are there already, and the distinct values where they are asked for.
+/// The extremes of the valid rows, which are there already, and the distinct values where they are asked for. There are
+/// `run_length` values a run of equal ones.
 pub(crate) fn completed(
     alloc: Global,
     erased: &ErasedStats,
     values: &Ints,
     valid: &Option<Mask>,
     opts: GenerateStatsOptions,
+    run_length: u32,
 ) -> VortexResult<ErasedStats>
     requires mask { validity_length valid.now (length (wholes_of values.now)) ≡ true }
     requires few { length (wholes_of values.now) < 2 ^ 32 }
@@ -71,7 +75,7 @@ pub(crate) fn completed(
     ensures kind { OrMemory result (λ erased. ptype_in erased ≡ ptype_of values.now) }
     ensures typed { OrMemory result (λ erased. typed_of erased ≡ stats.typed_of opts (ptype_of values.now) (valid_rows valid.now (map int (wholes_of values.now)))) }
 {
-    completed_by_type!(alloc, erased, values, valid, opts; U8, U16, U32, U64, I8, I16, I32, I64)
+    completed_by_type!(alloc, erased, values, valid, opts, run_length; U8, U16, U32, U64, I8, I16, I32, I64)
 }
 
 macro_rules! least_by_type {
@@ -94,4 +98,19 @@ pub(crate) fn least_distinct(
     ensures { OrMemory result (λ count. count ≤ distinct_count (valid_rows valid.now (map int (wholes_of values.now)))) }
 {
     least_by_type!(alloc, values, valid, enough; U8, U16, U32, U64, I8, I16, I32, I64)
+}
+
+macro_rules! rises_by_type {
+    ($values:expr, $valid:expr; $($kind:ident),*) => {
+        match $values {
+            $(Ints::$kind(items) => rises(items.as_slice(), $valid),)*
+        }
+    };
+}
+
+/// Whether no row is null and each value is above the one before. Then all of them are distinct; false tells nothing.
+pub(crate) fn is_rising(values: &Ints, valid: &Option<Mask>) -> bool
+    ensures { result ≡ true → distinct_count (valid_rows valid.now (map int (wholes_of values.now))) ≡ value_count (valid_rows valid.now (map int (wholes_of values.now))) }
+{
+    rises_by_type!(values, valid; U8, U16, U32, U64, I8, I16, I32, I64)
 }

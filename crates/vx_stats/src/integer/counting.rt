@@ -1,5 +1,6 @@
 //! Counting of distinct integers: where they lie far apart, counts of those met are sorted, and equal ones merged;
-//! where hardly one is met again, they are sorted themselves.
+//! where hardly one is met again, they are sorted themselves. Where equal ones mostly follow on one another, the counts
+//! are the lengths of their runs.
 
 ghost use Rattle.std.specs.Prelude.{◌≡◌, ◌<◌, ◌^◌, ℤ, length, map, true};
 ghost use Rattle.std.specs.List.{All};
@@ -17,10 +18,13 @@ use crate::integer::dense::dense_info;
 use crate::integer::distinct::{Counts, DistinctInfo};
 use crate::integer::range::Range;
 use crate::integer::seen::{is_same, seen_of};
-use crate::integer::sorting::sorted_info;
+use crate::integer::sorting::{sorted_info, valid_runs};
 use crate::options::GenerateStatsOptions;
 use std::alloc::Global;
 use vx_base::{Integer, Mask, VortexResult};
+
+// From so many values a run on, runs are counted in place of values. They are sorted, so they have to be few.
+const LONG_RUNS: u32 = 32;
 
 // The same counts, the integers not falling.
 fn sorted<T: Integer>(mut counts: Vec<(T, u32)>) -> Vec<(T, u32)>
@@ -71,14 +75,31 @@ fn counted<T: Integer>(
     Ok(DistinctInfo::new(merged(alloc, counts.as_slice())?))
 }
 
-/// The distinct integers of the valid rows, where they are asked for and there is a row. `range` goes from the least
-/// valid integer to the greatest: where it has no more numbers than there are rows, a table counts them.
+// The same, by runs of equal integers: these are sorted by their integers, and merged.
+fn counted_by_runs<T: Integer>(
+    alloc: Global,
+    items: &[T],
+    valid: &Option<Mask>,
+) -> VortexResult<DistinctInfo<T>>
+    requires mask { validity_length valid.now (length items.now) ≡ true }
+    requires few { length items.now < 2 ^ 32 }
+    ensures { Answers result (distinct_counts (valid_rows valid.now (map int (map T.whole items.now)))) }
+{
+    let runs = valid_runs(alloc, items, valid)?;
+    let counts = sorted(runs.into_vec());
+    Ok(DistinctInfo::new(merged(alloc, counts.as_slice())?))
+}
+
+/// The distinct integers of the valid rows, where they are asked for and there is a row. Where runs of equal ones, of
+/// `run_length` values each, are long, they are counted by these. `range` goes from the least valid integer to the
+/// greatest: where it has no more numbers than there are rows, a table counts them.
 pub(crate) fn distinct_info<T: Integer>(
     alloc: Global,
     items: &[T],
     valid: &Option<Mask>,
     opts: GenerateStatsOptions,
     range: Range<T>,
+    run_length: u32,
 ) -> VortexResult<Option<DistinctInfo<T>>>
     requires mask { validity_length valid.now (length items.now) ≡ true }
     requires few { length items.now < 2 ^ 32 }
@@ -87,6 +108,10 @@ pub(crate) fn distinct_info<T: Integer>(
 {
     if !opts.count_distinct_values || items.is_empty() {
         return Ok(None);
+    }
+    if run_length >= LONG_RUNS {
+        let info = counted_by_runs(alloc, items, valid)?;
+        return Ok(Some(info));
     }
     if let Some(len) = range.len_within(items.len()) {
         let info = dense_info(alloc, items, valid, range, len)?;

@@ -75,19 +75,21 @@ pub(crate) fn summary<T: Integer>(items: &[T], valid: &Option<Mask>) -> (RowCoun
     (counts, extremes)
 }
 
-/// The extremes of the valid rows, and the distinct values where they are asked for.
+/// The extremes of the valid rows, and the distinct values where they are asked for. There are `run_length` values a run
+/// of equal ones.
 pub(crate) fn with_distinct<T: Integer>(
     alloc: Global,
     items: &[T],
     valid: &Option<Mask>,
     opts: GenerateStatsOptions,
     extremes: &TypedStats<T>,
+    run_length: u32,
 ) -> VortexResult<TypedStats<T>>
     requires mask { validity_length valid.now (length items.now) ≡ true }
     requires few { length items.now < 2 ^ 32 }
     requires extremes { extremes.now ≡ extremes_alone (extremes_in T.kind (valid_rows valid.now (map int (map T.whole items.now)))) }
     ensures { Answers result (typed_of opts T.kind (valid_rows valid.now (map int (map T.whole items.now)))) }
 {
-    let distinct = distinct_info(alloc, items, valid, opts, extremes.range())?;
+    let distinct = distinct_info(alloc, items, valid, opts, extremes.range(), run_length)?;
     Ok(extremes.with_distinct(distinct))
 }

@@ -13,7 +13,7 @@ ghost use Rattle.vx_stats.specs.Options.{no_options};
 ghost use Rattle.vx_stats.specs.Stats.{stats_of, stats_refusal, value_count, distinct_count};
 
 use super::IntegerStats;
-use super::by_type::{completed, least_distinct, summary_of};
+use super::by_type::{completed, is_rising, least_distinct, summary_of};
 use crate::options::GenerateStatsOptions;
 use std::alloc::Global;
 use vx_array::{ArrayRef, Node};
@@ -96,7 +96,8 @@ impl IntegerStats {
         requires summary { self.now ≡ stats_of no_options (ptype_of values.now) (valid_rows valid.now (map int (wholes_of values.now))) }
         ensures { Answers result (stats_of opts (ptype_of values.now) (valid_rows valid.now (map int (wholes_of values.now)))) }
     {
-        let erased = completed(alloc, &self.erased, values, valid, opts)?;
+        let run_length = self.counts.average_run_length;
+        let erased = completed(alloc, &self.erased, values, valid, opts, run_length)?;
         Ok(IntegerStats::new(self.counts, erased))
     }
 
@@ -110,11 +111,17 @@ impl IntegerStats {
         requires summary { self.now ≡ stats_of no_options (integer_of (tree_type plain.now)) (rows plain.now) }
         ensures { OrMemory result (λ shown. shown ≡ true → value_count (rows plain.now) / 2 < distinct_count (rows plain.now)) }
     {
-        // Where they lie close together, a table counts them as fast.
-        if self.value_count() == 0 || self.erased().max_minus_min() < plain.len() {
+        if self.value_count() == 0 {
             return Ok(false);
         }
         let (values, valid, _) = plain.as_primitive();
+        if is_rising(values, valid) {
+            return Ok(true);
+        }
+        // Where they lie close together, a table counts them as fast.
+        if self.erased().max_minus_min() < plain.len() {
+            return Ok(false);
+        }
         let half = (self.value_count() / 2) as usize;
         let least = least_distinct(alloc, values, valid, half)?;
         Ok(least > half)

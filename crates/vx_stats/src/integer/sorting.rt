@@ -77,6 +77,25 @@ fn run_lengths<T: Integer>(alloc: Global, items: &[T]) -> VortexResult<Counts<T>
     Ok(Counts::from_vec(counts))
 }
 
+/// The runs of equal integers of the valid rows with their lengths, in the order of the rows.
+pub(crate) fn valid_runs<T: Integer>(
+    alloc: Global,
+    items: &[T],
+    valid: &Option<Mask>,
+) -> VortexResult<Counts<T>>
+    requires mask { validity_length valid.now (length items.now) ≡ true }
+    requires few { length items.now < 2 ^ 32 }
+    ensures { OrMemory result (λ counts. whole_counts T.whole counts ≡ runs (valid_wholes (valid_rows valid.now (map int (map T.whole items.now))))) }
+{
+    match valid {
+        Some(mask) => {
+            let kept = masked_items(alloc, items, mask.as_slice())?;
+            run_lengths(alloc, kept.as_slice())
+        }
+        None => run_lengths(alloc, items),
+    }
+}
+
 // The distinct integers, ascending, with their counts.
 fn counted<T: Integer>(alloc: Global, items: Vec<T>) -> VortexResult<DistinctInfo<T>>
     requires { vec_len items < 2 ^ 32 }

@@ -1,7 +1,7 @@
 //! Integers of some bits each.
 
 ghost use Rattle.std.specs.List.{list_all};
-ghost use Rattle.std.specs.Prelude.{◌≡◌, ◌<◌, length, pos, IsTrue, map, ◌≤◌, nat_lt, sum, ◌^◌, nat_le};
+ghost use Rattle.std.specs.Prelude.{◌≡◌, ◌<◌, length, pos, IsTrue, map, ◌≤◌, nat_lt, sum, ◌^◌, nat_le, replicate, true};
 ghost use Rattle.vx_base.specs.Answers.{Answers, OrMemory};
 ghost use Rattle.vx_base.specs.Integers.{bits_in, bits_of, natural_bits};
 ghost use Rattle.vx_base.specs.Packed.{bytes_in, joined, kept_rows, packed_size, wide_rows, packed_row};
@@ -12,7 +12,7 @@ ghost use Rattle.vx_values.specs.IntsOf.{ptype_of, wholes_of};
 use super::Ints;
 use std::alloc::Global;
 use vx_base::{Bytes, IntList, Integer, Mask, PType, VortexResult};
-use vx_blocks::{bit_width_histogram, pack, unpack_integers, wide_rows};
+use vx_blocks::{bit_width_histogram, bit_widths_of_all, pack, unpack_integers, wide_rows};
 
 impl Ints {
     /// How many rows have exactly w binary digits, as entry w, for w from 0 to the type's bits; a null has none.
@@ -22,6 +22,14 @@ impl Ints {
         ensures widths { OrMemory result (λ counts. IsHistogram (bits_of (ptype_of self.now)) (kept_rows 64 (map (bits_in (ptype_of self.now)) (wholes_of self.now)) valid.now) counts.items) }
     {
         with_ints!(self, items => bit_width_histogram(alloc, items.as_slice(), valid))
+    }
+
+    /// The same of rows none of which is null, without a truth value for each.
+    pub fn bit_widths_of_all(&self, alloc: Global) -> VortexResult<Vec<u64>>
+        ensures total { OrMemory result (λ counts. sum counts.items ≡ length (wholes_of self.now)) }
+        ensures widths { OrMemory result (λ counts. IsHistogram (bits_of (ptype_of self.now)) (kept_rows 64 (map (bits_in (ptype_of self.now)) (wholes_of self.now)) (replicate (length (wholes_of self.now)) true)) counts.items) }
+    {
+        with_ints!(self, items => widths_of_all(alloc, items.as_slice()))
     }
 
     /// The rows packed at a width, in whole blocks of 1,024; a null and a row that is wider are 0.
@@ -65,6 +73,13 @@ impl Ints {
             PType::I64 => Ok(Ints::I64(unpacked_list(alloc, width, packed, len)?)),
         }
     }
+}
+
+fn widths_of_all<T: Integer>(alloc: Global, items: &[T]) -> VortexResult<Vec<u64>>
+    ensures total { OrMemory result (λ counts. sum counts.items ≡ length (map T.whole items.now)) }
+    ensures widths { OrMemory result (λ counts. IsHistogram (bits_of T.kind) (kept_rows 64 (map (bits_in T.kind) (map T.whole items.now)) (replicate (length (map T.whole items.now)) true)) counts.items) }
+{
+    bit_widths_of_all(alloc, items)
 }
 
 #[tactic(auto, using(vx_base::proofs::BytesLemmas::bytes_are))]

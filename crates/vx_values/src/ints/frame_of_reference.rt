@@ -62,7 +62,11 @@ fn difference<T: Integer, D: Integer>(reference: T, item: T) -> D
 }
 
 // The same of each item, written over others.
-fn write_differences<T: Integer, D: Integer>(reference: T, items: &[T], differences: &mut [D])
+pub(super) fn write_differences<T: Integer, D: Integer>(
+    reference: T,
+    items: &[T],
+    differences: &mut [D],
+)
     requires kind { D.kind ≡ unsigned_of T.kind }
     requires length { length differences.old ≡ length items.now }
     ensures { map D.whole differences.new ≡ map (λ z. wrap (unsigned_of T.kind) (z -ℤ T.whole reference)) (map T.whole items.now) }

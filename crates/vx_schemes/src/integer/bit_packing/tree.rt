@@ -1,13 +1,14 @@
 //! Bit packing.
 
-ghost use Rattle.std.specs.Prelude.{◌≡◌, ◌<◌, ◌≤◌, ◌+◌, ◌^◌, ◌==◌, not, [], Some, pos, length, map, replicate, drop, true, false, nat_le, unwrap_or, IsTrue};
+ghost use Rattle.std.specs.Prelude.{◌≡◌, ◌<◌, ◌≤◌, ◌+◌, ◌^◌, ◌==◌, not, [], Some, pos, length, map, replicate, drop, sum, true, false, nat_le, unwrap_or, IsTrue};
 ghost use Rattle.std.specs.List.{list_all, list_any};
 ghost use Rattle.vx_base.specs.Answers.{Answers, OrMemory};
 ghost use Rattle.vx_base.specs.declared.dtype.Nullability.{Nullability};
-ghost use Rattle.vx_base.specs.Integers.{bits_in, lies_in, natural_bits};
-ghost use Rattle.vx_base.specs.Packed.{wide_rows};
+ghost use Rattle.vx_base.specs.Integers.{bits_in, bits_of, lies_in, natural_bits};
+ghost use Rattle.vx_base.specs.Packed.{kept_rows, wide_rows};
 ghost use Rattle.vx_base.specs.PlainType.{is_integer};
 ghost use Rattle.vx_base.specs.PlainValue.{int};
+ghost use Rattle.vx_blocks.specs.Histogram.{IsHistogram};
 ghost use Rattle.vx_model.specs.Column.{column_of};
 ghost use Rattle.vx_model.specs.Plain.{IsPlain};
 ghost use Rattle.vx_model.specs.Refusals.{kept, validity_allowed, validity_length};
@@ -69,11 +70,11 @@ fn packing(
     requires same { length valid ≡ length (wholes_of values.now) }
     requires few { length (wholes_of values.now) ≤ 2 ^ 32 }
     requires allowed { validity_allowed (Some valid) nullability ≡ true }
-    requires no_null { has_null ≡ false → list_all (λ bit. bit) valid ≡ true }
+    requires no_null { has_null ≡ false → valid ≡ replicate (length (wholes_of values.now)) true }
     ensures answer { Answers result (packing_of (ptype_of values.now) nullability (wholes_of values.now) valid) }
     ensures ctx { ctx.new ≡ ctx.old }
 {
-    let (width, wider) = best_width_of(ctx.alloc(), values, &valid)?;
+    let (width, wider) = best_width_of(ctx.alloc(), values, &valid, has_null)?;
     if width == values.ptype().bit_width() {
         return Ok(None);
     }
@@ -82,22 +83,42 @@ fn packing(
 }
 
 // The width of least cost, and whether some row is wider.
-fn best_width_of(alloc: Global, values: &Ints, valid: &Mask) -> VortexResult<(u32, bool)>
+fn best_width_of(
+    alloc: Global,
+    values: &Ints,
+    valid: &Mask,
+    has_null: bool,
+) -> VortexResult<(u32, bool)>
     requires held { IsTrue (list_all (lies_in (ptype_of values.now)) (wholes_of values.now)) }
     requires natural { list_any is_negative (wholes_of values.now) ≡ false }
     requires same { length valid.now ≡ length (wholes_of values.now) }
     requires few { length (wholes_of values.now) ≤ 2 ^ 32 }
+    requires no_null { has_null ≡ false → valid.now ≡ replicate (length (wholes_of values.now)) true }
     ensures width { OrMemory result (λ best. best.0 ≡ best_width_of (ptype_of values.now) (wholes_of values.now) valid.now) }
     ensures wider { OrMemory result (λ best. best.1 ≡ false → wide_rows best.0 (map (bits_in (ptype_of values.now)) (wholes_of values.now)) valid.now ≡ []) }
 {
-    let counts = values.bit_width_histogram(alloc, valid)?;
+    let counts = widths(alloc, values, valid, has_null)?;
     let width = best_width(counts.as_slice(), values.ptype());
     let wider = counts_above(counts.as_slice(), width);
     Ok((width, wider))
 }
 
-// Whether a histogram counts some row above a width.
-fn counts_above(counts: &[u64], width: u32) -> bool
+// How many rows have each number of digits, without a look at the bits where no row is null.
+fn widths(alloc: Global, values: &Ints, valid: &Mask, has_null: bool) -> VortexResult<Vec<u64>>
+    requires same { length valid.now ≡ length (wholes_of values.now) }
+    requires no_null { has_null ≡ false → valid.now ≡ replicate (length (wholes_of values.now)) true }
+    ensures total { OrMemory result (λ counts. sum counts.items ≡ length (wholes_of values.now)) }
+    ensures widths { OrMemory result (λ counts. IsHistogram (bits_of (ptype_of values.now)) (kept_rows 64 (map (bits_in (ptype_of values.now)) (wholes_of values.now)) valid.now) counts.items) }
+{
+    if has_null {
+        values.bit_width_histogram(alloc, valid)
+    } else {
+        values.bit_widths_of_all(alloc)
+    }
+}
+
+/// Whether a histogram counts some row above a width.
+pub(crate) fn counts_above(counts: &[u64], width: u32) -> bool
     requires { width < length counts.now }
     ensures { result ≡ list_any (λ count. not (count == 0)) (drop (width + 1) counts.now) }
 {

@@ -25,9 +25,9 @@ use vx_base::{Nullability, VortexResult};
 use vx_scheme::Split;
 use vx_values::{Ints, copy_validity};
 
-/// The bases and the differences of the rows of a plain column of integers.
+// The bases and the differences of the rows of a plain column of integers.
 #[tactic(auto, using(vx_model::proofs::PrimitiveLemmas::plain_roots))]
-pub(crate) fn delta_blocks(alloc: Global, array: &ArrayRef) -> VortexResult<(Ints, Ints)>
+fn delta_blocks(alloc: Global, array: &ArrayRef) -> VortexResult<(Ints, Ints)>
     requires plain { IsPlain array.now }
     requires integer { IsTrue (is_integer (tree_type array.now)) }
     ensures bases { OrMemory result (λ made. (ptype_of made.0 ≡ integer_of (tree_type array.now)) × (wholes_of made.0 ≡ bases (filled_rows (column_of array.now)))) }

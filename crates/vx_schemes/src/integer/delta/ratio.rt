@@ -1,7 +1,8 @@
 //! What differences from row to row are expected to gain.
 
-ghost use Rattle.std.specs.Prelude.{◌≡◌, ◌<◌, ◌≤◌, IsTrue, length};
+ghost use Rattle.std.specs.Prelude.{◌≡◌, ◌<◌, ◌≤◌, ◌^◌, ℕ, IsTrue, length};
 ghost use Rattle.vx_base.specs.Answers.{OrMemory};
+ghost use Rattle.vx_base.specs.Digits.{digits};
 ghost use Rattle.vx_base.specs.PlainType.{is_integer};
 ghost use Rattle.vx_model.specs.Column.{column_of};
 ghost use Rattle.vx_model.specs.Plain.{IsPlain};
@@ -9,13 +10,12 @@ ghost use Rattle.vx_model.specs.Rows.{rows};
 ghost use Rattle.vx_model.specs.TreeType.{tree_type};
 ghost use Rattle.vx_scheme.specs.Asked.{most_rows};
 ghost use Rattle.vx_scheme.specs.Resolved.{IsResolved};
-ghost use Rattle.vx_scheme.specs.declared.estimate.EstimateVerdict.TheVariants.{Ratio};
+ghost use Rattle.vx_scheme.specs.declared.estimate.EstimateVerdict.TheVariants.{Ratio, Skip};
 ghost use Rattle.vx_schemes.specs.Delta.Meaning.{delta_ratio, delta_verdict, delta_resolved};
 
-use super::blocks::delta_blocks;
-use super::spread::spread;
+use super::spread::spread_of_differences;
 use crate::thresholds::is_beaten;
-use crate::widths::digits;
+use crate::widths::{digits, greatest_of};
 use std::alloc::Global;
 use vx_array::ArrayRef;
 use vx_base::{Fraction, VortexResult};
@@ -53,8 +53,43 @@ fn verdict(min_ratio: Fraction, len: u64, bits: u32, span: u64) -> EstimateVerdi
     EstimateVerdict::Ratio(ratio)
 }
 
-/// The verdict on a plain column of integers. No differences are made where those of one digit would have no ratio above
-/// the threshold.
+// Whether differences of so many digits are skipped: their ratio isn't above the least one, or isn't above the threshold.
+fn is_skipped(
+    len: u64,
+    bits: u32,
+    width: u32,
+    min_ratio: Fraction,
+    threshold: Option<Fraction>,
+) -> bool
+    requires some { 0 < len }
+    requires few { len ≤ most_rows }
+    requires bits { bits ≤ 64 }
+    requires width { width ≤ 64 }
+    ensures { IsTrue result → (span : ℕ) → digits span ≡ width → IsResolved threshold (delta_verdict min_ratio len bits span) Skip }
+{
+    let ratio = ratio(len, bits, width);
+    is_beaten(ratio, Some(min_ratio)) || is_beaten(ratio, threshold)
+}
+
+// The greatest spread that isn't skipped by its digits, 0 where each is.
+fn most_spread(len: u64, bits: u32, min_ratio: Fraction, threshold: Option<Fraction>) -> u64
+    requires some { 0 < len }
+    requires few { len ≤ most_rows }
+    requires bits { bits ≤ 64 }
+    ensures { (span : ℕ) → result < span → span < 2 ^ 64 → IsResolved threshold (delta_verdict min_ratio len bits span) Skip }
+{
+    let mut width = 64;
+    while width > 0 {
+        if !is_skipped(len, bits, width, min_ratio, threshold) {
+            return greatest_of(width);
+        }
+        width -= 1;
+    }
+    0
+}
+
+/// The verdict on a plain column of integers. Its differences aren't looked at where any spread would be skipped, and else
+/// only until they lie too far apart.
 pub(crate) fn resolved(
     alloc: Global,
     array: &ArrayRef,
@@ -69,9 +104,12 @@ pub(crate) fn resolved(
 {
     let len = array.len();
     let bits = array.dtype().ptype().bit_width();
-    if is_beaten(ratio(len, bits, 1), threshold) {
+    let most = most_spread(len, bits, min_ratio, threshold);
+    if most == 0 {
         return Ok(EstimateVerdict::Skip);
     }
-    let (_, differences) = delta_blocks(alloc, array)?;
-    Ok(verdict(min_ratio, len, bits, spread(&differences)))
+    match spread_of_differences(alloc, array, most)? {
+        Some(span) => Ok(verdict(min_ratio, len, bits, span)),
+        None => Ok(EstimateVerdict::Skip),
+    }
 }

@@ -17,6 +17,7 @@ ghost use Rattle.vx_model.specs.WellFormed.{differences_type};
 ghost use Rattle.vx_schemes.specs.BitPacking.Tree.{has_negative};
 ghost use Rattle.vx_schemes.specs.FrameOfReference.Tree.{least_value, differences, packed_or_plain, for_made};
 
+use super::blocks::packed_at_once;
 use crate::integer::bit_packing::bit_packing_tree;
 use std::alloc::Global;
 use vx_array::ArrayRef;
@@ -40,9 +41,30 @@ pub(crate) fn frame_of_reference_tree(
     let Some(reference) = least else {
         return Ok(None);
     };
-    let differences = differences(ctx.alloc(), array, reference)?;
-    let encoded = packed_or_plain(differences, ctx)?;
+    let encoded = encoded_differences(array, reference, ctx)?;
     Ok(Some(framed(ctx.alloc(), encoded, array.dtype().ptype(), reference)?))
+}
+
+// The differences from a reference bit packed, or plain where bit packing makes nothing of them. Most are packed as they
+// are made; the others are a column first.
+fn encoded_differences(
+    array: &ArrayRef,
+    reference: i128,
+    ctx: &mut ExecutionCtx,
+) -> VortexResult<ArrayRef>
+    requires plain { IsPlain array.now }
+    requires integer { IsTrue (is_integer (tree_type array.now)) }
+    requires held { IsTrue (lies_in (integer_of (tree_type array.now)) reference) }
+    requires few { length (rows array.now) ≤ 2 ^ 32 }
+    ensures answer { Answers result (packed_or_plain (differences (column_of array.now) reference)) }
+    ensures ctx { ctx.new ≡ ctx.old }
+{
+    array.known();
+    if let Some(packed) = packed_at_once(ctx.alloc(), array, reference)? {
+        return Ok(packed);
+    }
+    let differences = differences(ctx.alloc(), array, reference)?;
+    packed_or_plain(differences, ctx)
 }
 
 // The differences bit packed, or as they are where bit packing makes nothing of them.

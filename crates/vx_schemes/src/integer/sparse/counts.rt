@@ -1,29 +1,51 @@
 //! How many rows of a column are null, how many aren't, and which value most of them have.
 
-ghost use Rattle.std.specs.Prelude.{◌≡◌, ◌<◌, ◌≤◌, ◌==◌, ◌*◌, IsTrue, None, Some, if◌then◌else◌, length, nat_lt, true};
+ghost use Rattle.std.specs.Prelude.{◌≡◌, ◌<◌, ◌≤◌, ◌==◌, ◌*◌, ◌&&◌, ◌||◌, IsTrue, None, Some, if◌then◌else◌, length, nat_le, nat_lt, true};
 ghost use Rattle.vx_base.specs.Answers.{Answers};
 ghost use Rattle.vx_base.specs.PlainType.{is_integer};
 ghost use Rattle.vx_model.specs.Rows.{rows};
 ghost use Rattle.vx_model.specs.TreeType.{tree_type};
 ghost use Rattle.vx_scheme.specs.Asked.{most_rows};
 ghost use Rattle.vx_scheme.specs.Bundle.{SameArray};
-ghost use Rattle.vx_stats.specs.Stats.{null_count, value_count, most_frequent};
+ghost use Rattle.vx_stats.specs.Stats.{null_count, value_count, average_run_length, most_frequent};
 
 use vx_base::{ExecutionCtx, VortexResult};
 use vx_scheme::ArrayAndStats;
 
-/// How many rows of a column are null, and how many aren't.
-pub(crate) fn counts_of(column: &mut ArrayAndStats) -> VortexResult<(u64, u64)>
+/// How many rows of a column are null, how many aren't, and how many of these a run has on average.
+#[derive(Clone, Copy)]
+pub(crate) struct Counts {
+    pub(crate) nulls: u64,
+    pub(crate) values: u64,
+    run_length: u32,
+}
+
+/// Those of a column.
+pub(crate) fn counts_of(column: &mut ArrayAndStats) -> VortexResult<Counts>
     requires integer { IsTrue (is_integer (tree_type column.old.array)) }
     requires few { length (rows column.old.array) ≤ most_rows }
-    ensures answer { Answers result (null_count (rows column.old.array), value_count (rows column.old.array)) }
+    ensures answer { Answers result (record { nulls = null_count (rows column.old.array); values = value_count (rows column.old.array); run_length = average_run_length (rows column.old.array) }) }
     ensures column { SameArray column.old column.new }
 {
     let summary = column.integer_summary()?;
-    Ok((
-        u64::from(summary.null_count()),
-        u64::from(summary.value_count()),
-    ))
+    Ok(Counts {
+        nulls: u64::from(summary.null_count()),
+        values: u64::from(summary.value_count()),
+        run_length: summary.average_run_length(),
+    })
+}
+
+impl Counts {
+    /// Whether the verdict on so many rows needs no vote: more than nine of ten are null, or the runs are too short for
+    /// a value in nine of ten valid rows. Such a value stands between the others, one of ten, and so leaves at most two
+    /// runs for each of them and one more: four values a run, where there are twenty.
+    pub(crate) fn need_no_vote(self, rows: u64) -> bool
+        requires rows { rows ≤ most_rows }
+        requires nulls { self.nulls ≤ rows }
+        ensures { result ≡ (nat_lt (9 * rows) (10 * self.nulls) || (nat_le 20 self.values && nat_lt self.run_length 4)) }
+    {
+        is_mostly_null(rows, self.nulls) || (self.values >= 20 && self.run_length < 4)
+    }
 }
 
 /// Whether more than nine of ten rows are null.

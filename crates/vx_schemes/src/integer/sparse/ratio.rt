@@ -36,7 +36,7 @@ fn verdict(rows: u64, nulls: u64, values: u64, often: u64) -> EstimateVerdict
 }
 
 /// The verdict on a column. It counts no distinct values: one that stands in nine of ten valid rows wins a vote among
-/// them, and where the winner stands in fewer, none does.
+/// them, and where the winner stands in fewer, none does. Nor do they vote where the nulls or the runs decide.
 pub(crate) fn judged(column: &mut ArrayAndStats) -> VortexResult<EstimateVerdict>
     requires integer { IsTrue (is_integer (tree_type column.old.array)) }
     requires few { length (rows column.old.array) ≤ most_rows }
@@ -44,7 +44,11 @@ pub(crate) fn judged(column: &mut ArrayAndStats) -> VortexResult<EstimateVerdict
     ensures column { SameArray column.old column.new }
 {
     let rows = column.array_len();
-    let (nulls, values) = counts_of(column)?;
-    let often = winner_count(column.array());
-    Ok(verdict(rows, nulls, values, often))
+    let counts = counts_of(column)?;
+    let often = if counts.need_no_vote(rows) {
+        0
+    } else {
+        winner_count(column.array())
+    };
+    Ok(verdict(rows, counts.nulls, counts.values, often))
 }

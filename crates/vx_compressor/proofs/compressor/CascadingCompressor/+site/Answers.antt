@@ -4,7 +4,7 @@ use Rattle.std.proofs.lemmas.Bool.{eqb-false}
 use Rattle.std.proofs.lemmas.Iterator.Adapters.{YieldsList-from_vec}
 use Rattle.std.proofs.lemmas.Iterator.Consumers.{YieldsList-turn}
 use Rattle.std.proofs.lemmas.List.{length_push}
-use Rattle.vx_base.specs.Answers.{Answers}
+use Rattle.vx_base.specs.Answers.{OrMemory}
 use Rattle.vx_base.specs.PlainType.{is_flat}
 use Rattle.vx_base.specs.TypeOf.{type_of}
 use Rattle.vx_model.specs.Column.{IsColumn, column_of}
@@ -18,17 +18,18 @@ use Rattle.vx_scheme.specs.Asked.{HasValue, IsSiteTree, FitParts}
 use Rattle.vx_scheme.specs.Contexts.{site_of, options_of}
 use Rattle.vx_scheme.specs.Meaning.{split_of}
 use Rattle.vx_scheme.specs.Names.{name_of}
+use Rattle.vx_scheme.specs.Resolved.{IsResolved}
 use Rattle.vx_scheme.specs.declared.estimate.DeferredEstimate.TheVariants.{Sample}
 use Rattle.vx_scheme.specs.declared.split.Split.TheVariants.{Kept, Finished, Parts}
-use Rattle.vx_compressor.specs.Cascade.{setting, part_trees, eligible, trial, deferred_score, choice, chosen, children_of, leaf_tree}
+use Rattle.vx_compressor.specs.Cascade.{setting, part_trees, eligible, trial, verdict_score, deferred_score, choice, chosen, children_of, leaf_tree}
 use Rattle.vx_compressor.specs.Choice.{best_of}
-use Rattle.vx_compressor.specs.Judging.{Holds, IsAskable, IsReady, WasPutOff, found, meant, meant_pair}
+use Rattle.vx_compressor.specs.Judging.{Holds, IsAskable, IsReady, WasPutOff, DoesFor, found, meant, meant_pair}
 use Rattle.vx_compressor.specs.Reach.{IsInReach, IsPartInReach}
 use Rattle.vx_compressor.specs.Sampling.{sample}
 use Rattle.vx_compressor.proofs.ByValueLemmas.{decided-here, open-here}
 use Rattle.vx_compressor.proofs.EligibleLemmas.{merged_ready, choice_ready, chosen-some, put_off_ready, were_put_off}
 use Rattle.vx_compressor.proofs.HeldLemmas.{column_of-is, plain-is, column-held, site_tree-held, ready-held, answers_to}
-use Rattle.vx_compressor.proofs.JudgingLemmas.{best_found-step, best_found-always, choice_later, choice_at_once}
+use Rattle.vx_compressor.proofs.JudgingLemmas.{does-resolved, does-answers, best_found-step, best_found-always, choice_later, choice_at_once}
 use Rattle.vx_compressor.proofs.LimitLemmas.{few_in_reach}
 use Rattle.vx_compressor.proofs.OneValueTrees.{answers_along}
 use Rattle.vx_compressor.proofs.SampleSizes.{sample-column, site_tree-sampled, ready-sampled, reach-sampled, size-sampled, score-sampled}
@@ -178,7 +179,8 @@ judge-returns-then-is_always-clause-answer g t c =
     let child = children_of (setting meaning c.args.self.now words) site in
     let same = column-held l.column here (options_of c.args.site.now) l.invariant.holds in
     let p = c.loop-scheme-item.result in
-    let answer : c.in_ok-score.score ≡ deferred_score child words (meaning p.0) here site p.1 = c.in_ok-score.ensures.answer ∙ ap (λ col. deferred_score child words (meaning p.0) col site p.1) same in
+    let answer : DoesFor l.best p.0 (deferred_score child words (meaning p.0) here site p.1) c.in_ok-score.score =
+    subst (λ col. DoesFor l.best p.0 (deferred_score child words (meaning p.0) col site p.1) c.in_ok-score.score) same c.in_ok-score.ensures.answer in
     sym (best_found-always meaning child words here site c.better-best.result (drop (l.scheme-index + 1) xs) (sym c.is_always.ensures ∙ c.if-is_always.true))
     ∙ best_found-step meaning child words here site l.best c.better-best.result xs l.scheme-index c.loop-scheme-item.result c.in_ok-score.score c.loop-scheme-test.true c.loop-scheme-item.is answer c.better-best.ensures
     ∙ l.invariant.best
@@ -212,7 +214,8 @@ judge-loop-scheme-preserved g t c =
     let child = children_of (setting meaning c.args.self.now words) site in
     let same = column-held l.column here (options_of c.args.site.now) l.invariant.holds in
     let p = c.loop-scheme-item.result in
-    let answer : c.in_ok-score.score ≡ deferred_score child words (meaning p.0) here site p.1 = c.in_ok-score.ensures.answer ∙ ap (λ col. deferred_score child words (meaning p.0) col site p.1) same in
+    let answer : DoesFor l.best p.0 (deferred_score child words (meaning p.0) here site p.1) c.in_ok-score.score =
+    subst (λ col. DoesFor l.best p.0 (deferred_score child words (meaning p.0) col site p.1) c.in_ok-score.score) same c.in_ok-score.ensures.answer in
     record {
       holds = subst (λ col. Holds c.deferred_score.new.column col (options_of c.args.site.now)) same c.in_ok-score.ensures.holds;
       same_ctx = c.in_ok-score.ensures.ctx ∙ l.invariant.same_ctx;
@@ -229,8 +232,19 @@ deferred_score-returns-in-Sample-clause-answer g t c =
     let words = c.args.words.now in
     let child = children_of (setting g.S.Scheme.meaning c.args.self.now words) site in
     let same = ap column_of c.array.ensures.array in
-    subst (λ how. Answers c.sample_score.result (deferred_score child words m here site how)) (sym c.in-Sample.is)
-    (answers_to c.sample_score.result (λ col. deferred_score child words m col site Sample) _ _ same c.sample_score.ensures.answer)
+    subst (λ how. OrMemory c.sample_score.result (DoesFor c.args.best c.args.scheme.now (deferred_score child words m here site how))) (sym c.in-Sample.is)
+    (does-answers c.args.best c.args.scheme.now c.sample_score.result _ (answers_to c.sample_score.result (λ col. deferred_score child words m col site Sample) _ _ same c.sample_score.ensures.answer))
+
+pub deferred_score-returns-in_ok-verdict-in-Callback-clause-answer : goal.deferred_score-returns-in_ok-verdict-in-Callback-clause-answer
+deferred_score-returns-in_ok-verdict-in-Callback-clause-answer g t c =
+    let m = g.S.Scheme.meaning c.args.scheme.now in
+    let here = column_of c.args.column.now.array in
+    let site = site_of c.args.site.now in
+    let words = c.args.words.now in
+    let child = children_of (setting g.S.Scheme.meaning c.args.self.now words) site in
+    let verdict = subst (λ t. IsResolved t (m.resolve here site) c.in_ok-verdict-in-Callback.verdict) c.threshold.ensures c.in_ok-verdict-in-Callback.ensures.answer in
+    subst (λ how. DoesFor c.args.best c.args.scheme.now (deferred_score child words m here site how) c.verdict_score.result) (sym c.in-Callback.is)
+    (subst (DoesFor c.args.best c.args.scheme.now (verdict_score (m.resolve here site))) (sym c.verdict_score.ensures) (does-resolved c.args.best c.args.scheme.now (m.resolve here site) c.in_ok-verdict-in-Callback.verdict verdict))
 
 -- ---- sample_score
 

@@ -5,7 +5,7 @@ use Rattle.vx_model.specs.WellFormed.{WellFormed}
 use Rattle.vx_values.specs.IntsOf.{ptype_of, wholes_of}
 use Rattle.vx_schemes.specs.BitPacking.Tree.{packing_of}
 use Rattle.vx_schemes.proofs.ColumnLemmas.{length_is}
-use Rattle.vx_schemes.proofs.BitPacking.Tree.{packing-made, length-all_bits, all_bits-allowed, all_bits-true, wholes-natural}
+use Rattle.vx_schemes.proofs.BitPacking.Tree.{packing-made, length-all_bits, all_bits-allowed, all_bits-none, wholes-natural}
 use Rattle.vx_schemes.proofs.integer.bit_packing.tree.bit_packing_tree.Goals as goal
 
 pub packing-requires : goal.packing-requires
@@ -26,7 +26,7 @@ packing-requires c =
       same = rw bits (length-all_bits t p xs valid n well at c.requires.plain);
       few = omega (arith, long, c.requires.few);
       allowed = rw bits (all_bits-allowed t p xs valid n well at c.requires.plain);
-      no_null = λ none. rw bits (all_bits-true valid (length xs) (sym c.is_some-has_null.ensures ∙ none));
+      no_null = λ none. bits ∙ all_bits-none valid (length xs) (sym c.is_some-has_null.ensures ∙ none);
     }
 
 pub returns-clause-answer : goal.returns-clause-answer

@@ -1,4 +1,4 @@
-use Rattle.std.proofs.Common.{◌≡◌, ◌≤◌, ◌^◌, ◌∙◌, length, Some, false, rules, sym, ap, subst, to_z, of_z}
+use Rattle.std.proofs.Common.{◌≡◌, ◌∙◌, Some, rules, sym, ap, to_z, of_z}
 use Rattle.std.specs.Prelude.{FitsSigned, option_map}
 use Rattle.std.specs.Int.{w128}
 use Rattle.std.proofs.lemmas.Int.{to_z-of_z}
@@ -8,33 +8,17 @@ use Rattle.vx_base.specs.PlainType.{integer_of}
 use Rattle.vx_base.specs.PlainType as types
 use Rattle.vx_base.specs.PlainValue.{int}
 use Rattle.vx_model.specs.Column.{column_of}
-use Rattle.vx_model.specs.Plain.{IsPlain}
-use Rattle.vx_model.specs.Rows.{rows}
 use Rattle.vx_model.specs.Tree.{frame_of_reference}
 use Rattle.vx_model.specs.TreeType.{tree_type}
 use Rattle.vx_model.specs.WellFormed.{differences_type}
-use Rattle.vx_model.proofs.MadeLemmas.{rows_fit}
-use Rattle.vx_model.proofs.PlainLemmas.{plain_is_plain}
-use Rattle.vx_schemes.specs.BitPacking.Tree.{has_negative}
 use Rattle.vx_schemes.specs.FrameOfReference.Tree.{framed, differences, packed_or_plain}
-use Rattle.vx_schemes.proofs.FrameOfReference.Framed.{encoded-is, least-in, less-column, plain-few, plain-natural, less-typed}
+use Rattle.vx_schemes.proofs.FrameOfReference.Framed.{least-in, less-typed}
 use Rattle.vx_schemes.proofs.integer.frame_of_reference.tree.frame_of_reference_tree.Goals as goal
 
-pub differences-requires-clause-held : goal.differences-requires-clause-held
-differences-requires-clause-held c =
+pub encoded_differences-requires-clause-held : goal.encoded_differences-requires-clause-held
+encoded_differences-requires-clause-held c =
     let fits : FitsSigned w128 c.in-Some.reference = search rules in
     rw (to_z-of_z w128 c.in-Some.reference fits) (least-in c.args.array.now c.in-Some.reference c.requires.integer c.known.ensures (sym c.requires.least ∙ c.in-Some.is))
-
-pub packed_or_plain-requires-clause-plain : goal.packed_or_plain-requires-clause-plain
-packed_or_plain-requires-clause-plain c = subst IsPlain (sym c.in_ok-differences.ensures) (plain_is_plain (differences (column_of c.args.array.now) (to_z w128 (of_z w128 c.in-Some.reference))) (less-column c.args.array.now (to_z w128 (of_z w128 c.in-Some.reference)) c.requires.integer c.known.ensures))
-
-pub packed_or_plain-requires-clause-natural : goal.packed_or_plain-requires-clause-natural
-packed_or_plain-requires-clause-natural c =
-    subst (λ d. has_negative (column_of d) ≡ false) (sym c.in_ok-differences.ensures) (plain-natural c.args.array.now (to_z w128 (of_z w128 c.in-Some.reference)) c.requires.integer c.known.ensures)
-
-pub packed_or_plain-requires-clause-few : goal.packed_or_plain-requires-clause-few
-packed_or_plain-requires-clause-few c =
-    subst (λ d. length (rows d) ≤ 2 ^ 32) (sym c.in_ok-differences.ensures) (plain-few c.args.array.now (to_z w128 (of_z w128 c.in-Some.reference)) c.requires.integer c.known.ensures c.requires.few)
 
 pub framed-requires-clause-held : goal.framed-requires-clause-held
 framed-requires-clause-held c =
@@ -48,7 +32,7 @@ framed-requires-clause-of_type c =
     let t = c.args.array.now in
     let z = to_z w128 (of_z w128 c.in-Some.reference) in
     let ptype : c.ptype.result ≡ integer_of (tree_type t) = c.ptype.ensures ∙ ap integer_of c.dtype.ensures in
-    let encoded : c.in_ok-encoded.encoded ≡ packed_or_plain (differences (column_of t) z) = encoded-is (column_of t) z _ _ c.requires.integer (rows_fit t c.known.ensures) c.in_ok-differences.ensures c.in_ok-encoded.ensures.answer in
+    let encoded : c.in_ok-encoded.encoded ≡ packed_or_plain (differences (column_of t) z) = c.in_ok-encoded.ensures.answer in
     ap tree_type encoded ∙ less-typed t z c.requires.integer c.known.ensures c.requires.few ∙ (λ i. differences_type (types.primitive (sym ptype i) NonNullable) (tree_type (sym encoded i)))
 
 pub returns-clause-answer : goal.returns-clause-answer
@@ -57,6 +41,6 @@ returns-clause-answer c =
     let z = to_z w128 (of_z w128 c.in-Some.reference) in
     let fits : FitsSigned w128 c.in-Some.reference = search rules in
     let ptype : c.ptype.result ≡ integer_of (tree_type t) = c.ptype.ensures ∙ ap integer_of c.dtype.ensures in
-    let encoded : c.in_ok-encoded.encoded ≡ packed_or_plain (differences (column_of t) z) = encoded-is (column_of t) z _ _ c.requires.integer (rows_fit t c.known.ensures) c.in_ok-differences.ensures c.in_ok-encoded.ensures.answer in
+    let encoded : c.in_ok-encoded.encoded ≡ packed_or_plain (differences (column_of t) z) = c.in_ok-encoded.ensures.answer in
     ap Some (c.in_ok-framed.ensures ∙ (λ i. frame_of_reference (encoded i) (scalar (types.primitive (ptype i) NonNullable) (int z))))
     ∙ ap (λ x. Some (framed (column_of t) x)) (to_z-of_z w128 c.in-Some.reference fits) ∙ ap (option_map (framed (column_of t))) (sym c.in-Some.is ∙ c.requires.least)

@@ -5,7 +5,7 @@ use Rattle.vx_model.specs.Column.{column_of}
 use Rattle.vx_model.specs.Plain.{plain}
 use Rattle.vx_model.specs.Rows.{rows}
 use Rattle.vx_model.specs.WellFormed.{ascend}
-use Rattle.vx_schemes.specs.BitPacking.Rising.{ascend-lower}
+use Rattle.vx_encode.proofs.RisingLemmas.{ascend-lower}
 use Rattle.vx_schemes.specs.Narrowed.{number_rows, narrowed_numbers}
 use Rattle.vx_schemes.specs.RowsAt.{rows_at}
 use Rattle.vx_schemes.specs.RunEnd.Laws.{lasts-within, ends-rise}

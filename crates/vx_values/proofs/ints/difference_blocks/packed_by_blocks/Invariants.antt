@@ -1,0 +1,15 @@
+use Rattle.std.proofs.Common.{◌≡◌, ◌*◌, length, map, min, replicate, take, true}
+use Rattle.std.specs.Prelude.{unwrap_or}
+use Rattle.vx_base.specs.Packed.{kept_rows}
+use Rattle.vx_blocks.specs.IsPacked.{IsPacked}
+use Rattle.vx_values.specs.Differences.{difference_bits}
+use Rattle.vx_values.proofs.ints.difference_blocks.packed_by_blocks.Given as goal
+
+abbrev pub invariant-loop-block : goal.invariant-loop-block
+invariant-loop-block g l =
+    let bits = difference_bits g.T.Integer.kind (g.T.Integer.whole l.reference) (map g.T.Integer.whole l.items) in
+    let rows = kept_rows l.width bits (unwrap_or l.valid (replicate (length (map g.T.Integer.whole l.items)) true)) in
+    record {
+      packed : IsPacked l.width (take (min (1024 * l.block) (length l.items)) rows) l.packed.items;
+      room : length l.buffer.items ≡ 1024;
+    }
