@@ -2,13 +2,17 @@
 use Rattle.std.proofs.Common.{◌≡◌, ◌≢◌, ℕ, zero, suc, ◌+◌, ◌-◌, ◌*◌, ◌%◌, ◌<◌, ◌≤◌, ℤ, pos, ◌-ℤ◌, Bool, true, false, cond, List, [], ◌∷◌, ◌++◌, length, map, get_or, take, replicate, refl, sym, ap, ◌∙◌, arith, add-one}
 use Rattle.std.specs.Prelude.{◌==◌, nat_le, ◌||◌, Option, Some, None}
 use Rattle.std.specs.List.{range_with_len}
-use Rattle.std.proofs.lemmas.Bool.{eq-eqb, ne_eqb}
+use Rattle.std.proofs.lemmas.Bool.{eq-eqb, ne_eqb, lt-ltb}
 use Rattle.std.proofs.lemmas.Bool.Decides.{nat_tests}
+use Rattle.std.proofs.lemmas.Int.{ints}
+use Rattle.std.proofs.lemmas.Nat.{pow_pos}
 use Rattle.std.proofs.lemmas.List.{length-map}
 use Rattle.std.proofs.lemmas.List.FromFn.{length-map-range_with_len}
 use Rattle.vx_base.specs.declared.ptype.PType.{PType}
+use Rattle.vx_base.specs.Integers.{natural_bits, lies_in}
 use Rattle.vx_base.specs.Packed.{block_count}
 use Rattle.vx_base.specs.Wrapping.{wrap}
+use Rattle.vx_base.proofs.WrapLemmas.{wrap-same}
 use Rattle.vx_blocks.specs.Deltas.{filled_after, filled, bases, delta, deltas}
 use Rattle.vx_blocks.specs.Optional.{optional_row}
 use Rattle.vx_blocks.proofs.Ranges.{resized}
@@ -43,14 +47,31 @@ pub filled-item : (rows : List (Option ℤ)) (i : ℕ) (valid : Bool) (z last it
     → item ≡ get_or (filled rows) i (pos 0)
 filled-item rows i valid z last item h is so_far made = made ∙ sym (or_last-row valid z last) ∙ (λ k. or_last (is k) (so_far k)) ∙ sym (filled-row (pos 0) rows i h)
 
+-- a row that is valid
+pub filled-valid : (rows : List (Option ℤ)) (i : ℕ) (valid : Bool) (z : ℤ) → i < length rows → valid ≡ true → optional_row z valid ≡ get_or rows i None → z ≡ get_or (filled rows) i (pos 0)
+filled-valid rows i valid z h all is = filled-item rows i valid z (before (pos 0) (filled rows) i) z h is refl (sym (ap (λ b. cond b z (before (pos 0) (filled rows) i)) all))
+
 pub before-next : (last : ℤ) (rows : List ℤ) (i : ℕ) → before last rows (i + 1) ≡ get_or rows i (pos 0)
 before-next last rows i = ap (before last rows) (add-one i)
 
-module _ (kind : PType) (rows : List ℤ) where
-  before-at : (i : ℕ) → i % 1024 ≢ 0 → before (pos 0) rows i ≡ get_or rows (i - 1) (pos 0)
-  before-at zero h = absurd (h refl)
-  before-at (suc i) h = let same : i ≡ suc i - 1 = omega arith in ap (λ k. get_or rows k (pos 0)) same
+before-at : (rows : List ℤ) (i : ℕ) → i % 1024 ≢ 0 → before (pos 0) rows i ≡ get_or rows (i - 1) (pos 0)
+before-at rows zero h = absurd (h refl)
+before-at rows (suc i) h = let same : i ≡ suc i - 1 = omega arith in ap (λ k. get_or rows k (pos 0)) same
 
+-- a row that is made of its item and the row before it, the first row of a block of itself
+pub filled-from : (rows : List (Option ℤ)) (i : ℕ) (valid : Bool) (z last item : ℤ) → i < length rows → optional_row z valid ≡ get_or rows i None
+    → (i % 1024 ≡ 0 → last ≡ get_or (filled rows) i (pos 0)) → (i % 1024 ≢ 0 → last ≡ get_or (filled rows) (i - 1) (pos 0)) → item ≡ cond valid z last → item ≡ get_or (filled rows) i (pos 0)
+filled-from rows i true z last item h is first other made = made ∙ filled-valid rows i true z h refl is
+filled-from rows i false z last item h is first other made = by_test (i % 1024 == 0) refl
+  where
+    by_test : (b : Bool) → (i % 1024 == 0) ≡ b → item ≡ get_or (filled rows) i (pos 0)
+    by_test true test = let at : i % 1024 ≡ 0 = grind (arith, nat_tests) in made ∙ first at
+    by_test false test = let at : i % 1024 ≢ 0 = grind (arith, nat_tests) in filled-item rows i false z last item h is (other at ∙ sym (before-at (filled rows) i at)) made
+
+pub zero-held : (kind : PType) → lies_in kind (pos 0) ≡ true
+zero-held kind = lt-ltb _ _ (pow_pos (natural_bits kind))
+
+module _ (kind : PType) (rows : List ℤ) where
   -- the delta that a loop makes of a row, at a block's first and at another
   pub delta-first : (i : ℕ) → i % 1024 ≡ 0 → pos 0 ≡ delta kind rows i
   delta-first i first = rw (eq-eqb (i % 1024) 0 first) refl
@@ -58,8 +79,21 @@ module _ (kind : PType) (rows : List ℤ) where
   pub delta-next : (i : ℕ) (item last made : ℤ) → i < length rows → i % 1024 ≢ 0 → item ≡ get_or rows i (pos 0) → last ≡ before (pos 0) rows i → made ≡ wrap kind (item -ℤ last) → made ≡ delta kind rows i
   delta-next i item last made h other is so_far e =
       let within : nat_le (length rows) i ≡ false = grind (arith, nat_tests) in
-      let more = before-at i other in
+      let more = before-at rows i other in
       e ∙ rw (ne_eqb (i % 1024) 0 other, within) (λ k. wrap kind (is k -ℤ (so_far ∙ more) k))
+
+  -- the same where the first row of a block is taken from itself
+  pub delta-from : (i : ℕ) (item last made : ℤ) → i < length rows → (i % 1024 ≡ 0 → last ≡ get_or rows i (pos 0)) → (i % 1024 ≢ 0 → last ≡ get_or rows (i - 1) (pos 0)) → item ≡ get_or rows i (pos 0) → made ≡ wrap kind (item -ℤ last)
+      → made ≡ delta kind rows i
+  delta-from i item last made h first other is e = by_test (i % 1024 == 0) refl
+    where
+      by_test : (b : Bool) → (i % 1024 == 0) ≡ b → made ≡ delta kind rows i
+      by_test true test =
+          let at : i % 1024 ≡ 0 = grind (arith, nat_tests) in
+          let row = first at in
+          let none : item -ℤ last ≡ pos 0 = omega (arith, ints, is, row) in
+          e ∙ ap (wrap kind) none ∙ wrap-same kind (pos 0) (zero-held kind) ∙ delta-first i at
+      by_test false test = let at : i % 1024 ≢ 0 = grind (arith, nat_tests) in delta-next i item last made h at is (other at ∙ sym (before-at rows i at)) e
 
   -- no row is left
   delta-none : (i : ℕ) → length rows ≤ i → delta kind rows i ≡ pos 0

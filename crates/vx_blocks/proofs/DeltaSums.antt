@@ -1,7 +1,8 @@
 -- Rows that come back from bases and deltas, one after another.
 use Rattle.std.proofs.Common.{◌≡◌, ◌≢◌, ℕ, ◌+◌, ◌-◌, ◌*◌, ◌/◌, ◌%◌, ◌<◌, ◌≤◌, ℤ, pos, ◌+ℤ◌, true, List, [], ◌∷◌, ◌++◌, length, get_or, take, drop, sym, ap, ◌∙◌, arith, length-drop}
 use Rattle.std.proofs.lemmas.Int.{ints}
-use Rattle.std.proofs.lemmas.List.{take_more, take-take, get_or-drop}
+use Rattle.std.proofs.lemmas.List.{take_more, take-take, drop-drop, get_or-drop}
+use Rattle.std.proofs.Math.Seq.{take-add}
 use Rattle.vx_base.specs.declared.ptype.PType.{PType}
 use Rattle.vx_base.specs.Integers.{lies_in}
 use Rattle.vx_base.specs.Masks.{rows_between}
@@ -40,15 +41,54 @@ sums-next kind base deltas k last delta made h so_far is e =
     let same : (base +ℤ total (take k deltas)) +ℤ row ≡ base +ℤ total (take (k + 1) deltas) = omega (arith, ints, more) in
     e ∙ (λ i. wrap kind (so_far i +ℤ is i)) ∙ wrap-sum_left kind (base +ℤ total (take k deltas)) row ∙ ap (wrap kind) same
 
--- a block's rows are those of the column
-pub sums-in_block : (kind : PType) (bases deltas part : List ℤ) (base : ℤ) (block k : ℕ) → k < 1024 → base ≡ get_or bases block (pos 0) → part ≡ take 1024 (drop (1024 * block) deltas) → sums kind base part (k + 1) ≡ undelta_row kind bases deltas (1024 * block + k)
-sums-in_block kind bases deltas part base block k h is are =
-    let same : block ≡ (1024 * block + k) / 1024 = omega arith in
-    let count : k + 1 ≡ 1024 * block + k + 1 - 1024 * block = omega arith in
-    let rows : take (k + 1) part ≡ rows_between deltas (1024 * block) (1024 * block + k + 1) =
-    ap (take (k + 1)) are ∙ take-take (k + 1) 1024 (drop (1024 * block) deltas) (omega arith) ∙ ap (λ n. take n (drop (1024 * block) deltas)) count
-    in
-    (λ i. wrap kind (is i +ℤ total (rows i))) ∙ (λ i. wrap kind (get_or bases (same i) (pos 0) +ℤ total (rows_between deltas (1024 * same i) (1024 * block + k + 1))))
+-- ---- a part of a block's rows, behind the rows of the block before it
+
+total-append : (xs ys : List ℤ) → total (xs ++ ys) ≡ total xs +ℤ total ys
+total-append [] ys = omega (arith, ints)
+total-append (x ∷ xs) ys = let ih = total-append xs ys in omega (arith, ints, ih)
+
+total-parts : (zs : List ℤ) (start at n : ℕ) → start ≤ at → total (rows_between zs start (at + n)) ≡ total (rows_between zs start at) +ℤ total (take n (drop at zs))
+total-parts zs start at n first =
+    let size : at + n - start ≡ at - start + n = omega arith in
+    let place : start + (at - start) ≡ at = omega arith in
+    ap (λ m. total (take m (drop start zs))) size ∙ ap total (take-add (at - start) n (drop start zs)) ∙ total-append (rows_between zs start at) (take n (drop (at - start) (drop start zs)))
+    ∙ ap (λ ys. total (rows_between zs start at) +ℤ total (take n ys)) (drop-drop (at - start) start zs ∙ ap (λ m. drop m zs) place)
+
+-- a number that sums go on from as they do from a block's base and its deltas before a row
+abbrev pub GoesOn : PType → List ℤ → List ℤ → ℕ → ℕ → ℤ → Type 0
+GoesOn kind bases deltas block at last = (z : ℤ) → wrap kind (last +ℤ z) ≡ wrap kind ((get_or bases block (pos 0) +ℤ total (rows_between deltas (1024 * block) at)) +ℤ z)
+
+module _ (kind : PType) (bases deltas : List ℤ) (block : ℕ) where
+  pub goes_on-base : (last : ℤ) → last ≡ get_or bases block (pos 0) → GoesOn kind bases deltas block (1024 * block) last
+  goes_on-base last is z =
+      let none : 1024 * block - 1024 * block ≡ 0 = omega arith in
+      let some : total (rows_between deltas (1024 * block) (1024 * block)) ≡ pos 0 = ap (λ n. total (take n (drop (1024 * block) deltas))) none in
+      let same : last +ℤ z ≡ (get_or bases block (pos 0) +ℤ total (rows_between deltas (1024 * block) (1024 * block))) +ℤ z = omega (arith, ints, is, some) in
+      ap (wrap kind) same
+
+  module _ (at n : ℕ) (last : ℤ) (part : List ℤ) (first : 1024 * block ≤ at) (are : part ≡ take n (drop at deltas)) (so_far : GoesOn kind bases deltas block at last) where
+    pub goes_on-part : (next : ℤ) → next ≡ wrap kind (last +ℤ total part) → GoesOn kind bases deltas block (at + n) next
+    goes_on-part next is z =
+        let base = get_or bases block (pos 0) in
+        let before = total (rows_between deltas (1024 * block) at) in
+        let sum = ap total are in
+        let parts = total-parts deltas (1024 * block) at n first in
+        let moved : (last +ℤ total part) +ℤ z ≡ last +ℤ (total part +ℤ z) = omega (arith, ints) in
+        let same : (base +ℤ before) +ℤ (total part +ℤ z) ≡ (base +ℤ total (rows_between deltas (1024 * block) (at + n))) +ℤ z = omega (arith, ints, sum, parts) in
+        ap (λ y. wrap kind (y +ℤ z)) is ∙ wrap-sum_left kind (last +ℤ total part) z ∙ ap (wrap kind) moved ∙ so_far (total part +ℤ z) ∙ ap (wrap kind) same
+
+    -- its rows are those of the column
+    pub sums-in_part : (k : ℕ) → k < n → at + n ≤ 1024 * (block + 1) → sums kind last part (k + 1) ≡ undelta_row kind bases deltas (at + k)
+    sums-in_part k h end =
+        let number : block ≡ (at + k) / 1024 = omega arith in
+        let place : at + (k + 1) ≡ at + k + 1 = omega arith in
+        let base = get_or bases block (pos 0) in
+        let before = total (rows_between deltas (1024 * block) at) in
+        let rows : take (k + 1) part ≡ take (k + 1) (drop at deltas) = ap (take (k + 1)) are ∙ take-take (k + 1) n (drop at deltas) (omega arith) in
+        let sum = ap total rows in
+        let parts = total-parts deltas (1024 * block) at (k + 1) first ∙ ap (λ t. before +ℤ t) (sym sum) in
+        let same : (base +ℤ before) +ℤ total (take (k + 1) part) ≡ base +ℤ total (rows_between deltas (1024 * block) (at + (k + 1))) = omega (arith, ints, parts) in
+        so_far (total (take (k + 1) part)) ∙ ap (wrap kind) same ∙ (λ i. wrap kind (get_or bases (number i) (pos 0) +ℤ total (rows_between deltas (1024 * number i) (place i))))
 
 -- ---- a row of the column, by the row before it
 

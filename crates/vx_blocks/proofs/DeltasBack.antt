@@ -1,13 +1,11 @@
 -- What comes back from bases and deltas.
 use Rattle.std.proofs.Common.{◌≡◌, ◌≢◌, ℕ, zero, suc, ◌-◌, ◌*◌, ◌/◌, ◌%◌, ◌<◌, ℤ, pos, ◌+ℤ◌, ◌-ℤ◌, Bool, true, false, List, [], ◌∷◌, length, get_or, refl, sym, ap, ◌∙◌, arith}
 use Rattle.std.specs.Prelude.{◌==◌, nat_le, Some, None}
-use Rattle.std.proofs.lemmas.Bool.{lt-ltb}
 use Rattle.std.proofs.lemmas.Bool.Decides.{nat_tests}
 use Rattle.std.proofs.lemmas.Int.{ints}
-use Rattle.std.proofs.lemmas.Nat.{pow_pos}
 use Rattle.std.proofs.lemmas.List.FromFn.{length-map-range_with_len, get_or-map-range_with_len}
 use Rattle.vx_base.specs.declared.ptype.PType.{PType}
-use Rattle.vx_base.specs.Integers.{natural_bits, lies_in}
+use Rattle.vx_base.specs.Integers.{lies_in}
 use Rattle.vx_base.specs.Packed.{block_count}
 use Rattle.vx_base.specs.Wrapping.{wrap}
 use Rattle.vx_base.proofs.WrapLemmas.{wrap-same}
@@ -15,7 +13,7 @@ use Rattle.vx_base.specs.Undelta.{undelta_row}
 use Rattle.vx_blocks.specs.Deltas.{filled_after, filled, bases, delta, deltas}
 use Rattle.vx_blocks.specs.GivesBack.{GivesBackDeltas}
 use Rattle.vx_blocks.specs.Optional.{optional_row, optional_rows}
-use Rattle.vx_blocks.proofs.DeltaRows.{length-filled_after, filled-row}
+use Rattle.vx_blocks.proofs.DeltaRows.{length-filled_after, filled-row, zero-held}
 use Rattle.vx_blocks.proofs.OptionalRows.{length-optional_rows, optional_rows-get}
 use Rattle.vx_blocks.proofs.DeltaSums.{undelta-first, undelta-next}
 use Rattle.vx_blocks.proofs.WrapsAgain.{wrap-sum_right}
@@ -23,13 +21,10 @@ use Rattle.vx_blocks.proofs.WrapsAgain.{wrap-sum_right}
 module _ (kind : PType) where
   -- ---- filled rows lie in the type
 
-  zero-held : lies_in kind (pos 0) ≡ true
-  zero-held = lt-ltb _ _ (pow_pos (natural_bits kind))
-
   optional-held : (zs : List ℤ) (valid : List Bool) (last : ℤ) → ((k : ℕ) → k < length zs → lies_in kind (get_or zs k (pos 0)) ≡ true) → lies_in kind last ≡ true
       → (i : ℕ) → lies_in kind (get_or (filled_after last (optional_rows zs valid)) i (pos 0)) ≡ true
-  optional-held [] valid last each h i = zero-held
-  optional-held (z ∷ zs) [] last each h i = zero-held
+  optional-held [] valid last each h i = zero-held kind
+  optional-held (z ∷ zs) [] last each h i = zero-held kind
   optional-held (z ∷ zs) (true ∷ valid) last each h zero = each 0 (omega arith)
   optional-held (z ∷ zs) (true ∷ valid) last each h (suc i) = optional-held zs valid z (λ k below. each (suc k) (omega arith)) (each 0 (omega arith)) i
   optional-held (z ∷ zs) (false ∷ valid) last each h zero = h

@@ -16,5 +16,6 @@ pub mod RunEnds
 pub mod WrapsAgain
 pub mod DeltaSums
 pub mod DeltaRows
+pub mod DeltaParts
 pub mod DeltasBack
 pub mod HeadsOfRuns

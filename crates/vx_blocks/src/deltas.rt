@@ -1,12 +1,15 @@
 //! Differences from row to row, in blocks of 1,024 rows.
 
-ghost use Rattle.std.specs.Prelude.{◌≡◌, ◌<◌, ◌≤◌, ◌+◌, ◌*◌, ◌%◌, ◌-ℤ◌, ◌∷◌, ℕ, pos, if◌then◌else◌, length, map, slice_index_or};
+ghost use Rattle.std.specs.Prelude.{◌≡◌, ◌≢◌, ◌<◌, ◌≤◌, ◌+◌, ◌-◌, ◌*◌, ◌%◌, ◌-ℤ◌, ◌∷◌, ℕ, pos, if◌then◌else◌, length, map, slice_index_or, IfOk, IsTrue, false};
+ghost use Rattle.std.specs.Bool.{OnTrue};
+ghost use Rattle.std.specs.List.{range_with_len};
 ghost use Rattle.vx_base.specs.Answers.{OrMemory};
 ghost use Rattle.vx_base.specs.Wrapping.{wrap};
 ghost use Rattle.vx_blocks.specs.Deltas.{bases, delta, deltas, filled};
 ghost use Rattle.vx_blocks.specs.Optional.{optional_rows};
 
-use std::alloc::Global;
+use crate::parts::rows_at_once;
+use std::alloc::{AllocError, Global};
 use vx_base::{Integer, Mask, VortexError, VortexResult};
 
 // The difference of an integer from another, wrapped into their type.
@@ -26,34 +29,88 @@ fn item_or<T: Integer>(valid: bool, item: T, last: T) -> T
     if valid { item } else { last }
 }
 
-// Writes the deltas of a block's rows, from `start` on. Gives its base, and the last of its rows.
+// Whether the rows from `start` to `end - 1` are all valid. It looks at all of them.
 #[inline(always)]
-fn delta_block<T: Integer>(
+fn are_valid(valid: &[bool], start: usize, end: usize) -> bool
+    requires rising { start ≤ end }
+    requires ends { end ≤ length valid.now }
+    ensures { OnTrue result ((k : ℕ) → start ≤ k → k < end → IsTrue (slice_index_or valid.now k false)) }
+{
+    let mut all = true;
+    for i in start..end {
+        all &= valid[i];
+    }
+    all
+}
+
+// Writes the deltas of a part of a block, from `start` on, the first as the difference from `before`: the row before, or
+// the block's first row itself. Gives the last of the rows. Where all are valid, no row waits for the one before it.
+#[inline(always)]
+fn delta_part<T: Integer>(
     values: &[T],
     valid: &[bool],
     start: usize,
     before: T,
     deltas: &mut [T],
-) -> (T, T)
+) -> T
     requires same { length valid.now ≡ length values.now }
-    requires start { start % 1024 ≡ 0 }
     requires some { 0 < length deltas.old }
-    requires few { length deltas.old ≤ 1024 }
+    requires part { start % 1024 + length deltas.old ≤ 1024 }
     requires room { start + length deltas.old ≤ length values.now }
-    requires before { T.whole before ≡ slice_index_or (pos 0 ∷ filled (optional_rows (map T.whole values.now) valid.now)) start (pos 0) }
-    ensures base { T.whole result.0 ≡ slice_index_or (filled (optional_rows (map T.whole values.now) valid.now)) start (pos 0) }
-    ensures last { T.whole result.1 ≡ slice_index_or (pos 0 ∷ filled (optional_rows (map T.whole values.now) valid.now)) (start + length deltas.old) (pos 0) }
+    requires first { start % 1024 ≡ 0 → T.whole before ≡ slice_index_or (filled (optional_rows (map T.whole values.now) valid.now)) start (pos 0) }
+    requires other { start % 1024 ≢ 0 → T.whole before ≡ slice_index_or (filled (optional_rows (map T.whole values.now) valid.now)) (start - 1) (pos 0) }
+    ensures last { T.whole result ≡ slice_index_or (filled (optional_rows (map T.whole values.now) valid.now)) (start + length deltas.old - 1) (pos 0) }
     ensures deltas { (k : ℕ) → k < length deltas.new → slice_index_or (map T.whole deltas.new) k (pos 0) ≡ delta T.kind (filled (optional_rows (map T.whole values.now) valid.now)) (start + k) }
 {
-    let base = item_or(valid[start], values[start], before);
-    let mut last = base;
-    deltas[0] = T::zero();
+    let first = item_or(valid[start], values[start], before);
+    deltas[0] = difference(first, before);
+    if are_valid(valid, start, start + deltas.len()) {
+        for k in 1..deltas.len() {
+            deltas[k] = difference(values[start + k], values[start + k - 1]);
+        }
+        return values[start + deltas.len() - 1];
+    }
+    let mut last = first;
     for k in 1..deltas.len() {
         let item = item_or(valid[start + k], values[start + k], last);
         deltas[k] = difference(item, last);
         last = item;
     }
-    (base, last)
+    last
+}
+
+// Adds the deltas of a block's rows, from `start` to `end - 1`: part by part, so that what `resize` writes is still in the
+// cache when it is written over. Gives the base, and the last of the rows.
+fn delta_block<T: Integer>(
+    values: &[T],
+    valid: &[bool],
+    start: usize,
+    end: usize,
+    before: T,
+    deltas: &mut Vec<T>,
+) -> Result<(T, T), AllocError>
+    requires same { length valid.now ≡ length values.now }
+    requires start { start % 1024 ≡ 0 }
+    requires some { start < end }
+    requires few { end ≤ start + 1024 }
+    requires room { end ≤ length values.now }
+    requires before { T.whole before ≡ slice_index_or (pos 0 ∷ filled (optional_rows (map T.whole values.now) valid.now)) start (pos 0) }
+    requires deltas { map T.whole deltas.old.items ≡ map (delta T.kind (filled (optional_rows (map T.whole values.now) valid.now))) (range_with_len 0 start) }
+    ensures base { IfOk result (λ made. T.whole made.0 ≡ slice_index_or (filled (optional_rows (map T.whole values.now) valid.now)) start (pos 0)) }
+    ensures last { IfOk result (λ made. T.whole made.1 ≡ slice_index_or (pos 0 ∷ filled (optional_rows (map T.whole values.now) valid.now)) end (pos 0)) }
+    ensures deltas { IfOk result (λ _. map T.whole deltas.new.items ≡ map (delta T.kind (filled (optional_rows (map T.whole values.now) valid.now))) (range_with_len 0 end)) }
+{
+    let most = rows_at_once::<T>();
+    let base = item_or(valid[start], values[start], before);
+    let mut last = base;
+    let mut at = start;
+    while at < end {
+        let next = at + (end - at).min(most);
+        deltas.resize(next, T::zero())?;
+        last = delta_part(values, valid, at, last, deltas.slice_mut(at..));
+        at = next;
+    }
+    Ok((base, last))
 }
 
 fn deltas_of<T: Integer>(
@@ -75,10 +132,8 @@ fn deltas_of<T: Integer>(
     let mut last = T::zero();
     for block in 0..blocks {
         let start = 1024 * block;
-        let rows = (values.len() - start).min(1024);
-        // What `resize` writes is still in the cache when it is written over.
-        deltas.resize(start + rows, T::zero())?;
-        let made = delta_block(values, valid, start, last, deltas.slice_mut(start..));
+        let end = start + (values.len() - start).min(1024);
+        let made = delta_block(values, valid, start, end, last, &mut deltas)?;
         bases.push(made.0)?;
         last = made.1;
     }

@@ -8,6 +8,7 @@ mod groups;
 mod laws;
 mod narrowing;
 mod packing;
+mod parts;
 mod reading;
 mod run_ends;
 mod runs_in_blocks;

@@ -1,11 +1,13 @@
 //! Rows from the bases and deltas of blocks of 1,024 rows.
 
-ghost use Rattle.std.specs.Prelude.{◌≡◌, ◌<◌, ◌+◌, ◌*◌, ◌+ℤ◌, ℕ, pos, length, map, take, slice_index_or};
+ghost use Rattle.std.specs.Prelude.{◌≡◌, ◌<◌, ◌+◌, ◌*◌, ◌+ℤ◌, ℕ, pos, length, map, take, slice_index_or, IfOk};
+ghost use Rattle.std.specs.List.{range_with_len};
 ghost use Rattle.vx_base.specs.Answers.{OrMemory};
 ghost use Rattle.vx_base.specs.Wrapping.{wrap};
-ghost use Rattle.vx_base.specs.Undelta.{total, undelta};
+ghost use Rattle.vx_base.specs.Undelta.{total, undelta, undelta_row};
 
-use std::alloc::Global;
+use crate::parts::rows_at_once;
+use std::alloc::{AllocError, Global};
 use vx_base::{Integer, VortexResult};
 
 // The sum of two integers, wrapped into their type.
@@ -17,18 +19,45 @@ pub(crate) fn sum<T: Integer>(a: T, b: T) -> T
     T::from_low_bits(a.to_bits().wrapping_add(b.to_bits()))
 }
 
-// Writes the rows of a block: each is the base and the deltas up to its own.
+// Writes the rows of a part of a block: each is `before` and the deltas up to its own. Gives the last of them.
 #[inline(always)]
-fn undelta_block<T: Integer>(base: T, deltas: &[T], rows: &mut [T])
+fn undelta_part<T: Integer>(before: T, deltas: &[T], rows: &mut [T]) -> T
     requires { length rows.old ≡ length deltas.now }
-    ensures { (k : ℕ) → k < length rows.new → slice_index_or (map T.whole rows.new) k (pos 0) ≡ wrap T.kind (T.whole base +ℤ total (take (k + 1) (map T.whole deltas.now))) }
+    ensures last { T.whole result ≡ wrap T.kind (T.whole before +ℤ total (map T.whole deltas.now)) }
+    ensures rows { (k : ℕ) → k < length rows.new → slice_index_or (map T.whole rows.new) k (pos 0) ≡ wrap T.kind (T.whole before +ℤ total (take (k + 1) (map T.whole deltas.now))) }
 {
-    let _base = base.to_whole();
-    let mut last = base;
+    let _before = before.to_whole();
+    let mut last = before;
     for k in 0..deltas.len() {
         last = sum(last, deltas[k]);
         rows[k] = last;
     }
+    last
+}
+
+// Adds the rows of a block, part by part, so that what `resize` writes is still in the cache when it is written over.
+fn undelta_block<T: Integer>(
+    bases: &[T],
+    deltas: &[T],
+    block: usize,
+    rows: &mut Vec<T>,
+) -> Result<(), AllocError>
+    requires same { length deltas.now ≡ 1024 * length bases.now }
+    requires block { block < length bases.now }
+    requires rows { map T.whole rows.old.items ≡ map (undelta_row T.kind (map T.whole bases.now) (map T.whole deltas.now)) (range_with_len 0 (1024 * block)) }
+    ensures { IfOk result (λ _. map T.whole rows.new.items ≡ map (undelta_row T.kind (map T.whole bases.now) (map T.whole deltas.now)) (range_with_len 0 (1024 * (block + 1)))) }
+{
+    let most = rows_at_once::<T>();
+    let end = 1024 * (block + 1);
+    let mut last = bases[block];
+    let mut at = 1024 * block;
+    while at < end {
+        let next = at + (end - at).min(most);
+        rows.resize(next, T::zero())?;
+        last = undelta_part(last, &deltas[at..next], rows.slice_mut(at..));
+        at = next;
+    }
+    Ok(())
 }
 
 /// The rows of blocks of 1,024 rows: row r of a block is its base and the block's deltas up to the one of row r, wrapped
@@ -40,11 +69,7 @@ pub fn undelta<T: Integer>(alloc: Global, bases: &[T], deltas: &[T]) -> VortexRe
 {
     let mut rows = Vec::with_capacity(alloc, deltas.len())?;
     for block in 0..bases.len() {
-        let start = 1024 * block;
-        // What `resize` writes is still in the cache when it is written over.
-        rows.resize(start + 1024, T::zero())?;
-        let part = &deltas[start..start + 1024];
-        undelta_block(bases[block], part, rows.slice_mut(start..));
+        undelta_block(bases, deltas, block, &mut rows)?;
     }
     Ok(rows)
 }

@@ -59,7 +59,7 @@ fn read_part<T: Integer, const W: usize>(
 ) -> Result<(), AllocError>
     requires some { 0 < W }
     requires width { W ≤ 64 }
-    requires few { eights ≤ 128 }
+    requires few { eights ≤ 32 }
     requires room { (eight + eights) * W + 8 ≤ length packed.now }
     ensures { let Reads = IsUnpackedAs (λ n. wrap T.kind (pos n)) packed.now W in IfOk result (λ _. (from : ℕ) → from ≤ 8 * eight → Reads from (8 * eight) (map T.whole rows.old.items) → Reads from (8 * (eight + eights)) (map T.whole rows.new.items)) }
 {
@@ -69,7 +69,7 @@ fn read_part<T: Integer, const W: usize>(
     Ok(())
 }
 
-// Reads the eights up to `last`, 128 at a time, so that what `resize` writes is still in the cache when it is read over.
+// Reads the eights up to `last`, 32 at a time, so that what `resize` writes is still in the cache when it is read over.
 fn read_whole<T: Integer, const W: usize>(
     rows: &mut Vec<T>,
     packed: &[u8],
@@ -82,9 +82,9 @@ fn read_whole<T: Integer, const W: usize>(
     requires room { last * W + 8 ≤ length packed.now }
     ensures { let Reads = IsUnpackedAs (λ n. wrap T.kind (pos n)) packed.now W in IfOk result (λ _. (from : ℕ) → from ≤ 8 * first → Reads from (8 * first) (map T.whole rows.old.items) → Reads from (8 * last) (map T.whole rows.new.items)) }
 {
-    for part in 0..(last - first).div_ceil(128) {
-        let eight = first + 128 * part;
-        read_part::<T, W>(rows, packed, eight, (last - eight).min(128))?;
+    for part in 0..(last - first).div_ceil(32) {
+        let eight = first + 32 * part;
+        read_part::<T, W>(rows, packed, eight, (last - eight).min(32))?;
     }
     Ok(())
 }

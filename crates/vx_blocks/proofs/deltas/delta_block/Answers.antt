@@ -1,59 +1,53 @@
-use Rattle.std.proofs.Common.{◌≡◌, ◌≢◌, ◌+◌, ◌%◌, ◌<◌, pos, false, length, map, get_or, ap, sym, arith, ◌∙◌}
-use Rattle.std.proofs.lemmas.List.{length-set}
+use Rattle.std.proofs.Common.{◌≡◌, ◌∙◌, ◌+◌, ◌-◌, ◌++◌, pos, length, map, get_or, sym, ap, arith}
+use Rattle.std.proofs.lemmas.List.{length-map, map-append}
+use Rattle.std.proofs.lemmas.List.FromFn.{length-map-range_with_len}
 use Rattle.vx_blocks.specs.Deltas.{filled, delta}
 use Rattle.vx_blocks.specs.Optional.{optional_rows}
-use Rattle.vx_blocks.proofs.OptionalRows.{rows-length, rows-at}
-use Rattle.vx_blocks.proofs.DeltaRows.{length-filled_after, filled-item, before, before-next, delta-first, delta-next}
-use Rattle.vx_blocks.proofs.Written.{written-more}
+use Rattle.vx_blocks.proofs.DeltaParts.{row-after}
+use Rattle.vx_blocks.proofs.DeltaRows.{before, before-next}
+use Rattle.vx_blocks.proofs.Ranges.{map-range_part}
+use Rattle.vx_blocks.proofs.Written.{grown-written}
 use Rattle.vx_blocks.proofs.deltas.delta_block.Goals as goal
 
-pub loop-k-init : goal.loop-k-init
-loop-k-init g c =
-    let whole = g.T.Integer.whole in
-    let xs = c.args.values.now in
-    let valid = c.args.valid.now in
-    let rows = optional_rows (map whole xs) valid in
-    let start = c.args.start in
-    let within : start < length rows = omega (arith, rows-length whole xs valid c.requires.same, c.requires.some, c.requires.room) in
-    let is = rows-at whole xs valid c.requires.same start c.index-values-start.result (omega (arith, c.requires.some, c.requires.room)) c.index-values-start.is in
-    let item = filled-item rows start (get_or valid start false) (whole c.index-values-start.result) (whole c.args.before) (whole c.item_or-base.result) within is c.requires.before c.item_or-base.ensures in
-    let at : start + 0 ≡ start = omega arith in
-    let first : whole c.zero.result ≡ delta g.T.Integer.kind (filled rows) (start + 0) = c.zero.ensures ∙ delta-first g.T.Integer.kind (filled rows) start c.requires.start ∙ ap (delta g.T.Integer.kind (filled rows)) (sym at) in
+pub loop-at-init : goal.loop-at-init
+loop-at-init g c =
+    let base = row-after g.T.Integer.whole c.args.values.now c.args.valid.now c.requires.same c.args.start _ (omega arith) c.index-values-start.is _ _ c.requires.before c.item_or-base.ensures in
     record {
-      last = item ∙ sym (before-next (pos 0) (filled rows) start);
-      deltas = written-more whole (pos 0) (λ j. delta g.T.Integer.kind (filled rows) (start + j)) c.args.deltas.now 0 c.zero.result 1 c.requires.some first (λ k h. absurd (omega arith)) (omega arith);
+      start = omega arith;
+      end = omega arith;
+      first = λ _. base;
+      other = λ h. absurd (omega arith);
+      deltas = c.requires.deltas;
     }
 
-pub loop-k-preserved : goal.loop-k-preserved
-loop-k-preserved g c =
+pub loop-at-preserved : goal.loop-at-preserved
+loop-at-preserved g c =
     let whole = g.T.Integer.whole in
     let kind = g.T.Integer.kind in
     let xs = c.args.values.now in
-    let valid = c.args.valid.now in
-    let rows = optional_rows (map whole xs) valid in
-    let k = c.loop-k.k in
-    let row = c.args.start + k in
-    let size : length c.loop-k.deltas ≡ length c.args.deltas.now = omega (arith, c.loop-k.auto.deltas, length-set c.args.deltas.now 0 c.zero.result) in
-    let below : k < length c.loop-k.deltas = omega (arith, c.loop-k-test.true, c.loop-k.auto.deltas, length-set c.args.deltas.now 0 c.zero.result) in
-    let inside : row < length xs = omega (arith, c.requires.room, below, size) in
-    let within : row < length rows = omega (arith, rows-length whole xs valid c.requires.same) in
-    let other : row % 1024 ≢ 0 = omega (arith, c.requires.start, c.requires.few, below, size, c.loop-k.auto.k) in
-    let is = rows-at whole xs valid c.requires.same row c.index-values-start-in-loop-k.result inside c.index-values-start-in-loop-k.is in
-    let item = filled-item rows row (get_or valid row false) (whole c.index-values-start-in-loop-k.result) (whole c.loop-k.last) (whole c.item_or-item.result) within is c.loop-k.invariant.last c.item_or-item.ensures in
-    let made = delta-next kind (filled rows) row (whole c.item_or-item.result) (whole c.loop-k.last) (whole c.difference.result) (omega (arith, length-filled_after (pos 0) rows)) other item c.loop-k.invariant.last c.difference.ensures in
-    let next : row + 1 ≡ c.args.start + (k + 1) = omega arith in
+    let rows = filled (optional_rows (map whole xs) c.args.valid.now) in
+    let at = c.loop-at.at in
+    let count = c.min.result in
+    let items = c.loop-at.deltas.items in
+    let made = c.delta_part-last.new.deltas in
+    let size : length items ≡ at = sym (length-map items whole) ∙ ap length c.loop-at.invariant.deltas ∙ length-map-range_with_len (delta kind rows) 0 at in
+    let long : length made ≡ count = omega (arith, c.delta_part-last.auto.deltas ∙ c.slice_mut.ensures.len, c.in_ok-resize.ensures.len) in
+    let last : at + length c.slice_mut.result.now - 1 ≡ at + count - 1 = omega (arith, long, c.delta_part-last.auto.deltas) in
+    let written = grown-written items c.resize.new.self.items made _ c.zero.result at count _ c.resize.new.self.len (sym size) c.in_ok-resize.ensures.items (omega (arith, size)) long (omega (arith, c.in_ok-resize.ensures.len)) in
     record {
-      last = item ∙ sym (before-next (pos 0) (filled rows) row) ∙ ap (before (pos 0) (filled rows)) next;
-      deltas = written-more whole (pos 0) (λ j. delta kind (filled rows) (c.args.start + j)) c.loop-k.deltas k c.difference.result (k + 1) below made c.loop-k.invariant.deltas (omega arith);
+      start = omega arith;
+      end = omega (arith, c.min.ensures);
+      first = λ e. absurd (omega (arith, e, c.min.ensures, c.rows_at_once-most.ensures.some));
+      other = λ h. c.delta_part-last.ensures.last ∙ ap (λ i. get_or rows i (pos 0)) last;
+      deltas = ap (map whole) written ∙ map-append whole items made ∙ ap (λ l. l ++ map whole made) c.loop-at.invariant.deltas
+          ∙ map-range_part (delta kind rows) (pos 0) at count (map whole made) (length-map made whole ∙ long) (λ k h. c.delta_part-last.ensures.deltas k (omega (arith, long)));
     }
 
 pub returns-clause-base : goal.returns-clause-base
-returns-clause-base g c =
-    let whole = g.T.Integer.whole in
-    let xs = c.args.values.now in
-    let valid = c.args.valid.now in
-    let rows = optional_rows (map whole xs) valid in
-    let start = c.args.start in
-    let within : start < length rows = omega (arith, rows-length whole xs valid c.requires.same, c.requires.some, c.requires.room) in
-    let is = rows-at whole xs valid c.requires.same start c.index-values-start.result (omega (arith, c.requires.some, c.requires.room)) c.index-values-start.is in
-    filled-item rows start (get_or valid start false) (whole c.index-values-start.result) (whole c.args.before) (whole c.item_or-base.result) within is c.requires.before c.item_or-base.ensures
+returns-clause-base g c = row-after g.T.Integer.whole c.args.values.now c.args.valid.now c.requires.same c.args.start _ (omega arith) c.index-values-start.is _ _ c.requires.before c.item_or-base.ensures
+
+pub returns-clause-last : goal.returns-clause-last
+returns-clause-last g c =
+    let rows = filled (optional_rows (map g.T.Integer.whole c.args.values.now) c.args.valid.now) in
+    let end : c.loop-at.at - 1 + 1 ≡ c.args.end = omega arith in
+    c.loop-at.invariant.other (omega arith) ∙ sym (before-next (pos 0) rows (c.loop-at.at - 1)) ∙ ap (before (pos 0) rows) end

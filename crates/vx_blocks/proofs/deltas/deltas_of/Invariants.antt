@@ -11,7 +11,6 @@ invariant-loop-block g l =
     let rows = filled (optional_rows (map whole l.values) l.valid) in
     let end = min (1024 * l.block) (length l.values) in
     record {
-      size : length l.deltas.items ≡ end;
       bases : map whole l.bases.items ≡ map (λ block. get_or rows (1024 * block) (pos 0)) (range_with_len 0 l.block);
       deltas : map whole l.deltas.items ≡ map (delta g.T.Integer.kind rows) (range_with_len 0 end);
       last : whole l.last ≡ before (pos 0) rows end;
