@@ -24,6 +24,16 @@ LEFT_OUT = {
     "part": ("QuickPacking", "quick_packing", "QuickLemmas", *TEXTS),
 }
 
+# The wrong body that the check has to refuse: its name, the line and what it becomes.
+EDITS = {
+    "finishing": ("negative_values_are_packed", "        return EstimateVerdict::Skip;", "        return EstimateVerdict::AlwaysUse;"),
+    "part": (
+        "column_is_its_own_part",
+        "    one_part(alloc, differences(alloc, array, least)?)",
+        "    one_part(alloc, array.copy(alloc)?)",
+    ),
+}
+
 TEST = """//! Tests of `{type}`, with ample memory.
 #![tactic(auto)]
 
@@ -85,8 +95,6 @@ def copy(crate, name, kind):
         if path.is_dir() or inside.parts[0] == "out" or any(word in str(inside) for word in other):
             continue
         text = path.read_text()
-        if inside.parts[0] == "must-fail" and any(word in text for word in other):
-            continue
         if path.name in ("lib.rt", "Lib.antt"):
             lines = [line for line in text.splitlines() if not any(word in line for word in other)]
             text = "\n".join(lines) + "\n"
@@ -95,6 +103,10 @@ def copy(crate, name, kind):
         new = target / rename(str(inside))
         new.parent.mkdir(parents=True, exist_ok=True)
         new.write_text(rename(text))
+    edit, old, new = EDITS[kind]
+    wrong = target / "must-fail" / f"{edit}.edit"
+    wrong.parent.mkdir()
+    wrong.write_text(f"file: src/{new_name}.rt\nold: {old}\nnew: {new}\n")
     tests = Path("crates") / f"{crate}_tests" / "src" / "lib.rt"
     tests.parent.mkdir(parents=True)
     tests.write_text(TEST.format(type=name, crate=crate, id=encoding, least=least))

@@ -1,10 +1,10 @@
 -- Sums of differences, one more at a time, and numbers wrapped into a type.
-use Rattle.std.proofs.Common.{◌≡◌, ◌<◌, ◌≤◌, ◌+◌, ◌-◌, ◌*◌, ◌/◌, ◌^◌, ◌++◌, ◌∙◌, ℕ, zero, suc, ℤ, pos, negsuc, List, [], ◌∷◌, length, map, get_or, take, drop, refl, sym, ap, arith, to_z, of_z, length-drop}
+use Rattle.std.proofs.Common.{◌≡◌, ◌<◌, ◌≤◌, ◌+◌, ◌-◌, ◌*◌, ◌/◌, ◌^◌, ◌∙◌, ℕ, zero, suc, ℤ, pos, negsuc, List, [], ◌∷◌, length, map, get_or, take, drop, refl, sym, ap, arith, to_z, of_z}
 use Rattle.std.specs.Int.{w128, int_rem_euclid}
 use Rattle.std.specs.Prelude.{◌+ℤ◌, ◌-ℤ◌, ◌≤ℤ◌, ◌<ℤ◌, nat_lt, unsigned_abs}
 use Rattle.std.proofs.lemmas.Bool.{cond-true, cond-false, lt-ltb, le-ltb}
 use Rattle.std.proofs.lemmas.Int.{ints}
-use Rattle.std.proofs.lemmas.List.{length-map, take_more, get_or-drop}
+use Rattle.std.proofs.lemmas.List.{length-map}
 use Rattle.vx_base.specs.declared.ptype.PType.{PType}
 use Rattle.vx_base.specs.declared.ptype.PType.TheVariants.{U8, U16, U32, U64, I8, I16, I32, I64}
 use Rattle.vx_base.specs.Integers.{bits_of, natural_bits, least, greatest}
@@ -12,25 +12,9 @@ use Rattle.vx_base.specs.Masks.{rows_between}
 use Rattle.vx_base.specs.PlainValue.{PlainValue, whole_or_zero}
 use Rattle.vx_base.specs.Wrapping.{wrap, low_bits}
 use Rattle.vx_base.specs.Undelta.{total}
+use Rattle.vx_blocks.proofs.DeltaSums.{total-more}
 use Rattle.vx_model.specs.Rows.{row_at, block_rows}
 use Rattle.vx_array.specs.Sums.{sum_before}
-
--- ---- one difference more
-
-total-push : (zs : List ℤ) (z : ℤ) → total (zs ++ z ∷ []) ≡ total zs +ℤ z
-total-push [] z = omega (arith, ints)
-total-push (y ∷ ys) z = let ih = total-push ys z in omega (arith, ints, ih)
-
-between-more : (zs : List ℤ) (start i : ℕ) → start ≤ i → i < length zs → rows_between zs start (i + 1) ≡ rows_between zs start i ++ get_or zs i (pos 0) ∷ []
-between-more zs start i first last =
-    let long : i - start < length (drop start zs) = omega (arith, length-drop start zs) in
-    let more : i + 1 - start ≡ i - start + 1 = omega arith in
-    let place : start + (i - start) ≡ i = omega arith in
-    ap (λ n. take n (drop start zs)) more ∙ take_more (drop start zs) (i - start) (pos 0) long
-    ∙ ap (λ z. rows_between zs start i ++ z ∷ []) (get_or-drop start zs (i - start) (pos 0) ∙ ap (λ k. get_or zs k (pos 0)) place)
-
-total-more : (zs : List ℤ) (start i : ℕ) → start ≤ i → i < length zs → total (rows_between zs start (i + 1)) ≡ total (rows_between zs start i) +ℤ get_or zs i (pos 0)
-total-more zs start i first last = ap total (between-more zs start i first last) ∙ total-push (rows_between zs start i) (get_or zs i (pos 0))
 
 -- the whole number of a row, among those of all rows
 pub whole_row : (vs : List PlainValue) (i : ℕ) → whole_or_zero (row_at vs i) ≡ get_or (map whole_or_zero vs) i (pos 0)

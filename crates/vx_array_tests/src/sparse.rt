@@ -5,8 +5,8 @@ use std::test::Fail;
 use vx_array::{ArrayRef, Patches};
 use vx_base::Nullability::{NonNullable, Nullable};
 use vx_base::PType::{I32, U8, U32};
-use vx_base::{DType, Scalar, Value, Values, VortexError, VortexResult};
-use vx_fixtures::{accepted, flat, has_rows, has_wholes, with_nulls};
+use vx_base::{DType, Scalar, VortexError, VortexResult};
+use vx_fixtures::{accepted, flat, has_rows, has_wholes, list_scalar, with_nulls};
 
 // Whether the rows print so.
 fn prints(alloc: Global, tree: &ArrayRef, rows: &[&str]) -> VortexResult<bool> {
@@ -62,17 +62,6 @@ fn a_fill_and_a_patch_may_be_null(rt: HostRuntime) -> Result<(), Fail> {
     Ok(())
 }
 
-// A list of these numbers as a scalar.
-fn list(alloc: Global, wholes: &[i128]) -> VortexResult<Scalar> {
-    let items = Box::new(alloc, DType::primitive(I32, NonNullable))?;
-    let mut values = Vec::new(alloc);
-    for whole in wholes {
-        values.push(Value::Int(*whole))?;
-    }
-    let dtype = DType::list(items, NonNullable);
-    accepted(Scalar::new(dtype, Value::List(Values::from_vec(values))))
-}
-
 // The list of 9 in row 1, and another in each other row.
 fn lists(alloc: Global, len: u64, fill: &[i128]) -> VortexResult<ArrayRef> {
     let indices = flat(alloc, U32, NonNullable, &[1])?;
@@ -80,7 +69,7 @@ fn lists(alloc: Global, len: u64, fill: &[i128]) -> VortexResult<ArrayRef> {
     let offsets = flat(alloc, U8, NonNullable, &[0, 1])?;
     let values = accepted(ArrayRef::list(alloc, elements, offsets, None, NonNullable))?;
     let patches = accepted(Patches::new(len, 0, indices, values))?;
-    accepted(ArrayRef::sparse(alloc, patches, list(alloc, fill)?))
+    accepted(ArrayRef::sparse(alloc, patches, list_scalar(alloc, fill)?))
 }
 
 #[test]

@@ -131,47 +131,19 @@ fn show(rt: &impl Print, kernel: &str, on: &Setting, best: u128, digest: u64) ->
     Ok(())
 }
 
-fn tell_histogram<T: Integer>(
-    rt: &(impl AllocGlobal + CpuClock + Print),
+// Times a kernel, and writes its line.
+fn tell<A: Drop, F: Fn() -> VortexResult<A>, D: Fn(&A) -> u64>(
+    rt: &(impl CpuClock + Print),
     on: &Setting,
-    values: &[T],
-    valid: &Mask,
+    kernel: &str,
+    run: F,
+    digest_of: D,
 ) -> Result<()>
-    requires { length valid.now ≡ length values.now }
+    requires run { F.IsAlwaysCallable run }
+    requires digest_of { D.IsAlwaysCallable digest_of }
 {
-    let alloc = rt.alloc();
-    let (best, counts) = best_of(rt, on.repeats, || bit_width_histogram(alloc, values, valid))?;
-    show(rt, "histogram", on, best, digest(counts.as_slice()))
-}
-
-fn tell_pack<T: Integer>(
-    rt: &(impl AllocGlobal + CpuClock + Print),
-    on: &Setting,
-    values: &[T],
-    valid: &Mask,
-) -> Result<()>
-    requires same { length valid.now ≡ length values.now }
-    requires within { on.now.width ≤ bits_of T.kind }
-{
-    let alloc = rt.alloc();
-    let width = on.width;
-    let (best, packed) = best_of(rt, on.repeats, || pack(alloc, values, valid, width))?;
-    show(rt, "pack", on, best, digest(packed.as_slice()))
-}
-
-fn tell_unpack(
-    rt: &(impl AllocGlobal + CpuClock + Print),
-    on: &Setting,
-    packed: &[u8],
-) -> Result<()>
-    requires width { on.now.width ≤ 64 }
-    requires blocks { packed_size on.now.width on.now.rows ≤ length packed.now }
-{
-    let alloc = rt.alloc();
-    let width = on.width;
-    let rows = on.rows as u64;
-    let (best, words) = best_of(rt, on.repeats, || unpack(alloc, packed, width, 0, rows))?;
-    show(rt, "unpack", on, best, digest(words.as_slice()))
+    let (best, answer) = best_of(rt, on.repeats, run)?;
+    show(rt, kernel, on, best, digest_of(&answer))
 }
 
 fn tell_canonical(
@@ -197,35 +169,6 @@ fn tell_canonical(
     show(rt, "canonical", on, best, digest_of_tree(&plain)?)
 }
 
-fn tell_runs<T: Integer>(
-    rt: &(impl AllocGlobal + CpuClock + Print),
-    on: &Setting,
-    values: &[T],
-    valid: &Mask,
-) -> Result<()>
-    requires { length valid.now ≡ length values.now }
-{
-    let alloc = rt.alloc();
-    let (best, ends) = best_of(rt, on.repeats, || runs(alloc, values, valid))?;
-    show(rt, "runs", on, best, digest(ends.as_slice()))
-}
-
-fn tell_block_runs<T: Integer>(
-    rt: &(impl AllocGlobal + CpuClock + Print),
-    on: &Setting,
-    values: &[T],
-    valid: &Mask,
-) -> Result<()>
-    requires { length valid.now ≡ length values.now }
-{
-    let alloc = rt.alloc();
-    let (best, made) = best_of(rt, on.repeats, || block_runs(alloc, values, valid))?;
-    let all = digest(made.heads.as_slice())
-        .wrapping_add(digest(made.numbers.as_slice()))
-        .wrapping_add(digest(made.offsets.as_slice()));
-    show(rt, "block_runs", on, best, all)
-}
-
 // Of a ramp, where the type holds a long one.
 fn tell_sequence<T: Integer>(
     rt: &(impl AllocGlobal + CpuClock + Print),
@@ -236,35 +179,13 @@ fn tell_sequence<T: Integer>(
     }
     let values = ramp::<T>(rt.alloc(), on.rows)?;
     let rows = values.as_slice();
-    let (best, found) = best_of(rt, on.repeats, || Ok(sequence_of(rows)))?;
-    show(rt, "sequence", on, best, u64::from(found.is_some()))
-}
-
-fn tell_deltas<T: Integer>(
-    rt: &(impl AllocGlobal + CpuClock + Print),
-    on: &Setting,
-    values: &[T],
-    valid: &Mask,
-) -> Result<()>
-    requires { length valid.now ≡ length values.now }
-{
-    let alloc = rt.alloc();
-    let (best, made) = best_of(rt, on.repeats, || delta_blocks(alloc, values, valid))?;
-    let both = digest(made.0.as_slice()).wrapping_add(digest(made.1.as_slice()));
-    show(rt, "delta", on, best, both)
-}
-
-fn tell_undelta<T: Integer>(
-    rt: &(impl AllocGlobal + CpuClock + Print),
-    on: &Setting,
-    bases: &[T],
-    deltas: &[T],
-) -> Result<()>
-    requires { length deltas.now ≡ 1024 * length bases.now }
-{
-    let alloc = rt.alloc();
-    let (best, rows) = best_of(rt, on.repeats, || undelta(alloc, bases, deltas))?;
-    show(rt, "undelta", on, best, digest(rows.as_slice()))
+    tell(
+        rt,
+        on,
+        "sequence",
+        || Ok(sequence_of(rows)),
+        |found| u64::from(found.is_some()),
+    )
 }
 
 // Times the kernels of series on runs and on a ramp of the type.
@@ -277,29 +198,82 @@ fn tell_series<T: Integer>(
     requires some { 0 < on.now.width }
     requires most { on.now.width ≤ 64 }
 {
-    let values = repeated::<T>(rt.alloc(), on.rows, on.width)?;
-    tell_runs(rt, on, values.as_slice(), valid)?;
-    tell_block_runs(rt, on, values.as_slice(), valid)?;
+    let alloc = rt.alloc();
+    let values = repeated::<T>(alloc, on.rows, on.width)?;
+    let rows = values.as_slice();
+    tell(
+        rt,
+        on,
+        "runs",
+        || runs(alloc, rows, valid),
+        |ends| digest(ends.as_slice()),
+    )?;
+    tell(
+        rt,
+        on,
+        "block_runs",
+        || block_runs(alloc, rows, valid),
+        |made| {
+            digest(made.heads.as_slice())
+                .wrapping_add(digest(made.numbers.as_slice()))
+                .wrapping_add(digest(made.offsets.as_slice()))
+        },
+    )?;
     tell_sequence::<T>(rt, on)?;
-    tell_deltas(rt, on, values.as_slice(), valid)?;
-    let (bases, deltas) = delta_blocks(rt.alloc(), values.as_slice(), valid)?;
-    tell_undelta(rt, on, bases.as_slice(), deltas.as_slice())
+    tell(
+        rt,
+        on,
+        "delta",
+        || delta_blocks(alloc, rows, valid),
+        |made| { digest(made.0.as_slice()).wrapping_add(digest(made.1.as_slice())) },
+    )?;
+    let (bases, deltas) = delta_blocks(alloc, rows, valid)?;
+    let (bases, deltas) = (bases.as_slice(), deltas.as_slice());
+    tell(
+        rt,
+        on,
+        "undelta",
+        || undelta(alloc, bases, deltas),
+        |rows| digest(rows.as_slice()),
+    )
 }
 
 // Times each kernel on rows of the type.
 fn tell_of<T: Integer>(rt: &(impl AllocGlobal + CpuClock + Print), on: &Setting) -> Result<()> {
-    if on.width == 0 || on.width > T::ptype().bit_width() {
+    let (width, rows) = (on.width, on.rows as u64);
+    if width == 0 || width > T::ptype().bit_width() {
         bail!("a width is from 1 to the bits of the type");
     }
-    let values = values::<T>(rt.alloc(), on.rows, on.width)?;
-    let valid = Mask::from_bits(vec![in rt.alloc(); true; on.rows]?);
-    tell_histogram(rt, on, values.as_slice(), &valid)?;
-    tell_pack(rt, on, values.as_slice(), &valid)?;
-    let packed = pack(rt.alloc(), values.as_slice(), &valid, on.width)?;
-    tell_unpack(rt, on, packed.as_slice())?;
+    let alloc = rt.alloc();
+    let values = values::<T>(alloc, on.rows, width)?;
+    let values = values.as_slice();
+    let valid = &Mask::from_bits(vec![in alloc; true; on.rows]?);
+    tell(
+        rt,
+        on,
+        "histogram",
+        || bit_width_histogram(alloc, values, valid),
+        |counts| digest(counts.as_slice()),
+    )?;
+    tell(
+        rt,
+        on,
+        "pack",
+        || pack(alloc, values, valid, width),
+        |packed| digest(packed.as_slice()),
+    )?;
+    let packed = pack(alloc, values, valid, width)?;
+    let bytes = packed.as_slice();
+    tell(
+        rt,
+        on,
+        "unpack",
+        || unpack(alloc, bytes, width, 0, rows),
+        |words| digest(words.as_slice()),
+    )?;
     tell_canonical(rt, on, packed)?;
-    if on.width == SERIES_WIDTH {
-        tell_series::<T>(rt, on, &valid)?;
+    if width == SERIES_WIDTH {
+        tell_series::<T>(rt, on, valid)?;
     }
     Ok(())
 }

@@ -23,7 +23,8 @@ between-more zs start i first last =
     ap (λ n. take n (drop start zs)) more ∙ take_more (drop start zs) (i - start) (pos 0) long
     ∙ ap (λ z. rows_between zs start i ++ z ∷ []) (get_or-drop start zs (i - start) (pos 0) ∙ ap (λ k. get_or zs k (pos 0)) place)
 
-total-more : (zs : List ℤ) (start i : ℕ) → start ≤ i → i < length zs → total (rows_between zs start (i + 1)) ≡ total (rows_between zs start i) +ℤ get_or zs i (pos 0)
+-- the sum with one number more
+pub total-more : (zs : List ℤ) (start i : ℕ) → start ≤ i → i < length zs → total (rows_between zs start (i + 1)) ≡ total (rows_between zs start i) +ℤ get_or zs i (pos 0)
 total-more zs start i first last = ap total (between-more zs start i first last) ∙ total-push (rows_between zs start i) (get_or zs i (pos 0))
 
 -- ---- the rows of a block, by its base and its deltas

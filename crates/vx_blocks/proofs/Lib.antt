@@ -19,3 +19,4 @@ pub mod DeltaRows
 pub mod DeltaParts
 pub mod DeltasBack
 pub mod HeadsOfRuns
+pub mod Extremes

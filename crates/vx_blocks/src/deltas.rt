@@ -1,33 +1,16 @@
 //! Differences from row to row, in blocks of 1,024 rows.
 
-ghost use Rattle.std.specs.Prelude.{◌≡◌, ◌≢◌, ◌<◌, ◌≤◌, ◌+◌, ◌-◌, ◌*◌, ◌%◌, ◌-ℤ◌, ◌∷◌, ℕ, pos, if◌then◌else◌, length, map, slice_index_or, IfOk, IsTrue, false};
+ghost use Rattle.std.specs.Prelude.{◌≡◌, ◌≢◌, ◌<◌, ◌≤◌, ◌+◌, ◌-◌, ◌*◌, ◌%◌, ◌∷◌, ℕ, pos, length, map, slice_index_or, IfOk, IsTrue, false};
 ghost use Rattle.std.specs.Bool.{OnTrue};
 ghost use Rattle.std.specs.List.{range_with_len};
 ghost use Rattle.vx_base.specs.Answers.{OrMemory};
-ghost use Rattle.vx_base.specs.Wrapping.{wrap};
 ghost use Rattle.vx_blocks.specs.Deltas.{bases, delta, deltas, filled};
 ghost use Rattle.vx_blocks.specs.Optional.{optional_rows};
 
+use crate::arithmetic::{difference, item_or};
 use crate::parts::rows_at_once;
 use std::alloc::{AllocError, Global};
 use vx_base::{Integer, Mask, VortexError, VortexResult};
-
-// The difference of an integer from another, wrapped into their type.
-#[inline(always)]
-fn difference<T: Integer>(a: T, b: T) -> T
-    ensures { T.whole result ≡ wrap T.kind (T.whole a -ℤ T.whole b) }
-{
-    let (_a, _b) = (a.to_whole(), b.to_whole());
-    T::from_low_bits(a.to_bits().wrapping_sub(b.to_bits()))
-}
-
-// The item of a row, and where it isn't valid the one before.
-#[inline(always)]
-fn item_or<T: Integer>(valid: bool, item: T, last: T) -> T
-    ensures { T.whole result ≡ (if valid then T.whole item else T.whole last) }
-{
-    if valid { item } else { last }
-}
 
 // Whether the rows from `start` to `end - 1` are all valid. It looks at all of them.
 #[inline(always)]

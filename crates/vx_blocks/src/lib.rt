@@ -2,6 +2,7 @@
 //! sequences and deltas of rows.
 #![tactic(auto)]
 
+mod arithmetic;
 mod deltas;
 mod filling;
 mod groups;
@@ -18,6 +19,7 @@ mod unpacking;
 mod widths;
 mod zig_zag;
 
+pub use arithmetic::{difference, greater, item_or, lesser, sum};
 pub use deltas::delta_blocks;
 pub use laws::{digits_are_fewest, undelta_gives_back, unpack_gives_back, unzigzag_gives_back};
 pub use narrowing::narrow_type;

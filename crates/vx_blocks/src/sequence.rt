@@ -5,7 +5,7 @@ ghost use Rattle.vx_base.specs.Integers.{lies_in};
 ghost use Rattle.vx_base.specs.Wrapping.{wrap};
 ghost use Rattle.vx_blocks.specs.Sequence.{IsWrappedStep, sequence_of};
 
-use crate::undeltas::sum;
+use crate::arithmetic::sum;
 use vx_base::Integer;
 
 // How far one integer lies above another.

@@ -6,18 +6,10 @@ ghost use Rattle.vx_base.specs.Answers.{OrMemory};
 ghost use Rattle.vx_base.specs.Wrapping.{wrap};
 ghost use Rattle.vx_base.specs.Undelta.{total, undelta, undelta_row};
 
+use crate::arithmetic::sum;
 use crate::parts::rows_at_once;
 use std::alloc::{AllocError, Global};
 use vx_base::{Integer, VortexResult};
-
-// The sum of two integers, wrapped into their type.
-#[inline(always)]
-pub(crate) fn sum<T: Integer>(a: T, b: T) -> T
-    ensures { T.whole result ≡ wrap T.kind (T.whole a +ℤ T.whole b) }
-{
-    let (_a, _b) = (a.to_whole(), b.to_whole());
-    T::from_low_bits(a.to_bits().wrapping_add(b.to_bits()))
-}
 
 // Writes the rows of a part of a block: each is `before` and the deltas up to its own. Gives the last of them.
 #[inline(always)]

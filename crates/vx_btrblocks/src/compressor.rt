@@ -24,9 +24,10 @@ use vx_schemes::{
 #[derive(Drop)]
 pub struct BtrBlocksCompressor<X: Scheme>(pub CascadingCompressor<AnyScheme<X>>);
 
-// The shipped schemes, in the order in which they are judged.
-fn shipped_schemes<X: Scheme>(alloc: Global) -> VortexResult<Schemes<AnyScheme<X>>>
-    ensures { OrMemory result (λ schemes. map (any_meaning X.meaning) schemes ≡ shipped_schemes) }
+/// The shipped schemes, in the order in which they are judged, for a list with schemes of the caller's: frame of reference,
+/// zigzag, bit packing, sparse, dictionary, runs by their ends, sequence, run lengths, delta. Refuses NoMemory alone.
+pub fn shipped_schemes<X: Scheme>(alloc: Global) -> VortexResult<Vec<AnyScheme<X>>>
+    ensures { OrMemory result (λ schemes. map (any_meaning X.meaning) schemes.items ≡ shipped_schemes) }
 {
     let mut schemes = Vec::new(alloc);
     schemes.push(AnyScheme::FoR(FoRScheme::v1()))?;
@@ -38,16 +39,16 @@ fn shipped_schemes<X: Scheme>(alloc: Global) -> VortexResult<Schemes<AnyScheme<X
     schemes.push(AnyScheme::Sequence(SequenceScheme))?;
     schemes.push(AnyScheme::IntRLE(IntRLEScheme))?;
     schemes.push(AnyScheme::Delta(DeltaScheme::default()))?;
-    Ok(Schemes::from_vec(schemes))
+    Ok(schemes)
 }
 
 impl<X: Scheme> BtrBlocksCompressor<X> {
-    /// The compressor over the shipped schemes: frame of reference, zigzag, bit packing, sparse, dictionary, runs by their
-    /// ends, sequence, run lengths, delta. Refuses NoMemory alone.
+    /// The compressor over the shipped schemes in their order. Refuses NoMemory alone.
     pub fn shipped(alloc: Global) -> VortexResult<Self>
         ensures { OrMemory result (λ compressor. map (any_meaning X.meaning) compressor.0 ≡ shipped_schemes) }
     {
-        match CascadingCompressor::new(alloc, shipped_schemes(alloc)?) {
+        let schemes = Schemes::from_vec(shipped_schemes(alloc)?);
+        match CascadingCompressor::new(alloc, schemes) {
             Ok(compressor) => Ok(BtrBlocksCompressor(compressor)),
             Err(refused) => Err(refused.error),
         }

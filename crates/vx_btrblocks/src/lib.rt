@@ -5,5 +5,5 @@ mod any_scheme;
 mod compressor;
 
 pub use any_scheme::AnyScheme;
-pub use compressor::BtrBlocksCompressor;
+pub use compressor::{BtrBlocksCompressor, shipped_schemes};
 pub use vx_scheme::NoScheme;

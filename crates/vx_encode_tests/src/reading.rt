@@ -5,9 +5,9 @@ use std::test::Fail;
 use vx_array::{ArrayRef, Patches};
 use vx_base::Nullability::NonNullable;
 use vx_base::PType::{I32, U8, U32, U64};
-use vx_base::{ArrayId, DType, ExecutionCtx, Scalar, Value, Values, VortexError, VortexResult};
+use vx_base::{ArrayId, DType, ExecutionCtx, Scalar, VortexError, VortexResult};
 use vx_encode::{Sparse, SparseArray, SparseExt};
-use vx_fixtures::{accepted, context, flat, has_wholes};
+use vx_fixtures::{accepted, context, flat, has_wholes, list_scalar};
 
 // Eight rows: 10, 20 and 30 where the indices less an offset tell, and 1 in the others.
 fn tens(alloc: Global, offset: u64, indices: &[i128]) -> VortexResult<SparseArray> {
@@ -64,17 +64,6 @@ fn resolved_patches_have_no_offset(rt: HostRuntime) -> Result<(), Fail> {
     Ok(())
 }
 
-// A list of integers as a scalar.
-fn list(alloc: Global, wholes: &[i128]) -> VortexResult<Scalar> {
-    let items = Box::new(alloc, DType::primitive(I32, NonNullable))?;
-    let mut values = Vec::new(alloc);
-    for whole in wholes {
-        values.push(Value::Int(*whole))?;
-    }
-    let dtype = DType::list(items, NonNullable);
-    accepted(Scalar::new(dtype, Value::List(Values::from_vec(values))))
-}
-
 #[test]
 fn lists_are_laid_one_after_the_other(rt: HostRuntime) -> Result<(), Fail> {
     let alloc = rt.alloc();
@@ -82,7 +71,7 @@ fn lists_are_laid_one_after_the_other(rt: HostRuntime) -> Result<(), Fail> {
     let offsets = flat(alloc, U8, NonNullable, &[0, 1])?;
     let values = accepted(ArrayRef::list(alloc, elements, offsets, None, NonNullable))?;
     let indices = flat(alloc, U32, NonNullable, &[1])?;
-    let fill = list(alloc, &[7, 8])?;
+    let fill = list_scalar(alloc, &[7, 8])?;
     let array = accepted(Sparse::try_new(alloc, indices, values, 3, fill))?;
     let plain = array.as_array().canonical(alloc)?;
     let laid = match (plain.child(0), plain.child(1)) {

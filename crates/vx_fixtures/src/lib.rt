@@ -8,5 +8,7 @@ mod rows;
 
 pub use asking::{Told, made_of, told_above, told_of};
 pub use columns::{bundle, column, context};
-pub use making::{accepted, bits, byte_rows, flat, integers, list, packed, with_nulls};
+pub use making::{
+    accepted, bits, byte_rows, flat, integers, list, list_scalar, packed, with_nulls,
+};
 pub use rows::{has_rows, has_wholes};

@@ -1,9 +1,10 @@
-//! Masks, integers, rows of bytes, packed bytes and flat trees, made of plain slices.
+//! Masks, integers, rows of bytes, packed bytes, flat trees and lists as scalars, made of plain slices.
 
 use std::alloc::Global;
 use vx_array::ArrayRef;
 use vx_base::{
-    ByteRows, Bytes, IntList, Integer, Mask, Nullability, PType, Refused, VortexError, VortexResult,
+    ByteRows, Bytes, DType, IntList, Integer, Mask, Nullability, PType, Refused, Scalar, Value,
+    Values, VortexError, VortexResult,
 };
 use vx_blocks::pack;
 use vx_values::Ints;
@@ -81,4 +82,18 @@ pub fn packed<T: Integer>(alloc: Global, values: &[T], width: u32) -> VortexResu
     }
     let valid = Mask::from_bits(vec![in alloc; true; values.len()]?);
     Ok(Bytes::from_vec(pack(alloc, values, &valid, width)?))
+}
+
+/// A list of integers of i32 as a scalar.
+pub fn list_scalar(alloc: Global, wholes: &[i128]) -> VortexResult<Scalar> {
+    let items = Box::new(
+        alloc,
+        DType::primitive(PType::I32, Nullability::NonNullable),
+    )?;
+    let mut values = Vec::new(alloc);
+    for whole in wholes {
+        values.push(Value::Int(*whole))?;
+    }
+    let dtype = DType::list(items, Nullability::NonNullable);
+    accepted(Scalar::new(dtype, Value::List(Values::from_vec(values))))
 }

@@ -15,7 +15,8 @@ use Rattle.std.proofs.lemmas.List.Sums.{sum_by-cons}
 use Rattle.std.proofs.lemmas.List.Sorted.{sum_by-IsPermutation}
 use Rattle.vx_stats.specs.Distinct.{times, with_number, distinct, counted, most_frequent}
 use Rattle.vx_stats.specs.Runs.{runs, runs_from, IsRising, IsRisingFrom, better, whole_count, whole_counts}
-use Rattle.vx_stats.proofs.TallyLemmas.{same-eq, less, left, left-next}
+use Rattle.vx_blocks.proofs.Extremes.{less}
+use Rattle.vx_stats.proofs.TallyLemmas.{same-eq, left, left-next}
 
 pub times-next : (x z : ℤ) (zs : List ℤ) → times (z ∷ zs) x ≡ cond (int_eq x z) 1 0 + times zs x
 times-next x z zs = sum_by-cons (λ w. cond (int_eq x w) 1 0) z zs

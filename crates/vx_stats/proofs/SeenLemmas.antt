@@ -21,7 +21,8 @@ use Rattle.vx_stats.specs.Runs.{runs, runs_from, IsRising, IsRisingFrom, whole_c
 use Rattle.vx_stats.specs.Seen.{share, total, empties, merged, merged_from}
 use Rattle.vx_stats.proofs.DistinctLemmas.{IsBelow, IsAscending, distinct-ascends, distinct-times, same-ascending, times-next, times-below, eq-same, by-order, map-below, map-same, done-more}
 use Rattle.vx_stats.proofs.StatsLemmas.{few-values, valid_wholes-map-int}
-use Rattle.vx_stats.proofs.TallyLemmas.{same-eq, less, left}
+use Rattle.vx_blocks.proofs.Extremes.{less}
+use Rattle.vx_stats.proofs.TallyLemmas.{same-eq, left}
 
 -- ---- whole numbers with counts
 

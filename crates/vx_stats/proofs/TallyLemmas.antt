@@ -1,32 +1,13 @@
 -- What is seen of integers, step by step.
-use Rattle.std.proofs.Common.{◌≡◌, Ordering, ℕ, ◌+◌, ◌<◌, ℤ, Bool, true, false, cond, List, ◌∷◌, length, map, drop, get_or, refl, ap, ◌∙◌, arith}
-use Rattle.std.specs.Prelude.{int_lt, fold}
+use Rattle.std.proofs.Common.{◌≡◌, ℕ, ◌+◌, ◌<◌, ℤ, Bool, true, false, cond, List, ◌∷◌, length, map, drop, get_or, refl, ap, ◌∙◌, arith}
+use Rattle.std.specs.Prelude.{fold}
 use Rattle.std.specs.Int.{int_min, int_max}
-use Rattle.std.specs.Ordering.{int_cmp, int_eq, is_lt, ord_min, ord_max}
+use Rattle.std.specs.Ordering.{int_eq}
 use Rattle.std.proofs.lemmas.Int.{ints}
 use Rattle.std.proofs.lemmas.List.{drop_more}
 use Rattle.vx_base.specs.PlainValue.{int}
 use Rattle.vx_model.specs.Rows.{masked_rows}
 use Rattle.vx_stats.specs.Stats.{valid_wholes, runs_after}
-
-is_lt-int_cmp : (x y : ℤ) → is_lt (int_cmp x y) ≡ int_lt x y
-is_lt-int_cmp x y = grind arith
-
-ap-cond : {A B : Type 0} (f : A → B) (t : Bool) (x y : A) → f (cond t x y) ≡ cond t (f x) (f y)
-ap-cond f true x y = refl
-ap-cond f false x y = refl
-
--- ---- the order of an integer type is that of the whole numbers
-
-module _ {T : Type 0} (whole : T → ℤ) (cmp : T → T → Ordering) (ordered : (a b : T) → cmp a b ≡ int_cmp (whole a) (whole b)) where
-  pub less : (a b : T) → is_lt (cmp a b) ≡ int_lt (whole a) (whole b)
-  less a b = ap is_lt (ordered a b) ∙ is_lt-int_cmp (whole a) (whole b)
-
-  pub whole-min : (a b : T) → whole (ord_min cmp a b) ≡ int_min (whole a) (whole b)
-  whole-min a b = ap-cond whole (is_lt (cmp b a)) b a ∙ ap (λ t. cond t (whole b) (whole a)) (less b a)
-
-  pub whole-max : (a b : T) → whole (ord_max cmp a b) ≡ int_max (whole a) (whole b)
-  whole-max a b = ap-cond whole (is_lt (cmp b a)) a b ∙ ap (λ t. cond t (whole a) (whole b)) (less b a)
 
 -- ---- what is left to see from a row on
 

@@ -1,10 +1,8 @@
 -- Rows that are counted and packed by blocks.
-use Rattle.std.proofs.Common.{◌≡◌, ◌∙◌, ◌+◌, ◌-◌, ◌*◌, ◌<◌, ◌≤◌, ℕ, zero, suc, Bool, true, List, [], ◌∷◌, ◌++◌, length, get_or, take, drop, replicate, sum, cond, eqb, refl, sym, ap, arith, length-append}
-use Rattle.std.proofs.Math.Seq.{take-add}
+use Rattle.std.proofs.Common.{◌≡◌, ◌∙◌, ◌+◌, ◌-◌, ◌*◌, ◌≤◌, ℕ, zero, suc, Bool, true, List, [], ◌∷◌, ◌++◌, length, take, drop, replicate, refl, sym, ap, arith, length-append}
 use Rattle.std.proofs.lemmas.List.Folds.{sum_by-replicate}
 use Rattle.std.proofs.lemmas.List.{length-take-le, length-drop, length-replicate, get_or-replicate, take-append-le, take_all}
-use Rattle.vx_base.specs.Packed.{block_count, joined, kept_row, kept_rows, packed_size}
-use Rattle.vx_base.specs.Digits.{digits}
+use Rattle.vx_base.specs.Packed.{block_count, kept_row, kept_rows, packed_size}
 use Rattle.vx_blocks.specs.Histogram.{IsHistogram}
 use Rattle.vx_blocks.specs.IsPacked.{IsPacked}
 use Rattle.vx_blocks.proofs.Joins.{joined-append, joined-group}

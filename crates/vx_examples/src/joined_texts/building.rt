@@ -8,28 +8,15 @@ ghost use Rattle.vx_examples.specs.JoinedTexts.{joined_texts, with_joined_texts}
 use super::JoinedTexts;
 use std::alloc::Global;
 use vx_base::VortexResult;
-use vx_btrblocks::{AnyScheme, BtrBlocksCompressor};
+use vx_btrblocks::{AnyScheme, BtrBlocksCompressor, shipped_schemes};
 use vx_compressor::{CascadingCompressor, Schemes};
-use vx_schemes::{
-    BitPackingScheme, DeltaScheme, FoRScheme, IntDictScheme, IntRLEScheme, RunEndScheme,
-    SequenceScheme, SparseScheme, ZigZagScheme,
-};
 
 // Joined texts, and then the shipped schemes in their order.
 fn schemes(alloc: Global) -> VortexResult<Schemes<AnyScheme<JoinedTexts>>>
     ensures { OrMemory result (λ schemes. map (any_meaning (λ scheme. joined_texts)) schemes ≡ with_joined_texts) }
 {
-    let mut schemes = Vec::new(alloc);
-    schemes.push(AnyScheme::Own(JoinedTexts))?;
-    schemes.push(AnyScheme::FoR(FoRScheme::v1()))?;
-    schemes.push(AnyScheme::ZigZag(ZigZagScheme))?;
-    schemes.push(AnyScheme::BitPacking(BitPackingScheme::v1()))?;
-    schemes.push(AnyScheme::Sparse(SparseScheme))?;
-    schemes.push(AnyScheme::IntDict(IntDictScheme))?;
-    schemes.push(AnyScheme::RunEnd(RunEndScheme))?;
-    schemes.push(AnyScheme::Sequence(SequenceScheme))?;
-    schemes.push(AnyScheme::IntRLE(IntRLEScheme))?;
-    schemes.push(AnyScheme::Delta(DeltaScheme::default()))?;
+    let mut schemes = shipped_schemes(alloc)?;
+    schemes.insert(0, AnyScheme::Own(JoinedTexts))?;
     Ok(Schemes::from_vec(schemes))
 }
 

@@ -8,27 +8,14 @@ ghost use Rattle.vx_examples.specs.QuickPacking.{quick_packing, with_quick_packi
 use super::QuickPacking;
 use std::alloc::Global;
 use vx_base::VortexResult;
-use vx_btrblocks::{AnyScheme, BtrBlocksCompressor};
+use vx_btrblocks::{AnyScheme, BtrBlocksCompressor, shipped_schemes};
 use vx_compressor::{CascadingCompressor, Schemes};
-use vx_schemes::{
-    BitPackingScheme, DeltaScheme, FoRScheme, IntDictScheme, IntRLEScheme, RunEndScheme,
-    SequenceScheme, SparseScheme, ZigZagScheme,
-};
 
 // The shipped schemes in their order, and then the caller's.
 fn schemes(alloc: Global) -> VortexResult<Schemes<AnyScheme<QuickPacking>>>
     ensures { OrMemory result (λ schemes. map (any_meaning (λ scheme. quick_packing)) schemes ≡ with_quick_packing) }
 {
-    let mut schemes = Vec::new(alloc);
-    schemes.push(AnyScheme::FoR(FoRScheme::v1()))?;
-    schemes.push(AnyScheme::ZigZag(ZigZagScheme))?;
-    schemes.push(AnyScheme::BitPacking(BitPackingScheme::v1()))?;
-    schemes.push(AnyScheme::Sparse(SparseScheme))?;
-    schemes.push(AnyScheme::IntDict(IntDictScheme))?;
-    schemes.push(AnyScheme::RunEnd(RunEndScheme))?;
-    schemes.push(AnyScheme::Sequence(SequenceScheme))?;
-    schemes.push(AnyScheme::IntRLE(IntRLEScheme))?;
-    schemes.push(AnyScheme::Delta(DeltaScheme::default()))?;
+    let mut schemes = shipped_schemes(alloc)?;
     schemes.push(AnyScheme::Own(QuickPacking::new()))?;
     Ok(Schemes::from_vec(schemes))
 }

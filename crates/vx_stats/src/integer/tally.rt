@@ -1,7 +1,6 @@
 //! One pass over integers.
 
 ghost use Rattle.std.specs.Prelude.{◌≡◌, ◌<◌, ◌≤◌, ◌^◌, length, map, true, if◌then◌else◌};
-ghost use Rattle.std.specs.Int.{int_min, int_max};
 ghost use Rattle.std.specs.Ordering.{int_eq};
 ghost use Rattle.vx_base.specs.PlainValue.{int};
 ghost use Rattle.vx_model.specs.Refusals.{validity_length};
@@ -10,6 +9,7 @@ ghost use Rattle.vx_stats.specs.Stats.{valid_wholes};
 ghost use Rattle.vx_stats.specs.Tally.{IsTallyAfter, IsTallyOf};
 
 use vx_base::{Integer, Mask};
+use vx_blocks::{greater, lesser};
 
 /// What is seen of integers, one after another: how often one differs from the one before, the least and the greatest.
 #[derive(Drop)]
@@ -17,20 +17,6 @@ pub(crate) struct Tally<T: Integer> {
     pub(crate) changes: u32,
     pub(crate) min: T,
     pub(crate) max: T,
-}
-
-#[inline(always)]
-fn lesser<T: Integer>(a: T, b: T) -> T
-    ensures { T.whole result ≡ int_min (T.whole a) (T.whole b) }
-{
-    a.min(b)
-}
-
-#[inline(always)]
-fn greater<T: Integer>(a: T, b: T) -> T
-    ensures { T.whole result ≡ int_max (T.whole a) (T.whole b) }
-{
-    a.max(b)
 }
 
 // 1 where an integer isn't the one before.

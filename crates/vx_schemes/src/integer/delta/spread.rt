@@ -1,10 +1,8 @@
 //! How far the differences from row to row lie apart.
 
-ghost use Rattle.std.specs.Prelude.{◌≡◌, ◌≤ℤ◌, ◌-ℤ◌, IsTrue, if◌then◌else◌, length, map, pos};
-ghost use Rattle.std.specs.Int.{int_min, int_max};
+ghost use Rattle.std.specs.Prelude.{◌≡◌, ◌≤ℤ◌, ◌-ℤ◌, IsTrue, length, map, pos};
 ghost use Rattle.vx_base.specs.Answers.{Answers};
 ghost use Rattle.vx_base.specs.PlainType.{is_integer};
-ghost use Rattle.vx_base.specs.Wrapping.{wrap};
 ghost use Rattle.vx_blocks.specs.Deltas.{deltas, filled};
 ghost use Rattle.vx_blocks.specs.Optional.{optional_rows};
 ghost use Rattle.vx_model.specs.Column.{column_of};
@@ -18,6 +16,7 @@ use crate::integer::bit_packing::mask_of;
 use std::alloc::Global;
 use vx_array::ArrayRef;
 use vx_base::{Integer, Mask, VortexResult};
+use vx_blocks::{difference, greater, item_or, lesser};
 use vx_values::Ints;
 
 /// The greatest of the differences of a plain column of integers less the least, in one pass that makes none of them; None
@@ -75,37 +74,6 @@ fn spread_of<T: Integer>(items: &[T], bits: &[bool], most: u64) -> Option<u64>
     }
     let span = apart(least, greatest);
     if span > most { None } else { Some(span) }
-}
-
-// The item of a row, and where it isn't valid the one before.
-#[inline(always)]
-fn item_or<T: Integer>(valid: bool, item: T, last: T) -> T
-    ensures { T.whole result ≡ (if valid then T.whole item else T.whole last) }
-{
-    if valid { item } else { last }
-}
-
-// The difference of an integer from another, wrapped into their type.
-#[inline(always)]
-fn difference<T: Integer>(a: T, b: T) -> T
-    ensures { T.whole result ≡ wrap T.kind (T.whole a -ℤ T.whole b) }
-{
-    let (_a, _b) = (a.to_whole(), b.to_whole());
-    T::from_low_bits(a.to_bits().wrapping_sub(b.to_bits()))
-}
-
-#[inline(always)]
-fn lesser<T: Integer>(a: T, b: T) -> T
-    ensures { T.whole result ≡ int_min (T.whole a) (T.whole b) }
-{
-    a.min(b)
-}
-
-#[inline(always)]
-fn greater<T: Integer>(a: T, b: T) -> T
-    ensures { T.whole result ≡ int_max (T.whole a) (T.whole b) }
-{
-    a.max(b)
 }
 
 // A number less another that is no greater.

@@ -1,6 +1,6 @@
 use Rattle.std.proofs.Common.{◌∙◌, ap}
 use Rattle.std.specs.Ordering.{is_lt, is_some_and}
-use Rattle.vx_stats.proofs.TallyLemmas.{less}
+use Rattle.vx_blocks.proofs.Extremes.{less}
 use Rattle.vx_stats.proofs.integer.rising.is_less.Goals as goal
 
 pub returns : goal.returns

@@ -2,7 +2,7 @@ use Rattle.std.proofs.Common.{◌+◌, ◌%◌, ◌^◌, ◌∙◌}
 use Rattle.vx_base.specs.Integers.{bits_of}
 use Rattle.vx_base.specs.Wrapping.{from_bits}
 use Rattle.vx_blocks.proofs.WrapsAgain.{sum-by_bits}
-use Rattle.vx_blocks.proofs.undeltas.sum.Goals as goal
+use Rattle.vx_blocks.proofs.arithmetic.sum.Goals as goal
 
 pub returns : goal.returns
 returns g c =

@@ -2,7 +2,7 @@ use Rattle.std.proofs.Common.{◌+◌, ◌-◌, ◌%◌, ◌^◌, ◌∙◌}
 use Rattle.vx_base.specs.Integers.{bits_of}
 use Rattle.vx_base.specs.Wrapping.{from_bits}
 use Rattle.vx_blocks.proofs.WrapsAgain.{difference-by_bits}
-use Rattle.vx_schemes.proofs.integer.delta.spread.difference.Goals as goal
+use Rattle.vx_blocks.proofs.arithmetic.difference.Goals as goal
 
 pub returns : goal.returns
 returns g c =

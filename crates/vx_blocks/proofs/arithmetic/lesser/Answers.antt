@@ -1,6 +1,6 @@
 use Rattle.std.proofs.Common.{◌∙◌, ap}
-use Rattle.vx_stats.proofs.TallyLemmas.{whole-min}
-use Rattle.vx_schemes.proofs.integer.delta.spread.lesser.Goals as goal
+use Rattle.vx_blocks.proofs.Extremes.{whole-min}
+use Rattle.vx_blocks.proofs.arithmetic.lesser.Goals as goal
 
 pub returns : goal.returns
 returns g c = ap g.T.Integer.whole c.min.ensures ∙ whole-min g.T.Integer.whole g.T.Ord.cmp g.met.T.Integer.ordered c.args.a c.args.b

@@ -1,0 +1,49 @@
+//! What kernels compute of one or two integers.
+
+ghost use Rattle.std.specs.Prelude.{◌≡◌, ◌+ℤ◌, ◌-ℤ◌, if◌then◌else◌};
+ghost use Rattle.std.specs.Int.{int_min, int_max};
+ghost use Rattle.vx_base.specs.Wrapping.{wrap};
+
+use vx_base::Integer;
+
+/// The sum of two integers, wrapped into their type.
+#[inline(always)]
+pub fn sum<T: Integer>(a: T, b: T) -> T
+    ensures { T.whole result ≡ wrap T.kind (T.whole a +ℤ T.whole b) }
+{
+    let (_a, _b) = (a.to_whole(), b.to_whole());
+    T::from_low_bits(a.to_bits().wrapping_add(b.to_bits()))
+}
+
+/// The difference of an integer from another, wrapped into their type.
+#[inline(always)]
+pub fn difference<T: Integer>(a: T, b: T) -> T
+    ensures { T.whole result ≡ wrap T.kind (T.whole a -ℤ T.whole b) }
+{
+    let (_a, _b) = (a.to_whole(), b.to_whole());
+    T::from_low_bits(a.to_bits().wrapping_sub(b.to_bits()))
+}
+
+/// The item of a row, and where it isn't valid the one before.
+#[inline(always)]
+pub fn item_or<T: Integer>(valid: bool, item: T, last: T) -> T
+    ensures { T.whole result ≡ (if valid then T.whole item else T.whole last) }
+{
+    if valid { item } else { last }
+}
+
+/// The lesser of two integers.
+#[inline(always)]
+pub fn lesser<T: Integer>(a: T, b: T) -> T
+    ensures { T.whole result ≡ int_min (T.whole a) (T.whole b) }
+{
+    a.min(b)
+}
+
+/// The greater of two integers.
+#[inline(always)]
+pub fn greater<T: Integer>(a: T, b: T) -> T
+    ensures { T.whole result ≡ int_max (T.whole a) (T.whole b) }
+{
+    a.max(b)
+}

@@ -1,6 +1,0 @@
-use Rattle.std.proofs.Common.{◌∙◌, ap}
-use Rattle.vx_stats.proofs.TallyLemmas.{whole-min}
-use Rattle.vx_stats.proofs.integer.tally.lesser.Goals as goal
-
-pub returns : goal.returns
-returns g c = ap g.T.Integer.whole c.min.ensures ∙ whole-min g.T.Integer.whole g.T.Ord.cmp g.met.T.Integer.ordered c.args.a c.args.b
