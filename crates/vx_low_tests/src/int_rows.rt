@@ -1,10 +1,15 @@
 //! Runs, sequences and deltas of lists of integers, once each. A list is let go before the one way out of a test.
 
+ghost use Rattle.std.specs.Prelude.{◌≡◌, length};
+ghost use Rattle.vx_base.specs.Answers.{OrMemory};
+ghost use Rattle.vx_values.specs.IntsOf.{wholes_of};
+
 use crate::ints::{are_wholes, shows};
 use std::alloc::Global;
 use std::test::Fail;
 use vx_base::PType::{I16, I32};
 use vx_base::{IntList, Mask, VortexResult};
+use vx_blocks::BlockRuns;
 use vx_values::Ints;
 
 // Whether a block of 1,024 rows has this one first, this one behind it, and this one in each row that is left.
@@ -20,26 +25,35 @@ fn is_block(rows: &Ints, first: i128, second: i128, others: i128) -> bool {
     true
 }
 
+// 5 twice, two nulls and 5 again.
+fn fives(alloc: Global) -> VortexResult<(Ints, Mask)>
+    ensures { OrMemory result (λ made. length made.1 ≡ length (wholes_of made.0)) }
+{
+    let valid = Mask::from_bits(vec![in alloc; true, true, false, false, true]?);
+    let values = Ints::I32(IntList::from_vec(vec![in alloc; 5, 5, 6, 7, 5]?));
+    Ok((values, valid))
+}
+
 #[test]
 fn runs_end(rt: HostRuntime) -> Result<(), Fail> {
-    let valid = Mask::from_bits(vec![in rt.alloc(); true, true, false, false, true]?);
-    let values = Ints::I32(IntList::from_vec(vec![in rt.alloc(); 5, 5, 6, 7, 5]?));
-    let ends = values.runs(rt.alloc(), &valid);
-    drop(values);
-    assert_eq!(rt; ends?.as_slice(), [2, 4, 5].as_slice());
+    let (values, valid) = fives(rt.alloc())?;
+    let ends = values.runs(rt.alloc(), &valid)?;
+    assert!(rt; ends.as_slice() == [2, 4, 5].as_slice());
     Ok(())
+}
+
+// Whether runs in one block have these heads, and row 3 is in the second.
+fn begin_at(made: &BlockRuns, heads: &[u64]) -> bool {
+    made.heads.as_slice() == heads
+        && made.offsets.as_slice() == [0].as_slice()
+        && made.numbers.get(3) == Some(&1)
 }
 
 #[test]
 fn runs_begin_in_their_block(rt: HostRuntime) -> Result<(), Fail> {
-    let valid = Mask::from_bits(vec![in rt.alloc(); true, true, false, false, true]?);
-    let values = Ints::I32(IntList::from_vec(vec![in rt.alloc(); 5, 5, 6, 7, 5]?));
-    let made = values.block_runs(rt.alloc(), &valid);
-    drop(values);
-    let made = made?;
-    assert_eq!(rt; made.heads.as_slice(), [0, 2, 4].as_slice());
-    assert_eq!(rt; made.offsets.as_slice(), [0].as_slice());
-    assert_eq!(rt; made.numbers.get(3).copied(), Some(1));
+    let (values, valid) = fives(rt.alloc())?;
+    let made = values.block_runs(rt.alloc(), &valid)?;
+    assert!(rt; begin_at(&made, &[0, 2, 4]));
     Ok(())
 }
 

@@ -7,11 +7,13 @@ use vx_base::{Bytes, Mask, Text, Words};
 fn masks_are_sliced_copied_and_gathered(rt: HostRuntime) -> Result<(), Fail> {
     let mask = Mask::from_bits(vec![in rt.alloc(); true, false, true]?);
     let part = mask.slice(rt.alloc(), 1, 3)?;
-    assert_eq!(rt; part.as_slice(), [false, true].as_slice());
     let copy = mask.copy(rt.alloc())?;
-    assert_eq!(rt; copy.as_slice(), [true, false, true].as_slice());
     let rows = mask.gather(rt.alloc(), &[(1, 3), (0, 1)])?;
-    assert_eq!(rt; rows.as_slice(), [false, true, true].as_slice());
+    assert!(rt;
+        part.as_slice() == [false, true].as_slice()
+            && copy.as_slice() == [true, false, true].as_slice()
+            && rows.as_slice() == [false, true, true].as_slice()
+    );
     Ok(())
 }
 

@@ -5,7 +5,9 @@ ghost use Rattle.std.specs.Prelude.{◌≡◌, length, vec_len, IfOk};
 use std::alloc::{AllocError, Global};
 use std::test::Fail;
 use vx_base::Mask;
-use vx_blocks::{block_runs, delta_blocks, runs, sequence_of, undelta, undelta_gives_back};
+use vx_blocks::{
+    BlockRuns, block_runs, delta_blocks, runs, sequence_of, undelta, undelta_gives_back,
+};
 
 fn all_valid(alloc: Global, rows: usize) -> Result<Mask, AllocError>
     ensures { IfOk result (λ mask. length mask ≡ rows) }
@@ -24,21 +26,24 @@ fn waves(alloc: Global, rows: usize) -> Result<Vec<u8>, AllocError>
     Ok(values)
 }
 
+// Whether runs in blocks have these heads and offsets, and numbers for so many rows that begin so.
+fn are_runs(made: &BlockRuns, heads: &[u64], offsets: &[u64], rows: u64, begin: &[u64]) -> bool {
+    made.heads.as_slice() == heads
+        && made.offsets.as_slice() == offsets
+        && made.numbers.len() == rows
+        && made.numbers.as_slice().starts_with(begin)
+}
+
 // What lies beneath the nulls is equal to the row before, and differs.
 #[test]
 fn runs_with_nulls(rt: HostRuntime) -> Result<(), Fail> {
     let values = [7i32, 7, 7, 9, 8];
     let valid = Mask::from_bits(vec![in rt.alloc(); true, true, false, false, true]?);
     let ends = runs(rt.alloc(), &values, &valid)?;
-    assert_eq!(rt; ends.as_slice(), [2, 4, 5].as_slice());
     let made = block_runs(rt.alloc(), &values, &valid)?;
-    assert_eq!(rt; made.heads.as_slice(), [0, 2, 4].as_slice());
-    assert_eq!(rt; made.offsets.as_slice(), [0].as_slice());
-    assert_eq!(rt; made.numbers.len(), 1024);
     assert!(rt;
-        made.numbers
-            .as_slice()
-            .starts_with([0, 0, 1, 1, 2, 0].as_slice())
+        ends.as_slice() == [2, 4, 5].as_slice()
+            && are_runs(&made, &[0, 2, 4], &[0], 1024, &[0, 0, 1, 1, 2, 0])
     );
     Ok(())
 }
@@ -49,26 +54,28 @@ fn runs_end_with_their_block(rt: HostRuntime) -> Result<(), Fail> {
     let values = vec![in rt.alloc(); 7u8; rows]?;
     let valid = all_valid(rt.alloc(), rows)?;
     let ends = runs(rt.alloc(), values.as_slice(), &valid)?;
-    assert_eq!(rt; ends.as_slice(), [1500].as_slice());
     let made = block_runs(rt.alloc(), values.as_slice(), &valid)?;
-    assert_eq!(rt; made.heads.as_slice(), [0, 1024].as_slice());
-    assert_eq!(rt; made.offsets.as_slice(), [0, 1].as_slice());
-    assert_eq!(rt; made.numbers.len(), 2048);
+    assert!(rt;
+        ends.as_slice() == [1500].as_slice() && are_runs(&made, &[0, 1024], &[0, 1], 2048, &[0, 0])
+    );
     Ok(())
 }
 
 #[test]
 fn no_rows(rt: HostRuntime) -> Result<(), Fail> {
     let valid = all_valid(rt.alloc(), 0)?;
-    assert_eq!(rt; runs::<u8>(rt.alloc(), &[], &valid)?.len(), 0);
+    let ends = runs::<u8>(rt.alloc(), &[], &valid)?;
     let made = block_runs::<u8>(rt.alloc(), &[], &valid)?;
-    assert_eq!(rt; made.offsets.len(), 0);
+    assert!(rt; ends.is_empty() && are_runs(&made, &[], &[], 0, &[]));
+    Ok(())
+}
+
+#[test]
+fn no_deltas(rt: HostRuntime) -> Result<(), Fail> {
+    let valid = all_valid(rt.alloc(), 0)?;
     let (bases, deltas) = delta_blocks::<u8>(rt.alloc(), &[], &valid)?;
-    assert_eq!(rt; bases.len(), 0);
-    assert_eq!(rt;
-        undelta(rt.alloc(), bases.as_slice(), deltas.as_slice())?.len(),
-        0
-    );
+    let rows = undelta(rt.alloc(), bases.as_slice(), deltas.as_slice())?;
+    assert!(rt; bases.is_empty() && rows.is_empty());
     Ok(())
 }
 
@@ -87,9 +94,11 @@ fn deltas_of_nulls(rt: HostRuntime) -> Result<(), Fail> {
     let values = [9u8, 3, 200, 10];
     let valid = Mask::from_bits(vec![in rt.alloc(); false, true, false, true]?);
     let (bases, deltas) = delta_blocks(rt.alloc(), &values, &valid)?;
-    assert_eq!(rt; bases.as_slice(), [0].as_slice());
-    assert_eq!(rt; deltas.len(), 1024);
-    assert!(rt; deltas.as_slice().starts_with([0, 3, 0, 7, 0].as_slice()));
+    assert!(rt;
+        bases.as_slice() == [0].as_slice()
+            && deltas.len() == 1024
+            && deltas.as_slice().starts_with([0, 3, 0, 7, 0].as_slice())
+    );
     Ok(())
 }
 
@@ -99,10 +108,12 @@ fn deltas_and_back(rt: HostRuntime) -> Result<(), Fail> {
     let values = waves(rt.alloc(), 2100)?;
     let valid = all_valid(rt.alloc(), values.len())?;
     let (bases, deltas) = delta_blocks(rt.alloc(), values.as_slice(), &valid)?;
-    assert_eq!(rt; bases.as_slice(), [0, 80, 160].as_slice());
-    assert_eq!(rt; deltas.len(), 3072);
     let rows = undelta(rt.alloc(), bases.as_slice(), deltas.as_slice())?;
-    assert!(rt; rows.as_slice().starts_with(values.as_slice()));
+    assert!(rt;
+        bases.as_slice() == [0, 80, 160].as_slice()
+            && deltas.len() == 3072
+            && rows.as_slice().starts_with(values.as_slice())
+    );
     undelta_gives_back();
     Ok(())
 }
