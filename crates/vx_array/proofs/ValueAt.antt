@@ -100,14 +100,14 @@ no_other (nodes.BitPacked p width bs len valid None m) w f a b c d e g = absurd 
 no_other (nodes.BitPacked p width bs len valid (Some patches) m) w f a b c d e g = absurd cc
 no_other (nodes.FoR encoded reference) w f a b c d e g = absurd cc
 no_other (nodes.ZigZag encoded) w f a b c d e g = absurd cc
-no_other (nodes.Dict codes values) w f a b c d e g = let flat = dict_flat (tree_type codes.value) (tree_type values.value) w.2.values_type in absurd cc
+no_other (nodes.Dict codes values) w f a b c d e g = let flat = dict_flat (tree_type codes.array.value) (tree_type values.array.value) w.2.values_type in absurd cc
 no_other (nodes.Null len) w f a b c d e g = b len refl
 no_other (nodes.Struct names fields len valid m) w f a b c d e g = c names fields len valid m refl
 no_other (nodes.List elements offsets valid m) w f a b c d e g = d elements offsets valid m refl
 no_other (nodes.FixedSizeList elements size len valid m) w f a b c d e g = e elements size len valid m refl
 no_other (nodes.Sparse patches fill) w f a b c d e g = g patches fill refl
-no_other (nodes.RunEnd ends values) w f a b c d e g = let flat = integer_flat (tree_type values.value) w.2.values_type in absurd cc
-no_other (nodes.Rle values indices offsets len) w f a b c d e g = let flat = integer_flat (tree_type values.value) w.3.values_type in absurd cc
+no_other (nodes.RunEnd ends values) w f a b c d e g = let flat = integer_flat (tree_type values.array.value) w.2.values_type in absurd cc
+no_other (nodes.Rle values indices offsets len) w f a b c d e g = let flat = integer_flat (tree_type values.array.value) w.3.values_type in absurd cc
 no_other (nodes.Sequence p m first step len) w f a b c d e g = absurd cc
 no_other (nodes.Delta bases deltas len valid m) w f a b c d e g = absurd cc
 

@@ -10,7 +10,7 @@ use vx_base::{
 };
 use vx_values::Ints;
 
-/// The root of a tree with its own fields. Children stand in boxes.
+/// The root of a tree with its own fields.
 #[cycle(tree)]
 #[derive(Drop)]
 pub enum Node {
@@ -21,45 +21,54 @@ pub enum Node {
     /// Texts or binaries, their validity and type. No children.
     VarBinView(ByteRows, Option<Mask>, DType),
     /// Texts or binaries, each the bytes from child 0's offset in its row to the next one; their validity and type.
-    VarBin(Box<ArrayRef>, Bytes, Option<Mask>, DType),
+    VarBin(Child, Bytes, Option<Mask>, DType),
     /// Timestamps of a kind, which child 0 has as whole numbers.
-    Timestamp(Box<ArrayRef>, TimestampType),
+    Timestamp(Child, TimestampType),
     /// One scalar in every row, and the number of rows. No children.
     Constant(Scalar, u64),
     /// Child 0's rows, null where the mask is false.
-    Masked(Box<ArrayRef>, Mask),
+    Masked(Child, Mask),
     /// Integers of a type, `width` bits each: type, width, bytes, rows, validity, patches and nullability. The children
     /// are the patches' indices and values, where there are patches.
     BitPacked(PType, u32, Bytes, u64, Option<Mask>, Option<Box<Patches>>, Nullability),
     /// Child 0's integers, each summed with the reference in the reference's type.
-    FoR(Box<ArrayRef>, Scalar),
+    FoR(Child, Scalar),
     /// The integers whose zigzag child 0's are.
-    ZigZag(Box<ArrayRef>),
+    ZigZag(Child),
     /// Child 1's values by their places, which child 0 has row by row.
-    Dict(Box<ArrayRef>, Box<ArrayRef>),
+    Dict(Child, Child),
     /// So many nulls. No children.
     Null(u64),
     /// The names of fields, the fields, the number of rows, their validity and nullability. A child for each field, with
     /// as many rows.
     Struct(Names, Arrays, u64, Option<Mask>, Nullability),
     /// Child 0's rows from child 1's offset in a row to the next one; the lists' validity and nullability.
-    List(Box<ArrayRef>, Box<ArrayRef>, Option<Mask>, Nullability),
+    List(Child, Child, Option<Mask>, Nullability),
     /// Child 0's rows, so many (the second) in each of so many lists (the third); their validity and nullability.
-    FixedSizeList(Box<ArrayRef>, u32, u64, Option<Mask>, Nullability),
+    FixedSizeList(Child, u32, u64, Option<Mask>, Nullability),
     /// The patches' values in their rows and the scalar in every other one. The children are the patches' indices and
     /// values.
     Sparse(Box<Patches>, Scalar),
     /// Runs of integers: child 1's values, each up to before the row where child 0 ends it.
-    RunEnd(Box<ArrayRef>, Box<ArrayRef>),
+    RunEnd(Child, Child),
     /// Child 0's values by their places, and the number of rows: the sum of child 1's number in the row and child 2's in
     /// the row's block of 1,024.
-    Rle(Box<ArrayRef>, Box<ArrayRef>, Box<ArrayRef>, u64),
+    Rle(Child, Child, Child, u64),
     /// Integers of a type: type, nullability, the first one, the step from each to the next, and the number of rows. No
     /// children.
     Sequence(PType, Nullability, i128, i128, u64),
     /// Integers by the differences between them, child 1's, which are summed from child 0's number for the row's block of
     /// 1,024 on; the number of rows, their validity and nullability.
-    Delta(Box<ArrayRef>, Box<ArrayRef>, u64, Option<Mask>, Nullability),
+    Delta(Child, Child, u64, Option<Mask>, Nullability),
+}
+
+/// A tree within another one, in a box. A type of its own, so that a check of a function over trees follows the way back to
+/// the root's type once, and not at each child of each node.
+#[cycle(tree)]
+#[derive(Drop)]
+pub struct Child {
+    /// The tree.
+    pub array: Box<ArrayRef>,
 }
 
 /// Values, and the rows of an array where they stand in place of its own: the value whose index is x stands at row
@@ -264,30 +273,30 @@ impl ArrayRef {
         ensures { option_copied result ≡ slice_get (children self.now) place }
     {
         match &self.node {
-            Node::VarBin(offsets, _, _, _) if place == 0 => Some(offsets),
-            Node::Timestamp(storage, _) if place == 0 => Some(storage),
-            Node::Masked(child, _) if place == 0 => Some(child),
-            Node::FoR(encoded, _) if place == 0 => Some(encoded),
-            Node::ZigZag(encoded) if place == 0 => Some(encoded),
-            Node::Dict(codes, _) if place == 0 => Some(codes),
-            Node::Dict(_, values) if place == 1 => Some(values),
+            Node::VarBin(offsets, _, _, _) if place == 0 => Some(&offsets.array),
+            Node::Timestamp(storage, _) if place == 0 => Some(&storage.array),
+            Node::Masked(child, _) if place == 0 => Some(&child.array),
+            Node::FoR(encoded, _) if place == 0 => Some(&encoded.array),
+            Node::ZigZag(encoded) if place == 0 => Some(&encoded.array),
+            Node::Dict(codes, _) if place == 0 => Some(&codes.array),
+            Node::Dict(_, values) if place == 1 => Some(&values.array),
             Node::BitPacked(_, _, _, _, _, Some(patches), _) if place == 0 => Some(
                 &patches.indices,
             ),
             Node::BitPacked(_, _, _, _, _, Some(patches), _) if place == 1 => Some(&patches.values),
             Node::Struct(_, fields, _, _, _) => fields.get(place as u64),
-            Node::List(elements, _, _, _) if place == 0 => Some(elements),
-            Node::List(_, offsets, _, _) if place == 1 => Some(offsets),
-            Node::FixedSizeList(elements, _, _, _, _) if place == 0 => Some(elements),
+            Node::List(elements, _, _, _) if place == 0 => Some(&elements.array),
+            Node::List(_, offsets, _, _) if place == 1 => Some(&offsets.array),
+            Node::FixedSizeList(elements, _, _, _, _) if place == 0 => Some(&elements.array),
             Node::Sparse(patches, _) if place == 0 => Some(&patches.indices),
             Node::Sparse(patches, _) if place == 1 => Some(&patches.values),
-            Node::RunEnd(ends, _) if place == 0 => Some(ends),
-            Node::RunEnd(_, values) if place == 1 => Some(values),
-            Node::Rle(values, _, _, _) if place == 0 => Some(values),
-            Node::Rle(_, indices, _, _) if place == 1 => Some(indices),
-            Node::Rle(_, _, offsets, _) if place == 2 => Some(offsets),
-            Node::Delta(bases, _, _, _, _) if place == 0 => Some(bases),
-            Node::Delta(_, deltas, _, _, _) if place == 1 => Some(deltas),
+            Node::RunEnd(ends, _) if place == 0 => Some(&ends.array),
+            Node::RunEnd(_, values) if place == 1 => Some(&values.array),
+            Node::Rle(values, _, _, _) if place == 0 => Some(&values.array),
+            Node::Rle(_, indices, _, _) if place == 1 => Some(&indices.array),
+            Node::Rle(_, _, offsets, _) if place == 2 => Some(&offsets.array),
+            Node::Delta(bases, _, _, _, _) if place == 0 => Some(&bases.array),
+            Node::Delta(_, deltas, _, _, _) if place == 1 => Some(&deltas.array),
             _ => None,
         }
     }

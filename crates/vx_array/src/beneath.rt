@@ -33,8 +33,14 @@ impl ArrayRef {
         }
         match &self.node {
             Node::Struct(_, fields, _, _, _) => fields.are_default_at(row),
-            Node::List(elements, offsets, _, _) => is_empty_at(elements, offsets, row),
-            Node::FixedSizeList(elements, size, _, _, _) => elements.part_is_default(*size, row),
+            Node::List(elements, offsets, _, _) => is_empty_at(
+                &elements.array,
+                &offsets.array,
+                row,
+            ),
+            Node::FixedSizeList(elements, size, _, _, _) => elements
+                .array
+                .part_is_default(*size, row),
             Node::Null(_) | Node::Constant(_, _) | Node::Sparse(_, _) => unreachable!(),
             _ => is_zero(self.cell_at(row)),
         }

@@ -60,26 +60,26 @@ impl ArrayRef {
             Node::Primitive(values, valid, _) => decoded_primitive(alloc, values, valid),
             Node::VarBinView(values, valid, _) => decoded_view(alloc, values, valid),
             Node::VarBin(offsets, bytes, valid, _) => {
-                let (offsets, _) = offsets.decoded(alloc)?.into_integers();
+                let (offsets, _) = offsets.array.decoded(alloc)?.into_integers();
                 decoded_var_bin(alloc, &offsets, bytes, valid)
             }
-            Node::Timestamp(storage, _) => storage.decoded(alloc),
+            Node::Timestamp(storage, _) => storage.array.decoded(alloc),
             Node::Constant(value, len) => decoded_constant(alloc, value, *len),
-            Node::Masked(child, mask) => decoded_masked(alloc, child.decoded(alloc)?, mask),
+            Node::Masked(child, mask) => decoded_masked(alloc, child.array.decoded(alloc)?, mask),
             Node::BitPacked(ptype, width, packed, len, valid, patches, _) => {
                 decoded_packed(alloc, *ptype, *width, packed, *len, valid, patches)
             }
             Node::FoR(encoded, reference) => {
-                let (differences, valid) = encoded.decoded(alloc)?.into_integers();
+                let (differences, valid) = encoded.array.decoded(alloc)?.into_integers();
                 decoded_moved(alloc, differences, valid, reference)
             }
             Node::ZigZag(encoded) => {
-                let (zigzags, valid) = encoded.decoded(alloc)?.into_integers();
+                let (zigzags, valid) = encoded.array.decoded(alloc)?.into_integers();
                 decoded_zig_zag(alloc, zigzags, valid)
             }
             Node::Dict(codes, values) => {
-                let (codes, valid) = codes.decoded(alloc)?.into_integers();
-                decoded_by_codes(alloc, codes, valid, values.decoded(alloc)?)
+                let (codes, valid) = codes.array.decoded(alloc)?.into_integers();
+                decoded_by_codes(alloc, codes, valid, values.array.decoded(alloc)?)
             }
             Node::Sparse(_, _) => self.decoded_runs(alloc),
             Node::RunEnd(_, _) => self.decoded_runs(alloc),
@@ -105,20 +105,20 @@ impl ArrayRef {
                 decoded_sparse(alloc, patches, fill, &indices, values)
             }
             Node::RunEnd(ends, values) => {
-                let (ends, _) = ends.decoded(alloc)?.into_integers();
+                let (ends, _) = ends.array.decoded(alloc)?.into_integers();
                 let runs = run_places(alloc, &ends)?;
-                decoded_by_codes(alloc, runs, None, values.decoded(alloc)?)
+                decoded_by_codes(alloc, runs, None, values.array.decoded(alloc)?)
             }
             Node::Rle(values, indices, offsets, len) => {
-                let _places = values.len();
-                let (indices, _) = indices.decoded(alloc)?.into_integers();
-                let (offsets, _) = offsets.decoded(alloc)?.into_integers();
+                let _places = values.array.len();
+                let (indices, _) = indices.array.decoded(alloc)?.into_integers();
+                let (offsets, _) = offsets.array.decoded(alloc)?.into_integers();
                 let places = block_places(alloc, &indices, &offsets, *len)?;
-                decoded_by_codes(alloc, places, None, values.decoded(alloc)?)
+                decoded_by_codes(alloc, places, None, values.array.decoded(alloc)?)
             }
             Node::Delta(bases, deltas, len, valid, _) => {
-                let (bases, _) = bases.decoded(alloc)?.into_integers();
-                let (deltas, _) = deltas.decoded(alloc)?.into_integers();
+                let (bases, _) = bases.array.decoded(alloc)?.into_integers();
+                let (deltas, _) = deltas.array.decoded(alloc)?.into_integers();
                 decoded_delta(alloc, &bases, &deltas, *len, valid)
             }
             Node::Sequence(ptype, _, first, step, len) => {

@@ -41,38 +41,80 @@ impl Node {
             Node::Primitive(values, valid, nulls) => copied_primitive(alloc, values, valid, *nulls),
             Node::VarBinView(values, valid, dtype) => copied_view(alloc, values, valid, dtype),
             Node::VarBin(offsets, bytes, valid, dtype) => {
-                copied_var_bin(alloc, offsets.copy(alloc)?, bytes, valid, dtype)
+                copied_var_bin(alloc, offsets.array.copy(alloc)?, bytes, valid, dtype)
             }
-            Node::Timestamp(storage, kind) => copied_timestamp(alloc, storage.copy(alloc)?, kind),
+            Node::Timestamp(storage, kind) => copied_timestamp(
+                alloc,
+                storage.array.copy(alloc)?,
+                kind,
+            ),
             Node::Constant(value, len) => copied_constant(alloc, value, *len),
-            Node::Masked(child, valid) => copied_masked(alloc, child.copy(alloc)?, valid),
+            Node::Masked(child, valid) => copied_masked(alloc, child.array.copy(alloc)?, valid),
             Node::BitPacked(ptype, width, packed, len, valid, patches, nulls) => {
                 copied_packed(alloc, *ptype, *width, packed, *len, valid, patches, *nulls)
             }
-            Node::FoR(encoded, reference) => copied_frame(alloc, encoded.copy(alloc)?, reference),
-            Node::ZigZag(encoded) => copied_zig_zag(alloc, encoded.copy(alloc)?),
-            Node::Dict(codes, values) => copied_dict(alloc, codes, values.copy(alloc)?),
+            Node::FoR(encoded, reference) => copied_frame(
+                alloc,
+                encoded.array.copy(alloc)?,
+                reference,
+            ),
+            Node::ZigZag(encoded) => copied_zig_zag(alloc, encoded.array.copy(alloc)?),
+            Node::Dict(codes, values) => copied_dict(
+                alloc,
+                &codes.array,
+                values.array.copy(alloc)?,
+            ),
             Node::Null(len) => Ok(Node::Null(*len)),
             Node::Struct(names, fields, len, valid, nulls) => {
                 copied_struct(alloc, names, fields.copy(alloc)?, *len, valid, *nulls)
             }
             Node::List(elements, offsets, valid, nulls) => {
-                copied_list(alloc, elements, offsets.copy(alloc)?, valid, *nulls)
+                copied_list(
+                    alloc,
+                    &elements.array,
+                    offsets.array.copy(alloc)?,
+                    valid,
+                    *nulls,
+                )
             }
             Node::FixedSizeList(elements, size, len, valid, nulls) => {
-                copied_fixed(alloc, elements.copy(alloc)?, *size, *len, valid, *nulls)
+                copied_fixed(
+                    alloc,
+                    elements.array.copy(alloc)?,
+                    *size,
+                    *len,
+                    valid,
+                    *nulls,
+                )
             }
             Node::Sparse(patches, fill) => copied_sparse(alloc, patches, fill),
-            Node::RunEnd(ends, values) => copied_runs(alloc, ends, values.copy(alloc)?),
+            Node::RunEnd(ends, values) => copied_runs(
+                alloc,
+                &ends.array,
+                values.array.copy(alloc)?,
+            ),
             Node::Rle(values, indices, offsets, len) => {
-                let indices = indices.copy(alloc)?;
-                copied_rle(alloc, values, indices, offsets.copy(alloc)?, *len)
+                let indices = indices.array.copy(alloc)?;
+                copied_rle(
+                    alloc,
+                    &values.array,
+                    indices,
+                    offsets.array.copy(alloc)?,
+                    *len,
+                )
             }
             Node::Sequence(ptype, nulls, first, step, len) => {
                 Ok(Node::Sequence(*ptype, *nulls, *first, *step, *len))
             }
             Node::Delta(bases, deltas, len, valid, nulls) => {
-                copied_delta(alloc, bases, deltas.copy(alloc)?, *len, valid, *nulls)
+                copied_delta(
+                    alloc,
+                    &bases.array,
+                    deltas.array.copy(alloc)?,
+                    *len,
+                    valid,
+                    *nulls,
+                )
             }
         }
     }

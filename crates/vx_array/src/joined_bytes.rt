@@ -13,7 +13,7 @@ ghost use Rattle.vx_model.specs.Rows.{rows};
 ghost use Rattle.vx_model.specs.Tree.{var_bin};
 ghost use Rattle.vx_model.specs.TreeType.{tree_type};
 
-use crate::array::{ArrayRef, Node};
+use crate::array::{ArrayRef, Child, Node};
 use std::alloc::Global;
 use vx_base::{ByteRows, Bytes, DType, Mask, Nullability, VortexResult};
 use vx_values::{Ints, byte_rows, copy_validity, keep};
@@ -74,7 +74,7 @@ impl ArrayRef {
         offsets.known();
         let offsets = Box::new(alloc, offsets)?;
         Ok(ArrayRef {
-            node: Node::VarBin(offsets, bytes, keep(valid), dtype),
+            node: Node::VarBin(Child { array: offsets }, bytes, keep(valid), dtype),
             own_type: None,
             len,
         })

@@ -18,7 +18,7 @@ mod reads;
 mod sizes;
 mod value_at;
 
-pub use array::{ArrayRef, Node, Patches};
+pub use array::{ArrayRef, Child, Node, Patches};
 pub use arrays::Arrays;
 pub use counting::counts_fit;
 pub use node::Made;

@@ -27,32 +27,32 @@ impl ArrayRef {
             Node::Bool(values, valid, _) => truth_at(values, valid, row),
             Node::Primitive(values, valid, _) => primitive_at(values, valid, row),
             Node::VarBinView(values, valid, _) => view_at(values, valid, row),
-            Node::VarBin(offsets, bytes, valid, _) => piece_at(offsets, bytes, valid, row),
-            Node::Timestamp(storage, _) => storage.cell_at(row),
+            Node::VarBin(offsets, bytes, valid, _) => piece_at(&offsets.array, bytes, valid, row),
+            Node::Timestamp(storage, _) => storage.array.cell_at(row),
             Node::Constant(value, _) => value.cell(),
-            Node::Masked(child, valid) => masked_at(child, valid, row),
+            Node::Masked(child, valid) => masked_at(&child.array, valid, row),
             Node::BitPacked(_, width, packed, _, valid, patches, _) => {
                 unpacked_at(*width, packed, valid, patches, row)
             }
-            Node::FoR(encoded, reference) => moved_at(reference, encoded.cell_at(row)),
-            Node::ZigZag(encoded) => unzigzagged_at(encoded.cell_at(row)),
-            Node::Dict(codes, values) => picked_at(values, codes.cell_at(row)),
+            Node::FoR(encoded, reference) => moved_at(reference, encoded.array.cell_at(row)),
+            Node::ZigZag(encoded) => unzigzagged_at(encoded.array.cell_at(row)),
+            Node::Dict(codes, values) => picked_at(&values.array, codes.array.cell_at(row)),
             Node::Sparse(patches, fill) => sparse_at(patches, fill, row),
             Node::RunEnd(ends, values) => {
-                let run = run_at(ends, row);
-                values.cell_at(run)
+                let run = run_at(&ends.array, row);
+                values.array.cell_at(run)
             }
             Node::Rle(values, indices, offsets, _) => {
-                let begin = whole_at(offsets, row / BLOCK_ROWS);
-                let index = whole_at(indices, row);
-                rle_at(values, begin, index)
+                let begin = whole_at(&offsets.array, row / BLOCK_ROWS);
+                let index = whole_at(&indices.array, row);
+                rle_at(&values.array, begin, index)
             }
             Node::Sequence(ptype, _, first, step, len) => {
                 sequence_at(*ptype, *first, *step, *len, row)
             }
             Node::Delta(bases, deltas, _, valid, _) => {
-                let base = whole_at(bases, row / BLOCK_ROWS);
-                summed_at(base, deltas, valid, row)
+                let base = whole_at(&bases.array, row / BLOCK_ROWS);
+                summed_at(base, &deltas.array, valid, row)
             }
             Node::Null(_) | Node::Struct(_, _, _, _, _) => unreachable!(),
             Node::List(_, _, _, _) | Node::FixedSizeList(_, _, _, _, _) => unreachable!(),

@@ -35,7 +35,7 @@ impl ArrayRef {
             Node::Bool(_, valid, _) => valid,
             Node::Primitive(_, valid, _) => valid,
             Node::VarBinView(_, valid, _) => valid,
-            Node::Timestamp(storage, _) => storage.validity(),
+            Node::Timestamp(storage, _) => storage.array.validity(),
             Node::Struct(_, _, _, valid, _) => valid,
             Node::List(_, _, valid, _) => valid,
             Node::FixedSizeList(_, _, _, valid, _) => valid,
@@ -84,7 +84,7 @@ impl ArrayRef {
             Node::VarBinView(values, valid, _) => {
                 byte_rows::each_null_or(values, valid, values.as_slice()[row as usize].as_slice())
             }
-            Node::Timestamp(storage, _) => storage.repeats(row),
+            Node::Timestamp(storage, _) => storage.array.repeats(row),
             _ => unreachable!(),
         }
     }
@@ -109,7 +109,7 @@ impl ArrayRef {
                 gathered_view(alloc, values, valid, dtype, ranges)
             }
             Node::Timestamp(storage, kind) => {
-                stamped(alloc, storage.gather(alloc, ranges)?, kind)
+                stamped(alloc, storage.array.gather(alloc, ranges)?, kind)
             }
             _ => unreachable!(),
         }
@@ -121,7 +121,7 @@ impl ArrayRef {
         ensures { timestamp result.0 result.1 ≡ self }
     {
         match self.into_node() {
-            Node::Timestamp(storage, kind) => (Box::into_inner(storage), kind),
+            Node::Timestamp(storage, kind) => (Box::into_inner(storage.array), kind),
             _ => unreachable!(),
         }
     }

@@ -29,22 +29,22 @@ impl ArrayRef {
             Node::Primitive(_, valid, _) => valid.is_some(),
             Node::VarBinView(_, valid, _) => valid.is_some(),
             Node::VarBin(_, _, valid, _) => valid.is_some(),
-            Node::Timestamp(storage, _) => storage.has_null(),
+            Node::Timestamp(storage, _) => storage.array.has_null(),
             Node::Constant(value, len) => constant_has_null(value, *len),
             Node::Masked(_, valid) => !valid.all_true(),
             Node::BitPacked(_, _, _, _, valid, _, _) => valid.is_some(),
-            Node::FoR(encoded, _) => encoded.has_null(),
-            Node::ZigZag(encoded) => encoded.has_null(),
+            Node::FoR(encoded, _) => encoded.array.has_null(),
+            Node::ZigZag(encoded) => encoded.array.has_null(),
             Node::Dict(codes, values) => {
-                codes.has_null() || (values.has_null() && self.has_null_row())
+                codes.array.has_null() || (values.array.has_null() && self.has_null_row())
             }
             Node::Null(len) => *len > 0,
             Node::Struct(_, _, _, valid, _) => valid.is_some(),
             Node::List(_, _, valid, _) => valid.is_some(),
             Node::FixedSizeList(_, _, _, valid, _) => valid.is_some(),
             Node::Sparse(patches, fill) => sparse_has_null(patches, fill),
-            Node::RunEnd(_, values) => values.has_null(),
-            Node::Rle(values, _, _, _) => values.has_null() && self.has_null_row(),
+            Node::RunEnd(_, values) => values.array.has_null(),
+            Node::Rle(values, _, _, _) => values.array.has_null() && self.has_null_row(),
             Node::Sequence(_, _, _, _, _) => false,
             Node::Delta(_, _, _, valid, _) => valid.is_some(),
         }
@@ -92,16 +92,17 @@ impl ArrayRef {
             Node::Bool(values, valid, _) => is_false_beneath(values, valid),
             Node::Primitive(values, valid, _) => is_zero_beneath(values, valid),
             Node::VarBinView(values, valid, _) => is_empty_beneath(values, valid),
-            Node::Timestamp(storage, _) => storage.is_plain(),
+            Node::Timestamp(storage, _) => storage.array.is_plain(),
             Node::Null(_) => true,
             Node::Struct(_, fields, _, valid, _) => fields.are_plain(valid),
             Node::List(elements, offsets, valid, _) => {
-                has_words(offsets)
-                    && are_empty_beneath(elements, offsets, valid)
-                    && elements.is_plain()
+                has_words(&offsets.array)
+                    && are_empty_beneath(&elements.array, &offsets.array, valid)
+                    && elements.array.is_plain()
             }
             Node::FixedSizeList(elements, size, len, valid, _) => {
-                elements.is_plain() && elements.parts_are_default_beneath(*size, *len, valid)
+                elements.array.is_plain()
+                    && elements.array.parts_are_default_beneath(*size, *len, valid)
             }
             _ => false,
         }

@@ -27,33 +27,46 @@ impl ArrayRef {
             Node::Bool(values, valid, _) => bool_bytes(values, valid),
             Node::Primitive(values, valid, _) => primitive_bytes(values, valid),
             Node::VarBinView(values, valid, _) => view_bytes(values, valid),
-            Node::VarBin(offsets, bytes, valid, _) => var_bin_bytes(offsets.nbytes(), bytes, valid),
-            Node::Timestamp(storage, _) => storage.nbytes(),
+            Node::VarBin(offsets, bytes, valid, _) => var_bin_bytes(
+                offsets.array.nbytes(),
+                bytes,
+                valid,
+            ),
+            Node::Timestamp(storage, _) => storage.array.nbytes(),
             Node::Constant(value, _) => constant_bytes(value),
-            Node::Masked(child, valid) => masked_bytes(child.nbytes(), valid),
+            Node::Masked(child, valid) => masked_bytes(child.array.nbytes(), valid),
             Node::BitPacked(_, width, _, len, valid, patches, _) => {
                 packed_bytes(*width, *len, valid, patches)
             }
-            Node::FoR(encoded, _) | Node::ZigZag(encoded) => encoded.nbytes(),
-            Node::Dict(codes, values) => codes.nbytes().saturating_add(values.nbytes()),
+            Node::FoR(encoded, _) | Node::ZigZag(encoded) => encoded.array.nbytes(),
+            Node::Dict(codes, values) => codes.array.nbytes().saturating_add(values.array.nbytes()),
             Node::Null(_) => 0,
             Node::Struct(_, fields, _, valid, _) => with_validity(fields.nbytes(), valid),
             Node::List(elements, offsets, valid, _) => {
-                let inside = elements.nbytes().saturating_add(offsets.nbytes());
+                let inside = elements
+                    .array
+                    .nbytes()
+                    .saturating_add(offsets.array.nbytes());
                 with_validity(inside, valid)
             }
             Node::FixedSizeList(elements, _, _, valid, _) => {
-                with_validity(elements.nbytes(), valid)
+                with_validity(elements.array.nbytes(), valid)
             }
             Node::Sparse(patches, fill) => sparse_bytes(patches, fill),
-            Node::RunEnd(ends, values) => ends.nbytes().saturating_add(values.nbytes()),
+            Node::RunEnd(ends, values) => ends.array.nbytes().saturating_add(values.array.nbytes()),
             Node::Rle(values, indices, offsets, _) => {
-                let places = indices.nbytes().saturating_add(offsets.nbytes());
-                values.nbytes().saturating_add(places)
+                let places = indices
+                    .array
+                    .nbytes()
+                    .saturating_add(offsets.array.nbytes());
+                values.array.nbytes().saturating_add(places)
             }
             Node::Sequence(_, _, _, _, _) => 0,
             Node::Delta(bases, deltas, _, valid, _) => {
-                with_validity(bases.nbytes().saturating_add(deltas.nbytes()), valid)
+                with_validity(
+                    bases.array.nbytes().saturating_add(deltas.array.nbytes()),
+                    valid,
+                )
             }
         }
     }
@@ -68,19 +81,20 @@ impl ArrayRef {
             Node::Bool(values, _, _) => is_few(values.len()),
             Node::Primitive(values, _, _) => is_few(values.len()),
             Node::VarBinView(values, _, _) => is_few(values.len()),
-            Node::VarBin(offsets, _, _, _) => var_bin_extents_fit(offsets),
-            Node::Timestamp(storage, _) => storage.extents_fit(),
+            Node::VarBin(offsets, _, _, _) => var_bin_extents_fit(&offsets.array),
+            Node::Timestamp(storage, _) => storage.array.extents_fit(),
             Node::Constant(value, len) => constant_extents_fit(value, *len),
-            Node::Masked(child, _) => child.extents_fit(),
+            Node::Masked(child, _) => child.array.extents_fit(),
             Node::BitPacked(_, _, _, len, _, _, _) => is_few(*len),
-            Node::FoR(encoded, _) | Node::ZigZag(encoded) => encoded.extents_fit(),
-            Node::Dict(codes, _) => codes.extents_fit(),
+            Node::FoR(encoded, _) | Node::ZigZag(encoded) => encoded.array.extents_fit(),
+            Node::Dict(codes, _) => codes.array.extents_fit(),
             Node::Null(len) => is_few(*len),
             Node::Struct(_, fields, len, _, _) => is_few(*len) && fields.extents_fit(),
             Node::List(elements, offsets, _, _) => {
-                var_bin_extents_fit(offsets) && elements.extents_fit()
+                var_bin_extents_fit(&offsets.array) && elements.array.extents_fit()
             }
-            Node::FixedSizeList(elements, _, len, _, _) => is_few(*len) && elements.extents_fit(),
+            Node::FixedSizeList(elements, _, len, _, _) => is_few(*len)
+                && elements.array.extents_fit(),
             Node::Sparse(_, _) => self.columns_fit(),
             Node::RunEnd(_, _) => is_few(self.len),
             Node::Rle(_, _, _, len) | Node::Sequence(_, _, _, _, len) => is_few(*len),

@@ -69,10 +69,10 @@ impl ArrayRef {
             Node::Constant(value, _) => value.value().copy(alloc),
             Node::Struct(_, fields, _, valid, _) => struct_at(alloc, fields, valid, row),
             Node::List(elements, offsets, valid, _) => {
-                list_at(alloc, elements, offsets, valid, row)
+                list_at(alloc, &elements.array, &offsets.array, valid, row)
             }
             Node::FixedSizeList(elements, size, _, valid, _) => {
-                fixed_at(alloc, elements, *size, valid, row)
+                fixed_at(alloc, &elements.array, *size, valid, row)
             }
             Node::Sparse(patches, fill) => sparse_value_at(alloc, patches, fill, row),
             _ => unreachable!(),

@@ -70,13 +70,13 @@ pub(crate) fn plain_tree<S: Scheme>(
             struct_over(ctx.alloc(), names, fields, len, valid, nullability)
         }
         Node::List(elements, offsets, valid, nullability) => {
-            let end = elements.len();
-            let elements = plain_tree(compressor, Box::into_inner(elements), ctx)?;
-            let offsets = offsets_tree(compressor, Box::into_inner(offsets), end, ctx)?;
+            let end = elements.array.len();
+            let elements = plain_tree(compressor, Box::into_inner(elements.array), ctx)?;
+            let offsets = offsets_tree(compressor, Box::into_inner(offsets.array), end, ctx)?;
             list_over(ctx.alloc(), elements, offsets, valid, nullability)
         }
         Node::FixedSizeList(elements, size, len, valid, nullability) => {
-            let elements = plain_tree(compressor, Box::into_inner(elements), ctx)?;
+            let elements = plain_tree(compressor, Box::into_inner(elements.array), ctx)?;
             fixed_size_list_over(ctx.alloc(), elements, size, len, valid, nullability)
         }
         _ => unreachable!(),

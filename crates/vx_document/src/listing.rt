@@ -39,7 +39,7 @@ fn push_tree(
         | Node::ZigZag(child)
         | Node::FixedSizeList(child, _, _, _, _) => {
             let next = deeper(alloc, indent)?;
-            push_tree(alloc, text, next.as_str(), child)
+            push_tree(alloc, text, next.as_str(), &child.array)
         }
         Node::BitPacked(_, _, _, _, _, patches, _) => match patches {
             Some(patches) => push_patches(alloc, text, indent, patches),
@@ -51,14 +51,14 @@ fn push_tree(
         | Node::RunEnd(first, second)
         | Node::Delta(first, second, _, _, _) => {
             let next = deeper(alloc, indent)?;
-            push_tree(alloc, text, next.as_str(), first)?;
-            push_tree(alloc, text, next.as_str(), second)
+            push_tree(alloc, text, next.as_str(), &first.array)?;
+            push_tree(alloc, text, next.as_str(), &second.array)
         }
         Node::Rle(values, indices, offsets, _) => {
             let next = deeper(alloc, indent)?;
-            push_tree(alloc, text, next.as_str(), values)?;
-            push_tree(alloc, text, next.as_str(), indices)?;
-            push_tree(alloc, text, next.as_str(), offsets)
+            push_tree(alloc, text, next.as_str(), &values.array)?;
+            push_tree(alloc, text, next.as_str(), &indices.array)?;
+            push_tree(alloc, text, next.as_str(), &offsets.array)
         }
         Node::Struct(_, fields, _, _, _) => {
             let next = deeper(alloc, indent)?;

@@ -63,14 +63,14 @@ pub array::ArrayRef::cell_at-piece_at-requires : goal.array::ArrayRef::cell_at-p
 array::ArrayRef::cell_at-piece_at-requires t c =
     let a = at_node c.self.view_is c.self.invariant c.in-VarBin.is in
     let l = length-var_bin _ _ _ _ a.well_formed in
-    let within : c.args.row + 1 < length (rows c.in-VarBin.offsets.value) = omega (arith, l, rw a.is at c.requires.in_range) in
+    let within : c.args.row + 1 < length (rows c.in-VarBin.offsets.array.value) = omega (arith, l, rw a.is at c.requires.in_range) in
     (search rules, rw c.deref.ensures (a.well_formed.1.offsets_type, (within, a.well_formed.1.ends)))
 
 pub array::ArrayRef::cell_at-returns-in-VarBin : goal.array::ArrayRef::cell_at-returns-in-VarBin
 array::ArrayRef::cell_at-returns-in-VarBin t c =
     let a = at_node c.self.view_is c.self.invariant c.in-VarBin.is in
     let l = length-var_bin _ _ _ _ a.well_formed in
-    let within : c.args.row < length (rows c.in-VarBin.offsets.value) - 1 = omega (arith, l, rw a.is at c.requires.in_range) in
+    let within : c.args.row < length (rows c.in-VarBin.offsets.array.value) - 1 = omega (arith, l, rw a.is at c.requires.in_range) in
     rw a.is (rw c.deref.ensures at c.piece_at.ensures ∙ sym (row_at-var_bin _ _ _ _ a.well_formed c.args.row within))
 
 pub array::ArrayRef::cell_at-primitive_at-requires : goal.array::ArrayRef::cell_at-primitive_at-requires
@@ -104,7 +104,7 @@ array::ArrayRef::cell_at-returns-in-BitPacked t c =
 
 pub array::ArrayRef::cell_at-moved_at-requires-clause-held : goal.array::ArrayRef::cell_at-moved_at-requires-clause-held
 array::ArrayRef::cell_at-moved_at-requires-clause-held t c =
-    let encoded = c.in-FoR.encoded.value in
+    let encoded = c.in-FoR.encoded.array.value in
     let a = at_node c.self.view_is c.self.invariant c.in-FoR.is in
     let within : c.args.row < length (rows encoded) = omega (arith, length-frame_of_reference encoded c.in-FoR.reference, rw a.is at c.requires.in_range) in
     let read = c.cell_at-in-FoR.ensures ∙ ap (λ t. row_at (rows t) c.args.row) c.deref-in-FoR.ensures in
@@ -112,22 +112,22 @@ array::ArrayRef::cell_at-moved_at-requires-clause-held t c =
 
 pub array::ArrayRef::cell_at-cell_at-requires-in-ZigZag : goal.array::ArrayRef::cell_at-cell_at-requires-in-ZigZag
 array::ArrayRef::cell_at-cell_at-requires-in-ZigZag t c =
-    let encoded = c.in-ZigZag.encoded.value in
+    let encoded = c.in-ZigZag.encoded.array.value in
     let a = at_node c.self.view_is c.self.invariant c.in-ZigZag.is in
     let within : c.args.row < length (rows encoded) = omega (arith, length-zig_zag encoded, rw a.is at c.requires.in_range) in
     (search rules, rw c.deref-in-ZigZag.ensures (integer_flat (tree_type encoded) (is_unsigned-is_integer (tree_type encoded) a.well_formed.1.unsigned), within))
 
 pub array::ArrayRef::cell_at-cell_at-requires-in-Dict : goal.array::ArrayRef::cell_at-cell_at-requires-in-Dict
 array::ArrayRef::cell_at-cell_at-requires-in-Dict t c =
-    let codes = c.in-Dict.codes.value in
-    let values = c.in-Dict.values.value in
+    let codes = c.in-Dict.codes.array.value in
+    let values = c.in-Dict.values.array.value in
     let a = at_node c.self.view_is c.self.invariant c.in-Dict.is in
     let within : c.args.row < length (rows codes) = omega (arith, length-dict codes values, rw a.is at c.requires.in_range) in
     (search rules, rw c.deref-in-Dict-2.ensures (integer_flat (tree_type codes) a.well_formed.2.codes_type, within))
 
 pub array::ArrayRef::cell_at-unzigzagged_at-requires : goal.array::ArrayRef::cell_at-unzigzagged_at-requires
 array::ArrayRef::cell_at-unzigzagged_at-requires t c =
-    let encoded = c.in-ZigZag.encoded.value in
+    let encoded = c.in-ZigZag.encoded.array.value in
     let a = at_node c.self.view_is c.self.invariant c.in-ZigZag.is in
     let within : c.args.row < length (rows encoded) = omega (arith, length-zig_zag encoded, rw a.is at c.requires.in_range) in
     let read = c.cell_at-in-ZigZag.ensures ∙ ap (λ t. row_at (rows t) c.args.row) c.deref-in-ZigZag.ensures in
@@ -158,8 +158,8 @@ array::ArrayRef::cell_at-run_at-run-requires t c =
 pub array::ArrayRef::cell_at-cell_at-requires-in-RunEnd : goal.array::ArrayRef::cell_at-cell_at-requires-in-RunEnd
 array::ArrayRef::cell_at-cell_at-requires-in-RunEnd t c =
     let a = at_node c.self.view_is c.self.invariant c.in-RunEnd.is in
-    let ends = c.in-RunEnd.ends.value in
-    let values = c.in-RunEnd.values.value in
+    let ends = c.in-RunEnd.ends.array.value in
+    let values = c.in-RunEnd.values.array.value in
     let own = a.well_formed.2 in
     let l = length-run_end ends values in
     let inside : c.args.row < offset_at (rows ends) (length (rows ends) - 1) = omega (arith, l, rw a.is at c.requires.in_range) in
@@ -172,8 +172,8 @@ array::ArrayRef::cell_at-cell_at-requires-in-RunEnd t c =
 pub array::ArrayRef::cell_at-returns-in-RunEnd : goal.array::ArrayRef::cell_at-returns-in-RunEnd
 array::ArrayRef::cell_at-returns-in-RunEnd t c =
     let a = at_node c.self.view_is c.self.invariant c.in-RunEnd.is in
-    let ends = c.in-RunEnd.ends.value in
-    let values = c.in-RunEnd.values.value in
+    let ends = c.in-RunEnd.ends.array.value in
+    let values = c.in-RunEnd.values.array.value in
     let run = c.run_at-run.result in
     let own = a.well_formed.2 in
     let l = length-run_end ends values in
@@ -188,9 +188,9 @@ array::ArrayRef::cell_at-returns-in-RunEnd t c =
 pub array::ArrayRef::cell_at-whole_at-begin-requires : goal.array::ArrayRef::cell_at-whole_at-begin-requires
 array::ArrayRef::cell_at-whole_at-begin-requires t c =
     let a = at_node c.self.view_is c.self.invariant c.in-Rle.is in
-    let values = c.in-Rle.values.value in
-    let indices = c.in-Rle.indices.value in
-    let offsets = c.in-Rle.offsets.value in
+    let values = c.in-Rle.values.array.value in
+    let indices = c.in-Rle.indices.array.value in
+    let offsets = c.in-Rle.offsets.array.value in
     let l = length-rle values indices offsets c.in-Rle.field-3 in
     let within : c.args.row < c.in-Rle.field-3 = omega (arith, l, rw a.is at c.requires.in_range) in
     let there = rle-within values indices offsets c.in-Rle.field-3 c.args.row a.well_formed within in
@@ -199,9 +199,9 @@ array::ArrayRef::cell_at-whole_at-begin-requires t c =
 pub array::ArrayRef::cell_at-whole_at-index-requires : goal.array::ArrayRef::cell_at-whole_at-index-requires
 array::ArrayRef::cell_at-whole_at-index-requires t c =
     let a = at_node c.self.view_is c.self.invariant c.in-Rle.is in
-    let values = c.in-Rle.values.value in
-    let indices = c.in-Rle.indices.value in
-    let offsets = c.in-Rle.offsets.value in
+    let values = c.in-Rle.values.array.value in
+    let indices = c.in-Rle.indices.array.value in
+    let offsets = c.in-Rle.offsets.array.value in
     let l = length-rle values indices offsets c.in-Rle.field-3 in
     let within : c.args.row < c.in-Rle.field-3 = omega (arith, l, rw a.is at c.requires.in_range) in
     let there = rle-within values indices offsets c.in-Rle.field-3 c.args.row a.well_formed within in
@@ -210,9 +210,9 @@ array::ArrayRef::cell_at-whole_at-index-requires t c =
 pub array::ArrayRef::cell_at-rle_at-requires : goal.array::ArrayRef::cell_at-rle_at-requires
 array::ArrayRef::cell_at-rle_at-requires t c =
     let a = at_node c.self.view_is c.self.invariant c.in-Rle.is in
-    let values = c.in-Rle.values.value in
-    let indices = c.in-Rle.indices.value in
-    let offsets = c.in-Rle.offsets.value in
+    let values = c.in-Rle.values.array.value in
+    let indices = c.in-Rle.indices.array.value in
+    let offsets = c.in-Rle.offsets.array.value in
     let row = c.args.row in
     let l = length-rle values indices offsets c.in-Rle.field-3 in
     let within : row < c.in-Rle.field-3 = omega (arith, l, rw a.is at c.requires.in_range) in
@@ -226,9 +226,9 @@ array::ArrayRef::cell_at-rle_at-requires t c =
 pub array::ArrayRef::cell_at-returns-in-Rle : goal.array::ArrayRef::cell_at-returns-in-Rle
 array::ArrayRef::cell_at-returns-in-Rle t c =
     let a = at_node c.self.view_is c.self.invariant c.in-Rle.is in
-    let values = c.in-Rle.values.value in
-    let indices = c.in-Rle.indices.value in
-    let offsets = c.in-Rle.offsets.value in
+    let values = c.in-Rle.values.array.value in
+    let indices = c.in-Rle.indices.array.value in
+    let offsets = c.in-Rle.offsets.array.value in
     let row = c.args.row in
     let l = length-rle values indices offsets c.in-Rle.field-3 in
     let within : row < c.in-Rle.field-3 = omega (arith, l, rw a.is at c.requires.in_range) in
@@ -260,9 +260,9 @@ array::ArrayRef::cell_at-returns-in-Sequence t c =
 pub array::ArrayRef::cell_at-whole_at-base-requires : goal.array::ArrayRef::cell_at-whole_at-base-requires
 array::ArrayRef::cell_at-whole_at-base-requires t c =
     let a = at_node c.self.view_is c.self.invariant c.in-Delta.is in
-    let bases = c.in-Delta.bases.value in
+    let bases = c.in-Delta.bases.array.value in
     let own = a.well_formed.2 in
-    let l = length-delta bases c.in-Delta.deltas.value c.in-Delta.field-2 c.in-Delta.valid c.in-Delta.field-4 a.well_formed in
+    let l = length-delta bases c.in-Delta.deltas.array.value c.in-Delta.field-2 c.in-Delta.valid c.in-Delta.field-4 a.well_formed in
     let within : c.args.row < c.in-Delta.field-2 = omega (arith, l, rw a.is at c.requires.in_range) in
     let there = block-within c.in-Delta.field-2 c.args.row within in
     let block = there.0 in
@@ -273,9 +273,9 @@ array::ArrayRef::cell_at-whole_at-base-requires t c =
 pub array::ArrayRef::cell_at-summed_at-requires : goal.array::ArrayRef::cell_at-summed_at-requires
 array::ArrayRef::cell_at-summed_at-requires t c =
     let a = at_node c.self.view_is c.self.invariant c.in-Delta.is in
-    let deltas = c.in-Delta.deltas.value in
+    let deltas = c.in-Delta.deltas.array.value in
     let own = a.well_formed.2 in
-    let l = length-delta c.in-Delta.bases.value deltas c.in-Delta.field-2 c.in-Delta.valid c.in-Delta.field-4 a.well_formed in
+    let l = length-delta c.in-Delta.bases.array.value deltas c.in-Delta.field-2 c.in-Delta.valid c.in-Delta.field-4 a.well_formed in
     let within : c.args.row < c.in-Delta.field-2 = omega (arith, l, rw a.is at c.requires.in_range) in
     let there = block-within c.in-Delta.field-2 c.args.row within in
     let inside = there.1 in
@@ -294,8 +294,8 @@ array::ArrayRef::cell_at-summed_at-requires t c =
 pub array::ArrayRef::cell_at-returns-in-Delta : goal.array::ArrayRef::cell_at-returns-in-Delta
 array::ArrayRef::cell_at-returns-in-Delta t c =
     let a = at_node c.self.view_is c.self.invariant c.in-Delta.is in
-    let bases = c.in-Delta.bases.value in
-    let deltas = c.in-Delta.deltas.value in
+    let bases = c.in-Delta.bases.array.value in
+    let deltas = c.in-Delta.deltas.array.value in
     let row = c.args.row in
     let own = a.well_formed.2 in
     let l = length-delta bases deltas c.in-Delta.field-2 c.in-Delta.valid c.in-Delta.field-4 a.well_formed in

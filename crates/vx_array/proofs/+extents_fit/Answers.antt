@@ -28,5 +28,5 @@ with_true false = refl
 pub array::ArrayRef::extents_fit-returns-in-RunEnd : goal.array::ArrayRef::extents_fit-returns-in-RunEnd
 array::ArrayRef::extents_fit-returns-in-RunEnd t c =
     let a = at_node c.self.view_is c.self.invariant c.in-RunEnd.is in
-    let count = c.self.invariant.len_is ∙ ap (λ node. length (rows (tree_of node))) c.in-RunEnd.is ∙ length-run_end c.in-RunEnd.field-0.value c.in-RunEnd.field-1.value in
+    let count = c.self.invariant.len_is ∙ ap (λ node. length (rows (tree_of node))) c.in-RunEnd.is ∙ length-run_end c.in-RunEnd.field-0.array.value c.in-RunEnd.field-1.array.value in
     rw a.is (c.is_few-in-RunEnd.ensures ∙ ap (λ n. nat_le n row_limit) count ∙ with_true _)

@@ -58,24 +58,24 @@ array::ArrayRef::has_null-returns-in-BitPacked t c =
 pub array::ArrayRef::has_null-returns-in-FoR : goal.array::ArrayRef::has_null-returns-in-FoR
 array::ArrayRef::has_null-returns-in-FoR t c =
     let a = at_node c.self.view_is c.self.invariant c.in-FoR.is in
-    rw a.is (c.has_null-in-FoR.ensures ∙ ap (λ t. list_any is_null (rows t)) c.deref-in-FoR.ensures ∙ sym (any_null-frame_of_reference c.in-FoR.encoded.value c.in-FoR.field-1))
+    rw a.is (c.has_null-in-FoR.ensures ∙ ap (λ t. list_any is_null (rows t)) c.deref-in-FoR.ensures ∙ sym (any_null-frame_of_reference c.in-FoR.encoded.array.value c.in-FoR.field-1))
 
 pub array::ArrayRef::has_null-returns-in-ZigZag : goal.array::ArrayRef::has_null-returns-in-ZigZag
 array::ArrayRef::has_null-returns-in-ZigZag t c =
     let a = at_node c.self.view_is c.self.invariant c.in-ZigZag.is in
-    rw a.is (c.has_null-in-ZigZag.ensures ∙ ap (λ t. list_any is_null (rows t)) c.deref-in-ZigZag.ensures ∙ sym (any_null-zig_zag c.in-ZigZag.encoded.value))
+    rw a.is (c.has_null-in-ZigZag.ensures ∙ ap (λ t. list_any is_null (rows t)) c.deref-in-ZigZag.ensures ∙ sym (any_null-zig_zag c.in-ZigZag.encoded.array.value))
 
 pub array::ArrayRef::has_null-returns-then-has_null : goal.array::ArrayRef::has_null-returns-then-has_null
 array::ArrayRef::has_null-returns-then-has_null t c =
     let a = at_node c.self.view_is c.self.invariant c.in-Dict.is in
     let some = ap (λ t. list_any is_null (rows t)) (sym c.deref-in-Dict.ensures) ∙ sym c.has_null-in-Dict.ensures ∙ c.if-has_null.true in
-    rw a.is (c.if-has_null.true ∙ sym (any_null-codes c.in-Dict.codes.value c.in-Dict.values.value some))
+    rw a.is (c.if-has_null.true ∙ sym (any_null-codes c.in-Dict.codes.array.value c.in-Dict.values.array.value some))
 
 pub array::ArrayRef::has_null-returns-else-has_null-2 : goal.array::ArrayRef::has_null-returns-else-has_null-2
 array::ArrayRef::has_null-returns-else-has_null-2 t c =
     let a = at_node c.self.view_is c.self.invariant c.in-Dict.is in
-    let codes = c.in-Dict.codes.value in
-    let values = c.in-Dict.values.value in
+    let codes = c.in-Dict.codes.array.value in
+    let values = c.in-Dict.values.array.value in
     let none = ap (λ t. list_any is_null (rows t)) (sym c.deref-in-Dict.ensures) ∙ sym c.has_null-in-Dict.ensures ∙ c.if-has_null.false in
     let none_of_values = ap (λ t. list_any is_null (rows t)) (sym c.deref-else-has_null.ensures) ∙ sym c.has_null-else-has_null.ensures ∙ c.if-has_null-2.false in
     rw a.is (c.if-has_null-2.false ∙ sym (any_null-dict codes values a.well_formed none_of_values ∙ none))
@@ -83,7 +83,7 @@ array::ArrayRef::has_null-returns-else-has_null-2 t c =
 pub array::ArrayRef::has_null-has_null_row-requires : goal.array::ArrayRef::has_null-has_null_row-requires
 array::ArrayRef::has_null-has_null_row-requires t c =
     let a = at_node c.self.view_is c.self.invariant c.in-Dict.is in
-    rw a.is (dict_flat (tree_type c.in-Dict.codes.value) (tree_type c.in-Dict.values.value) a.well_formed.2.values_type)
+    rw a.is (dict_flat (tree_type c.in-Dict.codes.array.value) (tree_type c.in-Dict.values.array.value) a.well_formed.2.values_type)
 
 pub array::ArrayRef::has_null-returns-in-Null : goal.array::ArrayRef::has_null-returns-in-Null
 array::ArrayRef::has_null-returns-in-Null t c =
@@ -113,7 +113,7 @@ array::ArrayRef::has_null-returns-in-Sparse t c =
 pub array::ArrayRef::has_null-returns-in-RunEnd : goal.array::ArrayRef::has_null-returns-in-RunEnd
 array::ArrayRef::has_null-returns-in-RunEnd t c =
     let a = at_node c.self.view_is c.self.invariant c.in-RunEnd.is in
-    rw a.is (c.has_null-in-RunEnd.ensures ∙ ap (λ t. list_any is_null (rows t)) c.deref-in-RunEnd.ensures ∙ sym (any_null-run_end c.in-RunEnd.field-0.value c.in-RunEnd.values.value a.well_formed))
+    rw a.is (c.has_null-in-RunEnd.ensures ∙ ap (λ t. list_any is_null (rows t)) c.deref-in-RunEnd.ensures ∙ sym (any_null-run_end c.in-RunEnd.field-0.array.value c.in-RunEnd.values.array.value a.well_formed))
 
 pub array::ArrayRef::has_null-returns-in-Sequence : goal.array::ArrayRef::has_null-returns-in-Sequence
 array::ArrayRef::has_null-returns-in-Sequence t c =

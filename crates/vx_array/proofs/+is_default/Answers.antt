@@ -63,7 +63,7 @@ array::ArrayRef::is_default_at-returns-in-List t c =
     let next = offset_at (rows c.deref-in-List.result.now) (row + 1) in
     let read =
     ap (λ es. length (rows_between (rows es) here next) == 0) c.deref.ensures
-    ∙ ap (λ os. length (rows_between (rows c.in-List.elements.value) (offset_at (rows os) row) (offset_at (rows os) (row + 1))) == 0) c.deref-in-List.ensures in
+    ∙ ap (λ os. length (rows_between (rows c.in-List.elements.array.value) (offset_at (rows os) row) (offset_at (rows os) (row + 1))) == 0) c.deref-in-List.ensures in
     c.is_empty_at.ensures ∙ read ∙ default-list _ _ _ _ a.well_formed row (omega (arith, l, rw a.is at c.requires.in_range)) (rw a.is at never)
     ∙ ap (λ tree. is_default (tree_type tree) (row_at (rows tree) row)) (sym a.is)
 

@@ -53,7 +53,7 @@ array::ArrayRef::is_plain-returns-in-VarBinView t c =
 pub array::ArrayRef::is_plain-returns-in-Timestamp : goal.array::ArrayRef::is_plain-returns-in-Timestamp
 array::ArrayRef::is_plain-returns-in-Timestamp t c =
     let a = at_node c.self.view_is c.self.invariant c.in-Timestamp.is in
-    let storage = c.in-Timestamp.storage.value in
+    let storage = c.in-Timestamp.storage.array.value in
     let own = subst (λ s. IsTrue c.is_plain.result ↔ IsPlain s) c.deref.ensures c.is_plain.ensures in
     let over = plain-timestamp storage _ a.well_formed in
     rw a.is (λ h. over.0 (own.0 h), λ h. own.1 (over.1 h))
@@ -72,8 +72,8 @@ array::ArrayRef::is_plain-returns-in-Struct t c =
 pub array::ArrayRef::is_plain-returns-then-are_empty_beneath : goal.array::ArrayRef::is_plain-returns-then-are_empty_beneath
 array::ArrayRef::is_plain-returns-then-are_empty_beneath t c =
     let a = at_node c.self.view_is c.self.invariant c.in-List.is in
-    let elements = c.in-List.elements.value in
-    let offsets = c.in-List.offsets.value in
+    let elements = c.in-List.elements.array.value in
+    let offsets = c.in-List.offsets.array.value in
     let words : has_words offsets ≡ true =
     elim c.if-has_words.branch [
       | array::ArrayRef::is_plain-then-has_words w ↦ sym (c.has_words.ensures ∙ ap has_words c.deref-in-List.ensures) ∙ w.if-has_words.true
@@ -94,8 +94,8 @@ array::ArrayRef::is_plain-returns-then-are_empty_beneath t c =
 pub array::ArrayRef::is_plain-returns-else-are_empty_beneath : goal.array::ArrayRef::is_plain-returns-else-are_empty_beneath
 array::ArrayRef::is_plain-returns-else-are_empty_beneath t c =
     let a = at_node c.self.view_is c.self.invariant c.in-List.is in
-    let elements = c.in-List.elements.value in
-    let offsets = c.in-List.offsets.value in
+    let elements = c.in-List.elements.array.value in
+    let offsets = c.in-List.offsets.array.value in
     rw a.is (
       λ h. absurd cc,
       λ h.
@@ -111,7 +111,7 @@ array::ArrayRef::is_plain-returns-else-are_empty_beneath t c =
 pub array::ArrayRef::is_plain-returns-then-is_plain : goal.array::ArrayRef::is_plain-returns-then-is_plain
 array::ArrayRef::is_plain-returns-then-is_plain t c =
     let a = at_node c.self.view_is c.self.invariant c.in-FixedSizeList.is in
-    let elements = c.in-FixedSizeList.elements.value in
+    let elements = c.in-FixedSizeList.elements.array.value in
     let size = c.in-FixedSizeList.size in
     let len = c.in-FixedSizeList.len in
     let valid = c.in-FixedSizeList.valid in
@@ -126,7 +126,7 @@ array::ArrayRef::is_plain-returns-then-is_plain t c =
 pub array::ArrayRef::is_plain-returns-else-is_plain : goal.array::ArrayRef::is_plain-returns-else-is_plain
 array::ArrayRef::is_plain-returns-else-is_plain t c =
     let a = at_node c.self.view_is c.self.invariant c.in-FixedSizeList.is in
-    let elements = c.in-FixedSizeList.elements.value in
+    let elements = c.in-FixedSizeList.elements.array.value in
     let own = subst (λ s. IsTrue c.is_plain-in-FixedSizeList.result ↔ IsPlain s) c.deref-in-FixedSizeList.ensures c.is_plain-in-FixedSizeList.ensures in
     rw a.is (
       λ h. absurd (true≢false (sym h ∙ c.if-is_plain.false)),

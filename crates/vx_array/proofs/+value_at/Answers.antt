@@ -50,7 +50,7 @@ pub array::ArrayRef::value_at-list_at-requires : goal.array::ArrayRef::value_at-
 array::ArrayRef::value_at-list_at-requires t c =
     let a = at_node c.self.view_is c.self.invariant c.in-List.is in
     let l = length-list _ _ _ _ a.well_formed in
-    let within : c.args.row + 1 < length (rows c.in-List.offsets.value) = omega (arith, l, rw a.is at c.requires.in_range) in
+    let within : c.args.row + 1 < length (rows c.in-List.offsets.array.value) = omega (arith, l, rw a.is at c.requires.in_range) in
     (omega (arith, ap node_count a.is, ap node_count c.deref.ensures), rw (c.deref.ensures, c.deref-in-List.ensures) (a.well_formed.2.offsets_type, (within, a.well_formed.2.ends)))
 
 pub array::ArrayRef::value_at-returns-in-List : goal.array::ArrayRef::value_at-returns-in-List
@@ -58,13 +58,13 @@ array::ArrayRef::value_at-returns-in-List t c =
     let a = at_node c.self.view_is c.self.invariant c.in-List.is in
     let l = length-list _ _ _ _ a.well_formed in
     let row = c.args.row in
-    let within : row < length (rows c.in-List.offsets.value) - 1 = omega (arith, l, rw a.is at c.requires.in_range) in
+    let within : row < length (rows c.in-List.offsets.array.value) - 1 = omega (arith, l, rw a.is at c.requires.in_range) in
     let own = ap (λ tree. row_at (rows tree) row) a.is ∙ row_at-list _ _ _ _ a.well_formed row within in
     let here = offset_at (rows c.deref-in-List.result.now) row in
     let next = offset_at (rows c.deref-in-List.result.now) (row + 1) in
     let read =
     ap (λ es. cond (is_valid_at c.in-List.valid row) (list_value (rows_between (rows es) here next)) null) c.deref.ensures
-    ∙ ap (λ os. cond (is_valid_at c.in-List.valid row) (list_value (rows_between (rows c.in-List.elements.value) (offset_at (rows os) row) (offset_at (rows os) (row + 1)))) null) c.deref-in-List.ensures in
+    ∙ ap (λ os. cond (is_valid_at c.in-List.valid row) (list_value (rows_between (rows c.in-List.elements.array.value) (offset_at (rows os) row) (offset_at (rows os) (row + 1)))) null) c.deref-in-List.ensures in
     subst (λ v. OrMemory c.list_at.result (λ value. value_of value ≡ v)) (read ∙ sym own) c.list_at.ensures
 
 pub array::ArrayRef::value_at-fixed_at-requires : goal.array::ArrayRef::value_at-fixed_at-requires

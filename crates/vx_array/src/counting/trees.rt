@@ -40,8 +40,12 @@ impl ArrayRef {
                 patches.values.extent_at(way).saturating_add(others)
             }
             Node::Struct(_, fields, len, _, _) => fields_extent(fields, *len, way),
-            Node::List(elements, offsets, _, _) => items_extent(elements, row_count(offsets), way),
-            Node::FixedSizeList(elements, _, len, _, _) => items_extent(elements, *len, way),
+            Node::List(elements, offsets, _, _) => items_extent(
+                &elements.array,
+                row_count(&offsets.array),
+                way,
+            ),
+            Node::FixedSizeList(elements, _, len, _, _) => items_extent(&elements.array, *len, way),
             _ => own_extent(way, self.len),
         }
     }

@@ -8,7 +8,7 @@ ghost use Rattle.vx_model.specs.Tree.{delta};
 
 use super::offsets::are_integers;
 use super::rle::{block_count, fill_blocks};
-use crate::array::{ArrayRef, Node};
+use crate::array::{ArrayRef, Child, Node};
 use crate::node::{Made, boxed};
 use std::alloc::Global;
 use vx_base::{DType, Mask, Nullability, Refused, VortexError, VortexResult};
@@ -44,7 +44,13 @@ impl ArrayRef {
         deltas.known();
         match boxed(alloc, bases, deltas) {
             Ok((bases, deltas)) => Ok(ArrayRef {
-                node: Node::Delta(bases, deltas, len, keep(valid), nullability),
+                node: Node::Delta(
+                    Child { array: bases },
+                    Child { array: deltas },
+                    len,
+                    keep(valid),
+                    nullability,
+                ),
                 own_type: Some(own_type),
                 len,
             }),
@@ -95,5 +101,11 @@ pub(crate) fn copied_delta(
     let bases = Box::new(alloc, bases.copy(alloc)?)?;
     let deltas = Box::new(alloc, deltas)?;
     let valid = copy_validity(valid, alloc)?;
-    Ok(Node::Delta(bases, deltas, len, valid, nullability))
+    Ok(Node::Delta(
+        Child { array: bases },
+        Child { array: deltas },
+        len,
+        valid,
+        nullability,
+    ))
 }

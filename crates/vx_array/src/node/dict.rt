@@ -17,7 +17,7 @@ ghost use Rattle.vx_values.specs.Codes.{validity_by_codes};
 ghost use Rattle.vx_values.specs.IntsOf.{ptype_of, wholes_of};
 ghost use Rattle.vx_values.specs.ValuesOf.{kind_in, values_of, default_in, AreRows};
 
-use crate::array::{ArrayRef, Node};
+use crate::array::{ArrayRef, Child, Node};
 use crate::node::Made;
 use std::alloc::Global;
 use vx_base::{Cell, Mask, Refused, VortexError, VortexResult};
@@ -66,7 +66,7 @@ impl ArrayRef {
         values.known();
         match boxed(alloc, codes, values) {
             Ok((codes, values)) => Ok(ArrayRef {
-                node: Node::Dict(codes, values),
+                node: Node::Dict(Child { array: codes }, Child { array: values }),
                 own_type: Some(own_type),
                 len,
             }),
@@ -167,7 +167,7 @@ pub(crate) fn copied_dict(alloc: Global, codes: &ArrayRef, values: ArrayRef) -> 
 {
     let codes = Box::new(alloc, codes.copy(alloc)?)?;
     let values = Box::new(alloc, values)?;
-    Ok(Node::Dict(codes, values))
+    Ok(Node::Dict(Child { array: codes }, Child { array: values }))
 }
 
 // The rows, by the codes with their validity and the rows of the values.

@@ -10,7 +10,7 @@ ghost use Rattle.vx_model.specs.Rows.{rows};
 ghost use Rattle.vx_model.specs.Tree.{fixed_size_list};
 ghost use Rattle.vx_model.specs.TreeType.{tree_type};
 
-use crate::array::{ArrayRef, Node};
+use crate::array::{ArrayRef, Child, Node};
 use crate::node::Made;
 use std::alloc::Global;
 use vx_base::{DType, Mask, Nullability, Refused, VortexError, VortexResult};
@@ -50,7 +50,13 @@ impl ArrayRef {
         elements.known();
         match Box::new(alloc, elements) {
             Ok(elements) => Ok(ArrayRef {
-                node: Node::FixedSizeList(elements, list_size, len, keep(valid), nullability),
+                node: Node::FixedSizeList(
+                    Child { array: elements },
+                    list_size,
+                    len,
+                    keep(valid),
+                    nullability,
+                ),
                 own_type: Some(own_type),
                 len,
             }),
@@ -115,5 +121,11 @@ pub(crate) fn copied_fixed(
 {
     let elements = Box::new(alloc, elements)?;
     let valid = copy_validity(valid, alloc)?;
-    Ok(Node::FixedSizeList(elements, list_size, len, valid, nullability))
+    Ok(Node::FixedSizeList(
+        Child { array: elements },
+        list_size,
+        len,
+        valid,
+        nullability,
+    ))
 }

@@ -18,7 +18,7 @@ ghost use Rattle.vx_model.specs.Tree.{frame_of_reference};
 ghost use Rattle.vx_values.specs.IntsOf.{ptype_of, wholes_of};
 ghost use Rattle.vx_values.specs.ValuesOf.{ints, AreRows};
 
-use crate::array::{ArrayRef, Node};
+use crate::array::{ArrayRef, Child, Node};
 use crate::node::Made;
 use std::alloc::Global;
 use vx_base::{Cell, DType, Mask, Refused, Scalar, VortexError, VortexResult};
@@ -48,7 +48,7 @@ impl ArrayRef {
         reference.known();
         match Box::new(alloc, encoded) {
             Ok(encoded) => Ok(ArrayRef {
-                node: Node::FoR(encoded, reference),
+                node: Node::FoR(Child { array: encoded }, reference),
                 own_type: Some(own_type),
                 len,
             }),
@@ -101,7 +101,7 @@ pub(crate) fn copied_frame(
     ensures { OrMemory result (λ copy. tree_of copy ≡ frame_of_reference encoded reference.now) }
 {
     let encoded = Box::new(alloc, encoded)?;
-    Ok(Node::FoR(encoded, reference.copy(alloc)?))
+    Ok(Node::FoR(Child { array: encoded }, reference.copy(alloc)?))
 }
 
 // The sums of the reference and each difference.

@@ -10,7 +10,7 @@ ghost use Rattle.vx_model.specs.Tree.{list};
 ghost use Rattle.vx_model.specs.TreeType.{tree_type};
 
 use super::offsets::{are_integers, are_offsets, row_count};
-use crate::array::{ArrayRef, Node};
+use crate::array::{ArrayRef, Child, Node};
 use crate::node::{Made, boxed};
 use std::alloc::Global;
 use vx_base::{DType, Mask, Nullability, Refused, VortexError, VortexResult};
@@ -68,7 +68,12 @@ impl ArrayRef {
         offsets.known();
         match boxed(alloc, elements, offsets) {
             Ok((elements, offsets)) => Ok(ArrayRef {
-                node: Node::List(elements, offsets, keep(valid), nullability),
+                node: Node::List(
+                    Child { array: elements },
+                    Child { array: offsets },
+                    keep(valid),
+                    nullability,
+                ),
                 own_type: Some(own_type),
                 len,
             }),
@@ -126,5 +131,10 @@ pub(crate) fn copied_list(
     let elements = Box::new(alloc, elements.copy(alloc)?)?;
     let offsets = Box::new(alloc, offsets)?;
     let valid = copy_validity(valid, alloc)?;
-    Ok(Node::List(elements, offsets, valid, nullability))
+    Ok(Node::List(
+        Child { array: elements },
+        Child { array: offsets },
+        valid,
+        nullability,
+    ))
 }

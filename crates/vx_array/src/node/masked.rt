@@ -14,7 +14,7 @@ ghost use Rattle.vx_model.specs.Tree.{masked};
 ghost use Rattle.vx_model.specs.TreeType.{tree_type};
 ghost use Rattle.vx_values.specs.ValuesOf.{kind_in, values_of, default_in, AreRows};
 
-use crate::array::{ArrayRef, Node};
+use crate::array::{ArrayRef, Child, Node};
 use crate::node::Made;
 use crate::sizes::bit_bytes;
 use std::alloc::Global;
@@ -59,7 +59,7 @@ impl ArrayRef {
         child.known();
         match Box::new(alloc, child) {
             Ok(child) => Ok(ArrayRef {
-                node: Node::Masked(child, valid),
+                node: Node::Masked(Child { array: child }, valid),
                 own_type: Some(own_type),
                 len,
             }),
@@ -97,7 +97,7 @@ pub(crate) fn copied_masked(alloc: Global, child: ArrayRef, valid: &Mask) -> Vor
     ensures { OrMemory result (λ copy. tree_of copy ≡ masked child valid.now) }
 {
     let child = Box::new(alloc, child)?;
-    Ok(Node::Masked(child, valid.copy(alloc)?))
+    Ok(Node::Masked(Child { array: child }, valid.copy(alloc)?))
 }
 
 // The child's rows behind the mask, where none of them is null.

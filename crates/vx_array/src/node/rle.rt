@@ -10,7 +10,7 @@ ghost use Rattle.vx_model.specs.Tree.{rle};
 
 use super::offsets::are_integers;
 use super::rle_rows::have_places;
-use crate::array::{ArrayRef, Node};
+use crate::array::{ArrayRef, Child, Node};
 use crate::node::{Made, boxed};
 use std::alloc::Global;
 use vx_base::{Refused, VortexError, VortexResult};
@@ -70,7 +70,12 @@ impl ArrayRef {
         offsets.known();
         match three_boxed(alloc, values, indices, offsets) {
             Ok((values, indices, offsets)) => Ok(ArrayRef {
-                node: Node::Rle(values, indices, offsets, len),
+                node: Node::Rle(
+                    Child { array: values },
+                    Child { array: indices },
+                    Child { array: offsets },
+                    len,
+                ),
                 own_type: Some(own_type),
                 len,
             }),
@@ -156,5 +161,10 @@ pub(crate) fn copied_rle(
     let values = Box::new(alloc, values.copy(alloc)?)?;
     let indices = Box::new(alloc, indices)?;
     let offsets = Box::new(alloc, offsets)?;
-    Ok(Node::Rle(values, indices, offsets, len))
+    Ok(Node::Rle(
+        Child { array: values },
+        Child { array: indices },
+        Child { array: offsets },
+        len,
+    ))
 }

@@ -12,7 +12,7 @@ ghost use Rattle.vx_model.specs.WellFormed.{ascend};
 ghost use Rattle.vx_model.proofs.RunEndLemmas.{EndsBefore, EndsAbove};
 
 use super::offsets::are_integers;
-use crate::array::{ArrayRef, Node};
+use crate::array::{ArrayRef, Child, Node};
 use crate::node::{Made, boxed, offset_at};
 use std::alloc::Global;
 use vx_base::{Refused, VortexError, VortexResult};
@@ -60,7 +60,7 @@ impl ArrayRef {
         values.known();
         match boxed(alloc, ends, values) {
             Ok((ends, values)) => Ok(ArrayRef {
-                node: Node::RunEnd(ends, values),
+                node: Node::RunEnd(Child { array: ends }, Child { array: values }),
                 own_type: Some(own_type),
                 len,
             }),
@@ -131,5 +131,5 @@ pub(crate) fn copied_runs(alloc: Global, ends: &ArrayRef, values: ArrayRef) -> V
 {
     let ends = Box::new(alloc, ends.copy(alloc)?)?;
     let values = Box::new(alloc, values)?;
-    Ok(Node::RunEnd(ends, values))
+    Ok(Node::RunEnd(Child { array: ends }, Child { array: values }))
 }

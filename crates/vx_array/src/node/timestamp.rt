@@ -11,7 +11,7 @@ ghost use Rattle.vx_base.specs.declared.ptype.PType.TheVariants.{I64};
 ghost use Rattle.vx_model.specs.Refusals.{timestamp_refusal};
 ghost use Rattle.vx_model.specs.Tree.{timestamp};
 
-use crate::array::{ArrayRef, Node};
+use crate::array::{ArrayRef, Child, Node};
 use crate::node::Made;
 use std::alloc::Global;
 use vx_base::{DType, PType, Refused, TimestampType, VortexError, VortexResult};
@@ -47,7 +47,7 @@ impl ArrayRef {
         storage.known();
         match Box::new(alloc, storage) {
             Ok(storage) => Ok(ArrayRef {
-                node: Node::Timestamp(storage, kind),
+                node: Node::Timestamp(Child { array: storage }, kind),
                 own_type: Some(own_type),
                 len,
             }),
@@ -86,7 +86,7 @@ pub(crate) fn copied_timestamp(
     ensures { OrMemory result (λ copy. tree_of copy ≡ timestamp storage kind.now) }
 {
     let storage = Box::new(alloc, storage)?;
-    Ok(Node::Timestamp(storage, kind.copy(alloc)?))
+    Ok(Node::Timestamp(Child { array: storage }, kind.copy(alloc)?))
 }
 
 // The integers as timestamps of a kind.

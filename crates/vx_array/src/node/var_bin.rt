@@ -24,7 +24,7 @@ ghost use Rattle.vx_values.specs.ValuesOf.{byte_rows, AreRows};
 
 use super::offsets::{are_integers, are_offsets, offset_at, row_count};
 use super::texts::fits;
-use crate::array::{ArrayRef, Node};
+use crate::array::{ArrayRef, Child, Node};
 use crate::node::Made;
 use crate::sizes::{is_few, validity_bytes};
 use std::alloc::Global;
@@ -62,7 +62,7 @@ impl ArrayRef {
         offsets.known();
         match Box::new(alloc, offsets) {
             Ok(offsets) => Ok(ArrayRef {
-                node: Node::VarBin(offsets, bytes, keep(valid), dtype),
+                node: Node::VarBin(Child { array: offsets }, bytes, keep(valid), dtype),
                 own_type: None,
                 len,
             }),
@@ -202,7 +202,7 @@ pub(crate) fn copied_var_bin(
     let offsets = Box::new(alloc, offsets)?;
     let bytes = bytes.copy(alloc)?;
     let valid = copy_validity(valid, alloc)?;
-    Ok(Node::VarBin(offsets, bytes, valid, dtype.copy(alloc)?))
+    Ok(Node::VarBin(Child { array: offsets }, bytes, valid, dtype.copy(alloc)?))
 }
 
 // The rows, by the offsets.

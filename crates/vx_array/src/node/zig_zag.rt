@@ -16,7 +16,7 @@ ghost use Rattle.vx_model.specs.Tree.{zig_zag};
 ghost use Rattle.vx_values.specs.IntsOf.{ptype_of, wholes_of};
 ghost use Rattle.vx_values.specs.ValuesOf.{ints, AreRows};
 
-use crate::array::{ArrayRef, Node};
+use crate::array::{ArrayRef, Child, Node};
 use crate::node::Made;
 use std::alloc::Global;
 use vx_base::{Cell, DType, Mask, Refused, VortexError, VortexResult};
@@ -42,7 +42,7 @@ impl ArrayRef {
         encoded.known();
         match Box::new(alloc, encoded) {
             Ok(encoded) => Ok(ArrayRef {
-                node: Node::ZigZag(encoded),
+                node: Node::ZigZag(Child { array: encoded }),
                 own_type: Some(own_type),
                 len,
             }),
@@ -69,7 +69,9 @@ pub(crate) fn unzigzagged_at(word: Cell<'_>) -> Cell<'static>
 pub(crate) fn copied_zig_zag(alloc: Global, encoded: ArrayRef) -> VortexResult<Node>
     ensures { OrMemory result (λ copy. tree_of copy ≡ zig_zag encoded) }
 {
-    Ok(Node::ZigZag(Box::new(alloc, encoded)?))
+    Ok(Node::ZigZag(Child {
+        array: Box::new(alloc, encoded)?,
+    }))
 }
 
 // The rows, by the zigzags and their validity.

@@ -61,10 +61,10 @@ plain_tree-plain_tree-requires g t c =
     let set = setting g.S.Scheme.meaning c.args.compressor.now c.args.ctx.now in
     let stand = leaves-stand set (lawful-map g.S.Scheme.meaning g.met.S.Scheme.lawful c.args.compressor.now) in
     let p = c.in-List in
-    let is : list c.into_inner.result p.offsets.value p.valid p.nullability ≡ c.args.plain = ap (λ e. list e p.offsets.value p.valid p.nullability) c.into_inner.ensures ∙ p.ensures.tree in
+    let is : list c.into_inner.result p.offsets.array.value p.valid p.nullability ≡ c.args.plain = ap (λ e. list e p.offsets.array.value p.valid p.nullability) c.into_inner.ensures ∙ p.ensures.tree in
     let nodes = ap node_count is in
     let less : node_count c.into_inner.result < node_count c.args.plain = omega (arith, nodes) in
-    let whole : IsWhole c.into_inner.result = elements-whole (leaf_tree set) stand c.args.plain c.requires c.into_inner.result p.offsets.value p.valid p.nullability is in
+    let whole : IsWhole c.into_inner.result = elements-whole (leaf_tree set) stand c.args.plain c.requires c.into_inner.result p.offsets.array.value p.valid p.nullability is in
     search rules
 
 pub plain_tree-offsets_tree-requires : goal.plain_tree-offsets_tree-requires

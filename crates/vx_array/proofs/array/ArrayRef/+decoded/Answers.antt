@@ -55,14 +55,14 @@ pub decoded-into_integers-offsets-requires : goal.decoded-into_integers-offsets-
 decoded-into_integers-offsets-requires t c =
     let a = at_node c.self.view_is c.self.invariant c.in-VarBin.is in
     let got = c.in_ok-decoded-in-VarBin in
-    held_integers c.in-VarBin.offsets.value got.field-0 a.well_formed.1.offsets_type (subst (λ t. IsDecoded t got.field-0) c.deref.ensures got.ensures)
+    held_integers c.in-VarBin.offsets.array.value got.field-0 a.well_formed.1.offsets_type (subst (λ t. IsDecoded t got.field-0) c.deref.ensures got.ensures)
 
 pub decoded-decoded_var_bin-requires : goal.decoded-decoded_var_bin-requires
 decoded-decoded_var_bin-requires t c =
     let a = at_node c.self.view_is c.self.invariant c.in-VarBin.is in
     let got = c.in_ok-decoded-in-VarBin in
     let parts = c.into_integers-offsets in
-    let offsets = c.in-VarBin.offsets.value in
+    let offsets = c.in-VarBin.offsets.array.value in
     let w = a.well_formed.1 in
     let os = integers_of offsets got.field-0 parts.result.0 parts.result.1 a.well_formed.0 w.offsets_type parts.ensures.values parts.ensures.valid (subst (λ t. IsDecoded t got.field-0) c.deref.ensures got.ensures) in
     let e = wholes-rows offsets parts.result.0 parts.result.1 a.well_formed.0 w.offsets_type w.not_null os in
@@ -76,7 +76,7 @@ decoded-returns-in_ok-decoded-in-VarBin t c =
     let a = at_node c.self.view_is c.self.invariant c.in-VarBin.is in
     let got = c.in_ok-decoded-in-VarBin in
     let parts = c.into_integers-offsets in
-    let offsets = c.in-VarBin.offsets.value in
+    let offsets = c.in-VarBin.offsets.array.value in
     let w = a.well_formed.1 in
     let os = integers_of offsets got.field-0 parts.result.0 parts.result.1 a.well_formed.0 w.offsets_type parts.ensures.values parts.ensures.valid (subst (λ t. IsDecoded t got.field-0) c.deref.ensures got.ensures) in
     let e = wholes-rows offsets parts.result.0 parts.result.1 a.well_formed.0 w.offsets_type w.not_null os in
@@ -85,7 +85,7 @@ decoded-returns-in_ok-decoded-in-VarBin t c =
 pub decoded-returns-in-Timestamp : goal.decoded-returns-in-Timestamp
 decoded-returns-in-Timestamp t c =
     let a = at_node c.self.view_is c.self.invariant c.in-Timestamp.is in
-    rw a.is (MatchResult-weaker c.decoded-in-Timestamp.result c.decoded-in-Timestamp.ensures (λ d r. timestamp_rows c.in-Timestamp.storage.value c.in-Timestamp.field-1 d a.well_formed (subst (λ t. IsDecoded t d) c.deref-in-Timestamp.ensures r)) (λ e n. n))
+    rw a.is (MatchResult-weaker c.decoded-in-Timestamp.result c.decoded-in-Timestamp.ensures (λ d r. timestamp_rows c.in-Timestamp.storage.array.value c.in-Timestamp.field-1 d a.well_formed (subst (λ t. IsDecoded t d) c.deref-in-Timestamp.ensures r)) (λ e n. n))
 
 pub decoded-decoded_constant-requires : goal.decoded-decoded_constant-requires
 decoded-decoded_constant-requires t c =
@@ -102,7 +102,7 @@ decoded-returns-in_ok-decoded-in-Masked t c =
     let a = at_node c.self.view_is c.self.invariant c.in-Masked.is in
     let got = c.in_ok-decoded-in-Masked in
     let child = subst (λ t. IsDecoded t got.field-0) c.deref-in-Masked.ensures got.ensures in
-    rw a.is (MatchResult-weaker c.decoded_masked.result c.decoded_masked.ensures (λ d r. masked_rows_of c.in-Masked.child.value c.in-Masked.mask got.field-0 d a.well_formed child r) (λ e n. n))
+    rw a.is (MatchResult-weaker c.decoded_masked.result c.decoded_masked.ensures (λ d r. masked_rows_of c.in-Masked.child.array.value c.in-Masked.mask got.field-0 d a.well_formed child r) (λ e n. n))
 
 pub decoded-returns-in-BitPacked : goal.decoded-returns-in-BitPacked
 decoded-returns-in-BitPacked t c =
@@ -115,7 +115,7 @@ pub decoded-into_integers-differences-requires : goal.decoded-into_integers-diff
 decoded-into_integers-differences-requires t c =
     let a = at_node c.self.view_is c.self.invariant c.in-FoR.is in
     let got = c.in_ok-decoded-in-FoR in
-    held_integers c.in-FoR.encoded.value got.field-0 (ap is_integer a.well_formed.1.encoded_type) (subst (λ t. IsDecoded t got.field-0) c.deref-in-FoR.ensures got.ensures)
+    held_integers c.in-FoR.encoded.array.value got.field-0 (ap is_integer a.well_formed.1.encoded_type) (subst (λ t. IsDecoded t got.field-0) c.deref-in-FoR.ensures got.ensures)
 
 pub decoded-returns-in_ok-decoded-in-FoR : goal.decoded-returns-in_ok-decoded-in-FoR
 decoded-returns-in_ok-decoded-in-FoR t c =
@@ -123,14 +123,14 @@ decoded-returns-in_ok-decoded-in-FoR t c =
     let got = c.in_ok-decoded-in-FoR in
     let parts = c.into_integers-differences in
     let encoded = subst (λ t. IsDecoded t got.field-0) c.deref-in-FoR.ensures got.ensures in
-    let differences = integers_of c.in-FoR.encoded.value got.field-0 parts.result.0 parts.result.1 a.well_formed.0 (ap is_integer a.well_formed.1.encoded_type) parts.ensures.values parts.ensures.valid encoded in
-    rw a.is (MatchResult-weaker c.decoded_moved.result c.decoded_moved.ensures (λ d r. moved_rows c.in-FoR.encoded.value c.in-FoR.reference parts.result.0 parts.result.1 d a.well_formed differences r) (λ e n. n))
+    let differences = integers_of c.in-FoR.encoded.array.value got.field-0 parts.result.0 parts.result.1 a.well_formed.0 (ap is_integer a.well_formed.1.encoded_type) parts.ensures.values parts.ensures.valid encoded in
+    rw a.is (MatchResult-weaker c.decoded_moved.result c.decoded_moved.ensures (λ d r. moved_rows c.in-FoR.encoded.array.value c.in-FoR.reference parts.result.0 parts.result.1 d a.well_formed differences r) (λ e n. n))
 
 pub decoded-into_integers-zigzags-requires : goal.decoded-into_integers-zigzags-requires
 decoded-into_integers-zigzags-requires t c =
     let a = at_node c.self.view_is c.self.invariant c.in-ZigZag.is in
     let got = c.in_ok-decoded-in-ZigZag in
-    held_integers c.in-ZigZag.encoded.value got.field-0 (is_unsigned-is_integer _ a.well_formed.1.unsigned) (subst (λ t. IsDecoded t got.field-0) c.deref-in-ZigZag.ensures got.ensures)
+    held_integers c.in-ZigZag.encoded.array.value got.field-0 (is_unsigned-is_integer _ a.well_formed.1.unsigned) (subst (λ t. IsDecoded t got.field-0) c.deref-in-ZigZag.ensures got.ensures)
 
 pub decoded-returns-in_ok-decoded-in-ZigZag : goal.decoded-returns-in_ok-decoded-in-ZigZag
 decoded-returns-in_ok-decoded-in-ZigZag t c =
@@ -138,14 +138,14 @@ decoded-returns-in_ok-decoded-in-ZigZag t c =
     let got = c.in_ok-decoded-in-ZigZag in
     let parts = c.into_integers-zigzags in
     let encoded = subst (λ t. IsDecoded t got.field-0) c.deref-in-ZigZag.ensures got.ensures in
-    let zigzags = integers_of c.in-ZigZag.encoded.value got.field-0 parts.result.0 parts.result.1 a.well_formed.0 (is_unsigned-is_integer _ a.well_formed.1.unsigned) parts.ensures.values parts.ensures.valid encoded in
-    rw a.is (MatchResult-weaker c.decoded_zig_zag.result c.decoded_zig_zag.ensures (λ d r. zig_zag_rows c.in-ZigZag.encoded.value parts.result.0 parts.result.1 d a.well_formed zigzags r) (λ e n. n))
+    let zigzags = integers_of c.in-ZigZag.encoded.array.value got.field-0 parts.result.0 parts.result.1 a.well_formed.0 (is_unsigned-is_integer _ a.well_formed.1.unsigned) parts.ensures.values parts.ensures.valid encoded in
+    rw a.is (MatchResult-weaker c.decoded_zig_zag.result c.decoded_zig_zag.ensures (λ d r. zig_zag_rows c.in-ZigZag.encoded.array.value parts.result.0 parts.result.1 d a.well_formed zigzags r) (λ e n. n))
 
 pub decoded-into_integers-codes-requires : goal.decoded-into_integers-codes-requires
 decoded-into_integers-codes-requires t c =
     let a = at_node c.self.view_is c.self.invariant c.in-Dict.is in
     let got = c.in_ok-decoded-in-Dict in
-    held_integers c.in-Dict.codes.value got.field-0 a.well_formed.2.codes_type (subst (λ t. IsDecoded t got.field-0) c.deref-in-Dict.ensures got.ensures)
+    held_integers c.in-Dict.codes.array.value got.field-0 a.well_formed.2.codes_type (subst (λ t. IsDecoded t got.field-0) c.deref-in-Dict.ensures got.ensures)
 
 pub decoded-returns-in_ok-decoded-in-Dict-2 : goal.decoded-returns-in_ok-decoded-in-Dict-2
 decoded-returns-in_ok-decoded-in-Dict-2 t c =
@@ -153,11 +153,11 @@ decoded-returns-in_ok-decoded-in-Dict-2 t c =
     let got = c.in_ok-decoded-in-Dict in
     let have = c.in_ok-decoded-in-Dict-2 in
     let parts = c.into_integers-codes in
-    let codes = integers_of c.in-Dict.codes.value got.field-0 parts.result.0 parts.result.1 a.well_formed.0 a.well_formed.2.codes_type parts.ensures.values parts.ensures.valid (subst (λ t. IsDecoded t got.field-0) c.deref-in-Dict.ensures got.ensures) in
+    let codes = integers_of c.in-Dict.codes.array.value got.field-0 parts.result.0 parts.result.1 a.well_formed.0 a.well_formed.2.codes_type parts.ensures.values parts.ensures.valid (subst (λ t. IsDecoded t got.field-0) c.deref-in-Dict.ensures got.ensures) in
     let values = subst (λ t. IsDecoded t have.field-0) c.deref-in-Dict-2.ensures have.ensures in
     rw a.is
     (MatchResult-weaker c.decoded_by_codes.result c.decoded_by_codes.ensures
-    (λ d r. dict_rows c.in-Dict.codes.value c.in-Dict.values.value parts.result.0 parts.result.1 have.field-0 d a.well_formed codes values r) (λ e n. n))
+    (λ d r. dict_rows c.in-Dict.codes.array.value c.in-Dict.values.array.value parts.result.0 parts.result.1 have.field-0 d a.well_formed codes values r) (λ e n. n))
 
 pub decoded-decoded_packed-requires-clause-narrow : goal.decoded-decoded_packed-requires-clause-narrow
 decoded-decoded_packed-requires-clause-narrow t c =
@@ -175,16 +175,16 @@ decoded-decoded_zig_zag-requires t c =
     let got = c.in_ok-decoded-in-ZigZag in
     let parts = c.into_integers-zigzags in
     let encoded = subst (λ t. IsDecoded t got.field-0) c.deref-in-ZigZag.ensures got.ensures in
-    let zigzags = integers_of c.in-ZigZag.encoded.value got.field-0 parts.result.0 parts.result.1 a.well_formed.0 (is_unsigned-is_integer _ a.well_formed.1.unsigned) parts.ensures.values parts.ensures.valid encoded in
-    ap (λ p. not (is_signed p)) zigzags.ptype ∙ (and_parts (is_integer (tree_type c.in-ZigZag.encoded.value)) _ a.well_formed.1.unsigned).1
+    let zigzags = integers_of c.in-ZigZag.encoded.array.value got.field-0 parts.result.0 parts.result.1 a.well_formed.0 (is_unsigned-is_integer _ a.well_formed.1.unsigned) parts.ensures.values parts.ensures.valid encoded in
+    ap (λ p. not (is_signed p)) zigzags.ptype ∙ (and_parts (is_integer (tree_type c.in-ZigZag.encoded.array.value)) _ a.well_formed.1.unsigned).1
 
 pub decoded-decoded_by_codes-requires : goal.decoded-decoded_by_codes-requires
 decoded-decoded_by_codes-requires t c =
     let a = at_node c.self.view_is c.self.invariant c.in-Dict.is in
     let got = c.in_ok-decoded-in-Dict in
     let parts = c.into_integers-codes in
-    let codes = integers_of c.in-Dict.codes.value got.field-0 parts.result.0 parts.result.1 a.well_formed.0 a.well_formed.2.codes_type parts.ensures.values parts.ensures.valid (subst (λ t. IsDecoded t got.field-0) c.deref-in-Dict.ensures got.ensures) in
-    bits_of_integers c.in-Dict.codes.value parts.result.0 parts.result.1 codes
+    let codes = integers_of c.in-Dict.codes.array.value got.field-0 parts.result.0 parts.result.1 a.well_formed.0 a.well_formed.2.codes_type parts.ensures.values parts.ensures.valid (subst (λ t. IsDecoded t got.field-0) c.deref-in-Dict.ensures got.ensures) in
+    bits_of_integers c.in-Dict.codes.array.value parts.result.0 parts.result.1 codes
 
 pub decoded_runs-decoded_sequence-requires : goal.decoded_runs-decoded_sequence-requires
 decoded_runs-decoded_sequence-requires t c =
@@ -212,13 +212,13 @@ pub decoded_runs-into_integers-bases-requires : goal.decoded_runs-into_integers-
 decoded_runs-into_integers-bases-requires t c =
     let a = at_node c.self.view_is c.self.invariant c.in-Delta.is in
     let got = c.in_ok-decoded-in-Delta in
-    held_integers c.in-Delta.bases.value got.field-0 (ap is_integer a.well_formed.2.bases_type) (subst (λ t. IsDecoded t got.field-0) c.deref-in-Delta.ensures got.ensures)
+    held_integers c.in-Delta.bases.array.value got.field-0 (ap is_integer a.well_formed.2.bases_type) (subst (λ t. IsDecoded t got.field-0) c.deref-in-Delta.ensures got.ensures)
 
 pub decoded_runs-into_integers-deltas-requires : goal.decoded_runs-into_integers-deltas-requires
 decoded_runs-into_integers-deltas-requires t c =
     let a = at_node c.self.view_is c.self.invariant c.in-Delta.is in
     let got = c.in_ok-decoded-in-Delta-2 in
-    held_integers c.in-Delta.deltas.value got.field-0 (ap is_integer a.well_formed.2.deltas_type ∙ ap is_integer a.well_formed.2.bases_type) (subst (λ t. IsDecoded t got.field-0) c.deref-in-Delta-2.ensures got.ensures)
+    held_integers c.in-Delta.deltas.array.value got.field-0 (ap is_integer a.well_formed.2.deltas_type ∙ ap is_integer a.well_formed.2.bases_type) (subst (λ t. IsDecoded t got.field-0) c.deref-in-Delta-2.ensures got.ensures)
 
 pub decoded_runs-returns-in_ok-decoded-in-Delta-2 : goal.decoded_runs-returns-in_ok-decoded-in-Delta-2
 decoded_runs-returns-in_ok-decoded-in-Delta-2 t c =
@@ -228,11 +228,11 @@ decoded_runs-returns-in_ok-decoded-in-Delta-2 t c =
     let have = c.in_ok-decoded-in-Delta-2 in
     let b = c.into_integers-bases in
     let e = c.into_integers-deltas in
-    let bases = integers_of c.in-Delta.bases.value got.field-0 b.result.0 b.result.1 a.well_formed.0 whole b.ensures.values b.ensures.valid (subst (λ t. IsDecoded t got.field-0) c.deref-in-Delta.ensures got.ensures) in
-    let deltas = integers_of c.in-Delta.deltas.value have.field-0 e.result.0 e.result.1 a.well_formed.1 (ap is_integer a.well_formed.2.deltas_type ∙ whole) e.ensures.values e.ensures.valid (subst (λ t. IsDecoded t have.field-0) c.deref-in-Delta-2.ensures have.ensures) in
+    let bases = integers_of c.in-Delta.bases.array.value got.field-0 b.result.0 b.result.1 a.well_formed.0 whole b.ensures.values b.ensures.valid (subst (λ t. IsDecoded t got.field-0) c.deref-in-Delta.ensures got.ensures) in
+    let deltas = integers_of c.in-Delta.deltas.array.value have.field-0 e.result.0 e.result.1 a.well_formed.1 (ap is_integer a.well_formed.2.deltas_type ∙ whole) e.ensures.values e.ensures.valid (subst (λ t. IsDecoded t have.field-0) c.deref-in-Delta-2.ensures have.ensures) in
     rw a.is
     (MatchResult-weaker c.decoded_delta.result c.decoded_delta.ensures
-    (λ d r. delta_rows c.in-Delta.bases.value c.in-Delta.deltas.value _ _ _ b.result.0 e.result.0 b.result.1 e.result.1 d a.well_formed bases deltas r) (λ e n. n))
+    (λ d r. delta_rows c.in-Delta.bases.array.value c.in-Delta.deltas.array.value _ _ _ b.result.0 e.result.0 b.result.1 e.result.1 d a.well_formed bases deltas r) (λ e n. n))
 
 -- ---- a fill and patches
 
@@ -269,7 +269,7 @@ pub decoded_runs-into_integers-ends-requires : goal.decoded_runs-into_integers-e
 decoded_runs-into_integers-ends-requires t c =
     let a = at_node c.self.view_is c.self.invariant c.in-RunEnd.is in
     let got = c.in_ok-decoded-in-RunEnd in
-    held_integers c.in-RunEnd.ends.value got.field-0 a.well_formed.2.ends_type (subst (λ t. IsDecoded t got.field-0) c.deref-in-RunEnd.ensures got.ensures)
+    held_integers c.in-RunEnd.ends.array.value got.field-0 a.well_formed.2.ends_type (subst (λ t. IsDecoded t got.field-0) c.deref-in-RunEnd.ensures got.ensures)
 
 pub decoded_runs-run_places-requires : goal.decoded_runs-run_places-requires
 decoded_runs-run_places-requires t c =
@@ -277,7 +277,7 @@ decoded_runs-run_places-requires t c =
     let w = a.well_formed.2 in
     let got = c.in_ok-decoded-in-RunEnd in
     let parts = c.into_integers-ends in
-    let ends = c.in-RunEnd.ends.value in
+    let ends = c.in-RunEnd.ends.array.value in
     let es = integers_of ends got.field-0 parts.result.0 parts.result.1 a.well_formed.0 w.ends_type parts.ensures.values parts.ensures.valid (subst (λ t. IsDecoded t got.field-0) c.deref-in-RunEnd.ensures got.ensures) in
     subst (λ vs. ascend 1 (2 ^ 64) vs ≡ true) (sym (wholes-rows ends parts.result.0 parts.result.1 a.well_formed.0 w.ends_type w.not_null es)) w.rising
 
@@ -288,25 +288,25 @@ decoded_runs-returns-in_ok-decoded-in-RunEnd-2 t c =
     let got = c.in_ok-decoded-in-RunEnd in
     let have = c.in_ok-decoded-in-RunEnd-2 in
     let parts = c.into_integers-ends in
-    let ends = c.in-RunEnd.ends.value in
+    let ends = c.in-RunEnd.ends.array.value in
     let es = integers_of ends got.field-0 parts.result.0 parts.result.1 a.well_formed.0 w.ends_type parts.ensures.values parts.ensures.valid (subst (λ t. IsDecoded t got.field-0) c.deref-in-RunEnd.ensures got.ensures) in
     let values = subst (λ t. IsDecoded t have.field-0) c.deref-in-RunEnd-2.ensures have.ensures in
     let runs = c.in_ok-runs-in-RunEnd in
     rw a.is
     (MatchResult-weaker c.decoded_by_codes.result c.decoded_by_codes.ensures
-    (λ d r. run_end_rows ends c.in-RunEnd.values.value parts.result.0 runs.runs parts.result.1 have.field-0 d a.well_formed es runs.ensures.0 runs.ensures.1 values r) (λ e n. n))
+    (λ d r. run_end_rows ends c.in-RunEnd.values.array.value parts.result.0 runs.runs parts.result.1 have.field-0 d a.well_formed es runs.ensures.0 runs.ensures.1 values r) (λ e n. n))
 
 pub decoded_runs-into_integers-indices-requires-in-Rle : goal.decoded_runs-into_integers-indices-requires-in-Rle
 decoded_runs-into_integers-indices-requires-in-Rle t c =
     let a = at_node c.self.view_is c.self.invariant c.in-Rle.is in
     let got = c.in_ok-decoded-in-Rle in
-    held_integers c.in-Rle.indices.value got.field-0 a.well_formed.3.indices_type (subst (λ t. IsDecoded t got.field-0) c.deref-in-Rle-2.ensures got.ensures)
+    held_integers c.in-Rle.indices.array.value got.field-0 a.well_formed.3.indices_type (subst (λ t. IsDecoded t got.field-0) c.deref-in-Rle-2.ensures got.ensures)
 
 pub decoded_runs-into_integers-offsets-requires : goal.decoded_runs-into_integers-offsets-requires
 decoded_runs-into_integers-offsets-requires t c =
     let a = at_node c.self.view_is c.self.invariant c.in-Rle.is in
     let got = c.in_ok-decoded-in-Rle-2 in
-    held_integers c.in-Rle.offsets.value got.field-0 a.well_formed.3.offsets_type (subst (λ t. IsDecoded t got.field-0) c.deref-in-Rle-3.ensures got.ensures)
+    held_integers c.in-Rle.offsets.array.value got.field-0 a.well_formed.3.offsets_type (subst (λ t. IsDecoded t got.field-0) c.deref-in-Rle-3.ensures got.ensures)
 
 -- ---- differences
 
@@ -319,12 +319,12 @@ decoded_runs-decoded_delta-requires t c =
     let have = c.in_ok-decoded-in-Delta-2 in
     let b = c.into_integers-bases in
     let e = c.into_integers-deltas in
-    let bases = integers_of c.in-Delta.bases.value got.field-0 b.result.0 b.result.1 a.well_formed.0 whole b.ensures.values b.ensures.valid (subst (λ t. IsDecoded t got.field-0) c.deref-in-Delta.ensures got.ensures) in
-    let deltas = integers_of c.in-Delta.deltas.value have.field-0 e.result.0 e.result.1 a.well_formed.1 (ap is_integer own.deltas_type ∙ whole) e.ensures.values e.ensures.valid (subst (λ t. IsDecoded t have.field-0) c.deref-in-Delta-2.ensures have.ensures) in
+    let bases = integers_of c.in-Delta.bases.array.value got.field-0 b.result.0 b.result.1 a.well_formed.0 whole b.ensures.values b.ensures.valid (subst (λ t. IsDecoded t got.field-0) c.deref-in-Delta.ensures got.ensures) in
+    let deltas = integers_of c.in-Delta.deltas.array.value have.field-0 e.result.0 e.result.1 a.well_formed.1 (ap is_integer own.deltas_type ∙ whole) e.ensures.values e.ensures.valid (subst (λ t. IsDecoded t have.field-0) c.deref-in-Delta-2.ensures have.ensures) in
     record {
       kinds = deltas.ptype ∙ ap integer_of own.deltas_type ∙ sym bases.ptype;
-      begins = ap length bases.wholes ∙ length-map (rows c.in-Delta.bases.value) whole_or_zero ∙ own.bases_length;
-      enough = ap length deltas.wholes ∙ length-map (rows c.in-Delta.deltas.value) whole_or_zero ∙ own.deltas_length;
+      begins = ap length bases.wholes ∙ length-map (rows c.in-Delta.bases.array.value) whole_or_zero ∙ own.bases_length;
+      enough = ap length deltas.wholes ∙ length-map (rows c.in-Delta.deltas.array.value) whole_or_zero ∙ own.deltas_length;
       bits = has_length _ _ _ own.validity;
     }
 
@@ -334,9 +334,9 @@ pub decoded_runs-block_places-requires : goal.decoded_runs-block_places-requires
 decoded_runs-block_places-requires t c =
     let a = at_node c.self.view_is c.self.invariant c.in-Rle.is in
     let w = a.well_formed.3 in
-    let values = c.in-Rle.values.value in
-    let indices = c.in-Rle.indices.value in
-    let offsets = c.in-Rle.offsets.value in
+    let values = c.in-Rle.values.array.value in
+    let indices = c.in-Rle.indices.array.value in
+    let offsets = c.in-Rle.offsets.array.value in
     let got = c.in_ok-decoded-in-Rle in
     let have = c.in_ok-decoded-in-Rle-2 in
     let x = c.into_integers-indices-in-Rle in
@@ -355,9 +355,9 @@ pub decoded_runs-returns-in_ok-decoded-in-Rle-3 : goal.decoded_runs-returns-in_o
 decoded_runs-returns-in_ok-decoded-in-Rle-3 t c =
     let a = at_node c.self.view_is c.self.invariant c.in-Rle.is in
     let w = a.well_formed.3 in
-    let values = c.in-Rle.values.value in
-    let indices = c.in-Rle.indices.value in
-    let offsets = c.in-Rle.offsets.value in
+    let values = c.in-Rle.values.array.value in
+    let indices = c.in-Rle.indices.array.value in
+    let offsets = c.in-Rle.offsets.array.value in
     let got = c.in_ok-decoded-in-Rle in
     let have = c.in_ok-decoded-in-Rle-2 in
     let last = c.in_ok-decoded-in-Rle-3 in
@@ -378,13 +378,19 @@ decoded_runs-returns-in_ok-decoded-in-Rle-3 t c =
 pub decoded_runs-decoded-requires-in-Rle-2 : goal.decoded_runs-decoded-requires-in-Rle-2
 decoded_runs-decoded-requires-in-Rle-2 t c =
     let a = at_node c.self.view_is c.self.invariant c.in-Rle.is in
-    let offsets = c.in-Rle.offsets.value in
+    let offsets = c.in-Rle.offsets.array.value in
     (search rules, subst (λ t. is_flat (tree_type t) ≡ true) (sym c.deref-in-Rle-3.ensures) (integer_flat (tree_type offsets) a.well_formed.3.offsets_type))
+
+pub decoded_runs-decoded-requires-in-RunEnd : goal.decoded_runs-decoded-requires-in-RunEnd
+decoded_runs-decoded-requires-in-RunEnd t c =
+    let a = at_node c.self.view_is c.self.invariant c.in-RunEnd.is in
+    let ends = c.in-RunEnd.ends.array.value in
+    (search rules, subst (λ t. is_flat (tree_type t) ≡ true) (sym c.deref-in-RunEnd.ensures) (integer_flat (tree_type ends) a.well_formed.2.ends_type))
 
 pub decoded-decoded-requires : goal.decoded-decoded-requires
 decoded-decoded-requires t c =
     let a = at_node c.self.view_is c.self.invariant c.in-VarBin.is in
-    let offsets = c.in-VarBin.offsets.value in
+    let offsets = c.in-VarBin.offsets.array.value in
     (search rules, subst (λ t. is_flat (tree_type t) ≡ true) (sym c.deref.ensures) (integer_flat (tree_type offsets) a.well_formed.1.offsets_type))
 
 -- ---- roots that say many rows by few numbers
