@@ -6,7 +6,7 @@ use vx_array::{ArrayRef, Patches};
 use vx_base::Nullability::{NonNullable, Nullable};
 use vx_base::PType::{I16, U8};
 use vx_base::VortexResult;
-use vx_fixtures::{accepted, bits, flat, has_rows, has_wholes, packed};
+use vx_fixtures::{accepted, bits, flat, is_made_plain, packed};
 
 #[test]
 fn three_rows_at_two_bits(rt: HostRuntime) -> Result<(), Fail> {
@@ -14,9 +14,7 @@ fn three_rows_at_two_bits(rt: HostRuntime) -> Result<(), Fail> {
     let bytes = packed(alloc, &[1u8, 2, 3], 2)?;
     let made = ArrayRef::bit_packed(alloc, U8, 2, bytes, 3, None, None, NonNullable);
     let tree = accepted(made)?;
-    assert!(rt; tree.nbytes() == 256 && has_wholes(&tree, &[1, 2, 3]));
-    let plain = tree.copy(alloc)?.canonical(alloc)?;
-    assert!(rt; plain.nbytes() == 3 && has_wholes(&plain, &[1, 2, 3]));
+    assert!(rt; is_made_plain(alloc, &tree, (256, 3), &[Some(1), Some(2), Some(3)])?);
     Ok(())
 }
 
@@ -40,8 +38,6 @@ fn patches_stand_in_place_of_rows_that_are_not_null(rt: HostRuntime) -> Result<(
     let tree = patched(rt.alloc())?;
     let rows = [Some(5), Some(300), Some(-7), None, Some(9)];
     // The bytes, two trees of patches and a bit a row.
-    assert!(rt; has_rows(&tree, &rows) && tree.nbytes() == 512 + 3 + 6 + 1);
-    let plain = tree.copy(rt.alloc())?.canonical(rt.alloc())?;
-    assert!(rt; has_rows(&plain, &rows) && plain.nbytes() == 11);
+    assert!(rt; is_made_plain(rt.alloc(), &tree, (512 + 3 + 6 + 1, 11), &rows)?);
     Ok(())
 }

@@ -4,7 +4,7 @@ use std::test::Fail;
 use vx_array::ArrayRef;
 use vx_base::Nullability::NonNullable;
 use vx_base::PType::{I8, I16, U8, U32};
-use vx_fixtures::{accepted, flat, has_rows, with_nulls};
+use vx_fixtures::{accepted, flat, has_rows, is_made_plain, with_nulls};
 
 #[test]
 fn a_row_is_null_by_its_code_or_its_value(rt: HostRuntime) -> Result<(), Fail> {
@@ -12,9 +12,8 @@ fn a_row_is_null_by_its_code_or_its_value(rt: HostRuntime) -> Result<(), Fail> {
     let codes = with_nulls(rt.alloc(), U8, &[1, 9, 0, 2], &[true, false, true, true])?;
     let values = with_nulls(rt.alloc(), I16, &[300, 9, -7], &[true, false, true])?;
     let tree = accepted(ArrayRef::dict(rt.alloc(), codes, values))?;
-    assert!(rt; has_rows(&tree, &[None, None, Some(300), Some(-7)]) && tree.nbytes() == 12);
-    let plain = tree.copy(rt.alloc())?.canonical(rt.alloc())?;
-    assert!(rt; has_rows(&plain, &[None, None, Some(300), Some(-7)]) && plain.nbytes() == 9);
+    let rows = [None, None, Some(300), Some(-7)];
+    assert!(rt; is_made_plain(rt.alloc(), &tree, (12, 9), &rows)?);
     Ok(())
 }
 

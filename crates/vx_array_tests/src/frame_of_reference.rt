@@ -6,7 +6,7 @@ use vx_array::ArrayRef;
 use vx_base::Nullability::{NonNullable, Nullable};
 use vx_base::PType::{self, I8, I16, I32, I64, U8, U16, U32, U64};
 use vx_base::{Scalar, VortexResult};
-use vx_fixtures::{accepted, bits, flat, has_rows, has_wholes, packed};
+use vx_fixtures::{accepted, bits, flat, has_wholes, is_made_plain, packed};
 
 // Whether differences from a reference of a type have these sums, and whether their plain tree has.
 fn are_sums(
@@ -49,8 +49,6 @@ fn nulls_of_packed_differences_stay(rt: HostRuntime) -> Result<(), Fail> {
     let made = ArrayRef::bit_packed(alloc, U32, 2, bytes, 3, valid, None, Nullable);
     let reference = Scalar::primitive(1000, I32, NonNullable)?;
     let tree = accepted(ArrayRef::frame_of_reference(alloc, accepted(made)?, reference))?;
-    assert!(rt; tree.nbytes() == 257 && has_rows(&tree, &[Some(1001), None, Some(1003)]));
-    let plain = tree.copy(alloc)?.canonical(alloc)?;
-    assert!(rt; plain.nbytes() == 13 && has_rows(&plain, &[Some(1001), None, Some(1003)]));
+    assert!(rt; is_made_plain(alloc, &tree, (257, 13), &[Some(1001), None, Some(1003)])?);
     Ok(())
 }

@@ -1,19 +1,34 @@
 //! Lists of trees.
 
+use std::alloc::Global;
 use std::test::Fail;
 use vx_array::Arrays;
 use vx_base::Nullability::NonNullable;
 use vx_base::PType::{U8, U16};
+use vx_base::{VortexError, VortexResult};
 use vx_fixtures::{flat, has_wholes};
+
+// A tree of 5 and one of 300.
+fn two(alloc: Global) -> VortexResult<Arrays> {
+    let mut trees = Arrays::new_in(alloc);
+    for (ptype, whole) in [(U8, 5), (U16, 300)] {
+        let tree = flat(alloc, ptype, NonNullable, &[whole])?;
+        trees.push(tree).ok().ok_or(VortexError::NoMemory)?;
+    }
+    Ok(trees)
+}
+
+// Whether the tree at a place has one row, this one.
+fn is_at(trees: &Arrays, place: u64, whole: i128) -> bool {
+    match trees.get(place) {
+        Some(tree) => has_wholes(tree, &[whole]),
+        None => false,
+    }
+}
 
 #[test]
 fn lists_of_trees_grow(rt: HostRuntime) -> Result<(), Fail> {
-    let mut trees = Arrays::new_in(rt.alloc());
-    let first = flat(rt.alloc(), U8, NonNullable, &[5])?;
-    trees.push(first).ok().ok_or("memory")?;
-    let second = flat(rt.alloc(), U16, NonNullable, &[300])?;
-    trees.push(second).ok().ok_or("memory")?;
-    let last = trees.get(1).ok_or("one tree")?;
-    assert!(rt; trees.len() == 2 && has_wholes(last, &[300]));
+    let trees = two(rt.alloc())?;
+    assert!(rt; trees.len() == 2 && is_at(&trees, 0, 5) && is_at(&trees, 1, 300));
     Ok(())
 }

@@ -27,6 +27,18 @@ fn is_plain_of(alloc: Global, tree: &ArrayRef, bytes: u128, rows: &[&str]) -> Vo
     Ok(tree.is_plain() && tree.nbytes() == bytes && prints(alloc, tree, rows)?)
 }
 
+// A tree with these rows that isn't plain and takes the first of these bytes, and whose copy made plain takes the second.
+fn becomes_plain(
+    alloc: Global,
+    tree: &ArrayRef,
+    (bytes, plain_bytes): (u128, u128),
+    rows: &[&str],
+) -> VortexResult<bool> {
+    let plain = tree.copy(alloc)?.canonical(alloc)?;
+    let is_whole = !tree.is_plain() && tree.nbytes() == bytes && prints(alloc, tree, rows)?;
+    Ok(is_whole && is_plain_of(alloc, &plain, plain_bytes, rows)?)
+}
+
 // Lists of 1 and 2, of nothing, null over 9, and of 3.
 fn lists(alloc: Global) -> VortexResult<ArrayRef> {
     let elements = flat(alloc, I32, NonNullable, &[1, 2, 9, 3])?;
@@ -39,10 +51,7 @@ fn lists(alloc: Global) -> VortexResult<ArrayRef> {
 fn lists_are_made_plain(rt: HostRuntime) -> Result<(), Fail> {
     let tree = lists(rt.alloc())?;
     let rows = ["[1,2]", "[]", "null", "[3]"];
-    assert!(rt; prints(rt.alloc(), &tree, &rows)? && !tree.is_plain());
-    assert_eq!(rt; tree.nbytes(), 22);
-    let plain = tree.copy(rt.alloc())?.canonical(rt.alloc())?;
-    assert!(rt; is_plain_of(rt.alloc(), &plain, 53, &rows)?);
+    assert!(rt; becomes_plain(rt.alloc(), &tree, (22, 53), &rows)?);
     Ok(())
 }
 
@@ -70,9 +79,7 @@ fn structs(alloc: Global) -> VortexResult<ArrayRef> {
 fn structs_are_made_plain(rt: HostRuntime) -> Result<(), Fail> {
     let tree = structs(rt.alloc())?;
     let rows = ["[7,[1,2]]", "null", "[9,null]", "[10,[3]]"];
-    assert!(rt; prints(rt.alloc(), &tree, &rows)? && !tree.is_plain());
-    let plain = tree.copy(rt.alloc())?.canonical(rt.alloc())?;
-    assert!(rt; is_plain_of(rt.alloc(), &plain, 58, &rows)?);
+    assert!(rt; becomes_plain(rt.alloc(), &tree, (27, 58), &rows)?);
     Ok(())
 }
 
@@ -81,9 +88,7 @@ fn fixed_size_lists_are_made_plain(rt: HostRuntime) -> Result<(), Fail> {
     let elements = flat(rt.alloc(), U8, NonNullable, &[1, 2, 3, 4])?;
     let valid = Some(bits(rt.alloc(), &[true, false])?);
     let tree = accepted(ArrayRef::fixed_size_list(rt.alloc(), elements, 2, 2, valid, Nullable))?;
-    assert!(rt; prints(rt.alloc(), &tree, &["[1,2]", "null"])? && !tree.is_plain());
-    let plain = tree.copy(rt.alloc())?.canonical(rt.alloc())?;
-    assert!(rt; is_plain_of(rt.alloc(), &plain, 5, &["[1,2]", "null"])?);
+    assert!(rt; becomes_plain(rt.alloc(), &tree, (5, 5), &["[1,2]", "null"])?);
     Ok(())
 }
 
@@ -111,9 +116,12 @@ fn three(alloc: Global) -> VortexResult<Scalar> {
 #[test]
 fn a_constant_list_counts_its_items_in_each_row(rt: HostRuntime) -> Result<(), Fail> {
     let tree = ArrayRef::constant(three(rt.alloc())?, 2);
-    assert!(rt; tree.nbytes() == 4 && prints(rt.alloc(), &tree, &["[1,2,3]", "[1,2,3]"])?);
-    let plain = tree.canonical(rt.alloc())?;
-    assert!(rt; is_plain_of(rt.alloc(), &plain, 30, &["[1,2,3]", "[1,2,3]"])?);
+    assert!(rt; becomes_plain(rt.alloc(), &tree, (4, 30), &["[1,2,3]", "[1,2,3]"])?);
+    Ok(())
+}
+
+#[test]
+fn a_constant_list_may_have_too_many_items(rt: HostRuntime) -> Result<(), Fail> {
     let many = ArrayRef::constant(three(rt.alloc())?, 1_073_741_824);
     assert!(rt; !many.extents_fit());
     Ok(())

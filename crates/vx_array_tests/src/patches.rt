@@ -37,7 +37,11 @@ fn a_patch_is_found_by_its_row(rt: HostRuntime) -> Result<(), Fail> {
     let values = flat(rt.alloc(), I16, NonNullable, &[9, 9, 9])?;
     // Of eight rows from 2 on, at rows 1, 3 and 7.
     let patches = accepted(Patches::new(8, 2, indices, values))?;
-    assert!(rt; place_of(&patches, 1) == Some(0) && place_of(&patches, 7) == Some(2));
-    assert!(rt; place_of(&patches, 0).is_none() && place_of(&patches, 6).is_none());
+    assert!(rt;
+        place_of(&patches, 1) == Some(0)
+            && place_of(&patches, 7) == Some(2)
+            && place_of(&patches, 0).is_none()
+            && place_of(&patches, 6).is_none()
+    );
     Ok(())
 }

@@ -4,15 +4,9 @@ use std::alloc::Global;
 use std::test::Fail;
 use vx_array::ArrayRef;
 use vx_base::Nullability::{NonNullable, Nullable};
-use vx_base::PType::{I8, I16, U8, U16, U32};
+use vx_base::PType::{self, I8, I16, U8, U16, U32};
 use vx_base::{VortexError, VortexResult};
-use vx_fixtures::{accepted, bits, flat, has_rows, has_wholes, with_nulls};
-
-// Whether a copy and its plain tree have these rows.
-fn keeps_rows(alloc: Global, tree: &ArrayRef, rows: &[Option<i128>]) -> VortexResult<bool> {
-    let copy = tree.copy(alloc)?;
-    Ok(has_rows(&copy, rows) && has_rows(&copy.canonical(alloc)?, rows))
-}
+use vx_fixtures::{accepted, bits, flat, has_wholes, is_made_plain, with_nulls};
 
 #[test]
 fn runs_last_up_to_their_ends(rt: HostRuntime) -> Result<(), Fail> {
@@ -23,8 +17,7 @@ fn runs_last_up_to_their_ends(rt: HostRuntime) -> Result<(), Fail> {
     let run = Some(-7);
     let rows = [Some(300), Some(300), None, run, run, run, run];
     // Three ends, three values and a bit for each.
-    assert!(rt; has_rows(&tree, &rows) && tree.nbytes() == 3 + 6 + 1);
-    assert!(rt; keeps_rows(alloc, &tree, &rows)?);
+    assert!(rt; is_made_plain(alloc, &tree, (3 + 6 + 1, 15), &rows)?);
     Ok(())
 }
 
@@ -40,9 +33,13 @@ fn no_runs(alloc: Global, ends: &[i128], values: &[i128]) -> VortexResult<Vortex
 #[test]
 fn ends_rise_and_are_as_many_as_the_values(rt: HostRuntime) -> Result<(), Fail> {
     let alloc = rt.alloc();
-    assert!(rt; no_runs(alloc, &[2, 2], &[1, 2])? == VortexError::OutOfBounds);
-    assert!(rt; no_runs(alloc, &[0, 2], &[1, 2])? == VortexError::OutOfBounds);
-    assert!(rt; no_runs(alloc, &[2], &[1, 2])? == VortexError::LengthMismatch);
+    for (ends, refusal) in [
+        ([2, 2].as_slice(), VortexError::OutOfBounds),
+        ([0, 2].as_slice(), VortexError::OutOfBounds),
+        ([2].as_slice(), VortexError::LengthMismatch),
+    ] {
+        assert!(rt; no_runs(alloc, ends, &[1, 2])? == refusal);
+    }
     Ok(())
 }
 
@@ -67,24 +64,27 @@ fn blocks_of_runs_have_values_by_offset_and_index(rt: HostRuntime) -> Result<(),
     let offsets = flat(alloc, U16, NonNullable, &[1])?;
     let tree = accepted(ArrayRef::rle(alloc, values, indices, offsets, 4))?;
     let rows = [Some(500), Some(500), Some(70000), Some(9)];
-    assert!(rt; has_rows(&tree, &rows) && tree.nbytes() == 12 + 1024 + 2);
-    assert!(rt; keeps_rows(alloc, &tree, &rows)?);
+    assert!(rt; is_made_plain(alloc, &tree, (12 + 1024 + 2, 16), &rows)?);
     Ok(())
+}
+
+// Why two rows of 9 and 500 aren't runs in blocks by these indices and this offset.
+fn no_blocks(alloc: Global, indices: &[i128], offset: i128) -> VortexResult<VortexError> {
+    let values = flat(alloc, U32, NonNullable, &[9, 500])?;
+    let indices = flat(alloc, U8, NonNullable, indices)?;
+    let offsets = flat(alloc, U8, NonNullable, &[offset])?;
+    match ArrayRef::rle(alloc, values, indices, offsets, 2) {
+        Ok(_) => Ok(VortexError::NoMemory),
+        Err(refused) => Ok(refused.error),
+    }
 }
 
 #[test]
 fn each_row_of_a_block_has_a_place(rt: HostRuntime) -> Result<(), Fail> {
-    let alloc = rt.alloc();
-    let values = flat(alloc, U32, NonNullable, &[9, 500])?;
-    let indices = flat(alloc, U8, NonNullable, block(alloc, &[0, 1])?.as_slice())?;
-    let offsets = flat(alloc, U8, NonNullable, &[1])?;
-    let made = ArrayRef::rle(alloc, values, indices, offsets, 2);
-    assert!(rt; accepted(made).is_err_and(|error| error == VortexError::OutOfBounds));
-    let values = flat(alloc, U32, NonNullable, &[9, 500])?;
-    let indices = flat(alloc, U8, NonNullable, &[0, 1])?;
-    let offsets = flat(alloc, U8, NonNullable, &[0])?;
-    let made = ArrayRef::rle(alloc, values, indices, offsets, 2);
-    assert!(rt; accepted(made).is_err_and(|error| error == VortexError::LengthMismatch));
+    let indices = block(rt.alloc(), &[0, 1])?;
+    let behind = no_blocks(rt.alloc(), indices.as_slice(), 1)?;
+    let few = no_blocks(rt.alloc(), &[0, 1], 0)?;
+    assert!(rt; behind == VortexError::OutOfBounds && few == VortexError::LengthMismatch);
     Ok(())
 }
 
@@ -93,10 +93,8 @@ fn rows_of_a_sequence_are_steps_apart(rt: HostRuntime) -> Result<(), Fail> {
     let alloc = rt.alloc();
     let tree = ArrayRef::sequence(I8, Nullable, 100, -60, 4)?;
     let rows = [Some(100), Some(40), Some(-20), Some(-80)];
-    assert!(rt; has_rows(&tree, &rows) && tree.nbytes() == 0);
-    assert!(rt; keeps_rows(alloc, &tree, &rows)?);
     let none = ArrayRef::sequence(U8, NonNullable, 300, 3, 0)?;
-    assert!(rt; has_wholes(&none, &[]));
+    assert!(rt; is_made_plain(alloc, &tree, (0, 4), &rows)? && has_wholes(&none, &[]));
     Ok(())
 }
 
@@ -122,21 +120,25 @@ fn differences_are_summed_and_wrap(rt: HostRuntime) -> Result<(), Fail> {
     let valid = Some(bits(alloc, &[true, true, false, true])?);
     let tree = accepted(ArrayRef::delta(alloc, bases, deltas, 4, valid, Nullable))?;
     let rows = [Some(120), Some(-126), None, Some(-128)];
-    assert!(rt; has_rows(&tree, &rows) && tree.nbytes() == 1 + 1024 + 1);
-    assert!(rt; keeps_rows(alloc, &tree, &rows)?);
+    assert!(rt; is_made_plain(alloc, &tree, (1 + 1024 + 1, 5), &rows)?);
     Ok(())
+}
+
+// Why so many rows aren't sums from 120 by these differences of a type.
+fn no_sums(alloc: Global, ptype: PType, deltas: &[i128], len: u64) -> VortexResult<VortexError> {
+    let bases = flat(alloc, I8, NonNullable, &[120])?;
+    let deltas = flat(alloc, ptype, NonNullable, deltas)?;
+    match ArrayRef::delta(alloc, bases, deltas, len, None, NonNullable) {
+        Ok(_) => Ok(VortexError::NoMemory),
+        Err(refused) => Ok(refused.error),
+    }
 }
 
 #[test]
 fn differences_are_as_many_as_the_blocks_take(rt: HostRuntime) -> Result<(), Fail> {
-    let alloc = rt.alloc();
-    let bases = flat(alloc, I8, NonNullable, &[120])?;
-    let deltas = flat(alloc, I8, NonNullable, &[0, 10, -3, 1])?;
-    let made = ArrayRef::delta(alloc, bases, deltas, 4, None, NonNullable);
-    assert!(rt; accepted(made).is_err_and(|error| error == VortexError::LengthMismatch));
-    let bases = flat(alloc, I8, NonNullable, &[120])?;
-    let deltas = flat(alloc, I16, NonNullable, block(alloc, &[0, 10])?.as_slice())?;
-    let made = ArrayRef::delta(alloc, bases, deltas, 2, None, NonNullable);
-    assert!(rt; accepted(made).is_err_and(|error| error == VortexError::MismatchedTypes));
+    let few = no_sums(rt.alloc(), I8, &[0, 10, -3, 1], 4)?;
+    let whole = block(rt.alloc(), &[0, 10])?;
+    let others = no_sums(rt.alloc(), I16, whole.as_slice(), 2)?;
+    assert!(rt; few == VortexError::LengthMismatch && others == VortexError::MismatchedTypes);
     Ok(())
 }

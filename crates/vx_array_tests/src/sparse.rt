@@ -6,7 +6,7 @@ use vx_array::{ArrayRef, Patches};
 use vx_base::Nullability::{NonNullable, Nullable};
 use vx_base::PType::{I32, U8, U32};
 use vx_base::{DType, Scalar, VortexError, VortexResult};
-use vx_fixtures::{accepted, flat, has_rows, has_wholes, list_scalar, with_nulls};
+use vx_fixtures::{accepted, flat, is_made_plain, list_scalar, with_nulls};
 
 // Whether the rows print so.
 fn prints(alloc: Global, tree: &ArrayRef, rows: &[&str]) -> VortexResult<bool> {
@@ -35,16 +35,26 @@ fn wholes(alloc: Global) -> VortexResult<ArrayRef> {
 fn patches_stand_between_the_fills(rt: HostRuntime) -> Result<(), Fail> {
     let alloc = rt.alloc();
     let tree = wholes(alloc)?;
-    let rows = [1, 10, 1, 20, 1, 30, 1, 1];
-    assert!(rt; has_wholes(&tree, &rows) && !tree.is_plain() && tree.nbytes() == 20);
-    assert!(rt; tree.scalar_at(alloc, 3)?.json(alloc)?.as_str() == "20");
-    let behind = match tree.scalar_at(alloc, 8) {
+    let (fill, first, second, third) = (Some(1), Some(10), Some(20), Some(30));
+    let rows = [fill, first, fill, second, fill, third, fill, fill];
+    assert!(rt; !tree.is_plain() && tree.extents_fit());
+    assert!(rt; is_made_plain(alloc, &tree, (20, 32), &rows)?);
+    Ok(())
+}
+
+// Whether a row is none of a tree's.
+fn is_behind(alloc: Global, tree: &ArrayRef, row: u64) -> bool {
+    match tree.scalar_at(alloc, row) {
         Ok(_) => false,
         Err(error) => error == VortexError::OutOfBounds,
-    };
-    assert!(rt; behind && tree.extents_fit());
-    let plain = tree.copy(alloc)?.canonical(alloc)?;
-    assert!(rt; plain.is_plain() && has_wholes(&plain, &rows) && plain.nbytes() == 32);
+    }
+}
+
+#[test]
+fn each_row_of_patches_and_fills_is_a_scalar(rt: HostRuntime) -> Result<(), Fail> {
+    let tree = wholes(rt.alloc())?;
+    let rows = ["1", "10", "1", "20", "1", "30", "1", "1"];
+    assert!(rt; prints(rt.alloc(), &tree, &rows)? && is_behind(rt.alloc(), &tree, 8));
     Ok(())
 }
 
@@ -57,8 +67,7 @@ fn a_fill_and_a_patch_may_be_null(rt: HostRuntime) -> Result<(), Fail> {
     let patches = accepted(Patches::new(4, 2, indices, values))?;
     let fill = accepted(Scalar::null(DType::primitive(I32, Nullable)))?;
     let tree = accepted(ArrayRef::sparse(alloc, patches, fill))?;
-    let rows = [Some(5), None, None, None];
-    assert!(rt; has_rows(&tree, &rows) && has_rows(&tree.canonical(alloc)?, &rows));
+    assert!(rt; is_made_plain(alloc, &tree, (2 + 9 + 1, 17), &[Some(5), None, None, None])?);
     Ok(())
 }
 
@@ -77,10 +86,10 @@ fn lists_stand_between_the_fills(rt: HostRuntime) -> Result<(), Fail> {
     let alloc = rt.alloc();
     let rows = ["[7,8]", "[9]", "[7,8]"];
     let tree = lists(alloc, 3, &[7, 8])?;
-    assert!(rt; prints(alloc, &tree, &rows)? && tree.extents_fit());
     let plain = tree.copy(alloc)?.canonical(alloc)?;
     // Five elements of 4 bytes, four offsets of 8.
-    assert!(rt; plain.is_plain() && plain.nbytes() == 52 && prints(alloc, &plain, &rows)?);
+    let is_whole = plain.is_plain() && plain.nbytes() == 52 && tree.extents_fit();
+    assert!(rt; is_whole && prints(alloc, &tree, &rows)? && prints(alloc, &plain, &rows)?);
     Ok(())
 }
 
@@ -105,8 +114,10 @@ fn are_refused(alloc: Global, offset: u64, indices: &[i128]) -> VortexResult<boo
 #[test]
 fn indices_rise_from_the_offset(rt: HostRuntime) -> Result<(), Fail> {
     let alloc = rt.alloc();
-    assert!(rt; are_refused(alloc, 0, &[3, 1])? && are_refused(alloc, 2, &[1])?);
-    assert!(rt; are_refused(alloc, 0, &[8])? && !are_refused(alloc, 2, &[2, 9])?);
+    let fall = are_refused(alloc, 0, &[3, 1])?;
+    let before = are_refused(alloc, 2, &[1])?;
+    let behind = are_refused(alloc, 0, &[8])?;
+    assert!(rt; fall && before && behind && !are_refused(alloc, 2, &[2, 9])?);
     Ok(())
 }
 

@@ -34,17 +34,40 @@ fn is_row(array: &ArrayRef, row: u64, bytes: Option<&[u8]>) -> bool {
     }
 }
 
+// Whether these are all rows.
+fn are_rows(array: &ArrayRef, rows: &[Option<&[u8]>]) -> bool {
+    for row in 0..rows.len() {
+        if !is_row(array, row as u64, rows[row]) {
+            return false;
+        }
+    }
+    array.len() == rows.len() as u64
+}
+
+// Whether a tree has these rows and takes the first of these bytes, and its copy made plain has them and takes the second.
+fn becomes_plain(
+    alloc: Global,
+    tree: &ArrayRef,
+    (bytes, plain_bytes): (u128, u128),
+    rows: &[Option<&[u8]>],
+) -> VortexResult<bool> {
+    let plain = tree.copy(alloc)?.canonical(alloc)?;
+    let have_both = are_rows(tree, rows) && are_rows(&plain, rows);
+    Ok(have_both && plain.is_plain() && tree.nbytes() == bytes && plain.nbytes() == plain_bytes)
+}
+
 #[test]
 fn values_of_more_than_12_bytes_stand_beside_their_16(rt: HostRuntime) -> Result<(), Fail> {
     // What lies beneath the null is no text.
     let rows = byte_rows(rt.alloc(), &[b"twelve bytes", b"\xff", b"thirteen byte"])?;
     let valid = Some(bits(rt.alloc(), &[true, false, true])?);
     let tree = accepted(ArrayRef::var_bin_view(rows, valid, DType::utf8(Nullable)))?;
-    assert!(rt; tree.nbytes() == 62 && !tree.is_plain());
-    let plain = tree.copy(rt.alloc())?.canonical(rt.alloc())?;
-    assert!(rt; plain.nbytes() == 62 && plain.is_plain());
-    assert!(rt; is_row(&plain, 0, Some(b"twelve bytes")) && is_row(&plain, 1, None));
-    assert!(rt; is_row(&plain, 2, Some(b"thirteen byte")));
+    let rows = [
+        Some(b"twelve bytes".as_slice()),
+        None,
+        Some(b"thirteen byte".as_slice()),
+    ];
+    assert!(rt; !tree.is_plain() && becomes_plain(rt.alloc(), &tree, (62, 62), &rows)?);
     Ok(())
 }
 
@@ -74,12 +97,8 @@ fn values_by_their_offsets_are_made_plain(rt: HostRuntime) -> Result<(), Fail> {
         valid,
         DType::utf8(Nullable),
     ))?;
-    assert!(rt; tree.nbytes() == 14 && tree.len() == 3 && is_row(&tree, 0, Some(b"ab")));
-    let plain = tree.copy(rt.alloc())?.canonical(rt.alloc())?;
-    assert!(rt; plain.is_plain() && plain.nbytes() == 49);
-    assert!(rt;
-        is_row(&plain, 0, Some(b"ab")) && is_row(&plain, 1, Some(b"")) && is_row(&plain, 2, None)
-    );
+    let rows = [Some(b"ab".as_slice()), Some(b"".as_slice()), None];
+    assert!(rt; becomes_plain(rt.alloc(), &tree, (14, 49), &rows)?);
     Ok(())
 }
 
@@ -96,29 +115,42 @@ fn refusal(alloc: Global, offsets: &[i128], whole: &[u8]) -> VortexResult<Option
 #[test]
 fn offsets_rise_from_0_to_the_end(rt: HostRuntime) -> Result<(), Fail> {
     let alloc = rt.alloc();
-    assert!(rt; matches!(refusal(alloc, &[], b"")?, Some(VortexError::LengthMismatch)));
-    for offsets in [&[1, 2], &[0, 1], &[0, 3]] {
-        assert!(rt;
-            matches!(
-                refusal(alloc, offsets, b"ab")?,
-                Some(VortexError::OutOfBounds)
-            )
-        );
+    for (offsets, whole, refused) in [
+        (
+            [].as_slice(),
+            b"".as_slice(),
+            Some(VortexError::LengthMismatch),
+        ),
+        (
+            [1, 2].as_slice(),
+            b"ab".as_slice(),
+            Some(VortexError::OutOfBounds),
+        ),
+        (
+            [0, 1].as_slice(),
+            b"ab".as_slice(),
+            Some(VortexError::OutOfBounds),
+        ),
+        (
+            [0, 3].as_slice(),
+            b"ab".as_slice(),
+            Some(VortexError::OutOfBounds),
+        ),
+        (
+            [0, 3, 2, 5].as_slice(),
+            b"abcde".as_slice(),
+            Some(VortexError::OutOfBounds),
+        ),
+        // One letter of two bytes is cut in half.
+        (
+            [0, 1, 2].as_slice(),
+            b"\xc3\xa9".as_slice(),
+            Some(VortexError::MismatchedTypes),
+        ),
+        ([0, 0, 2].as_slice(), b"\xc3\xa9".as_slice(), None),
+    ] {
+        assert!(rt; refusal(alloc, offsets, whole)? == refused);
     }
-    assert!(rt;
-        matches!(
-            refusal(alloc, &[0, 3, 2, 5], b"abcde")?,
-            Some(VortexError::OutOfBounds)
-        )
-    );
-    // One letter of two bytes is cut in half.
-    assert!(rt;
-        matches!(
-            refusal(alloc, &[0, 1, 2], b"\xc3\xa9")?,
-            Some(VortexError::MismatchedTypes)
-        )
-    );
-    assert!(rt; refusal(alloc, &[0, 0, 2], b"\xc3\xa9")?.is_none());
     Ok(())
 }
 
@@ -128,10 +160,8 @@ fn a_dictionary_of_texts_is_made_plain(rt: HostRuntime) -> Result<(), Fail> {
     let values = accepted(ArrayRef::var_bin_view(rows, None, DType::utf8(NonNullable)))?;
     let codes = with_nulls(rt.alloc(), U8, &[2, 0, 9], &[true, true, false])?;
     let tree = accepted(ArrayRef::dict(rt.alloc(), codes, values))?;
-    assert!(rt; tree.nbytes() == 52 && is_row(&tree, 0, Some(b"c")));
-    let plain = tree.canonical(rt.alloc())?;
-    assert!(rt; plain.is_plain() && is_row(&plain, 0, Some(b"c")));
-    assert!(rt; is_row(&plain, 1, Some(b"a")) && is_row(&plain, 2, None));
+    let rows = [Some(b"c".as_slice()), Some(b"a".as_slice()), None];
+    assert!(rt; becomes_plain(rt.alloc(), &tree, (52, 49), &rows)?);
     Ok(())
 }
 
@@ -147,7 +177,11 @@ fn ranges_of_plain_texts_are_plain(rt: HostRuntime) -> Result<(), Fail> {
     let tree = four(rt.alloc())?;
     assert!(rt; tree.is_plain() && tree.dtype().is_flat() && tree.len() == 4);
     let some = tree.gather(rt.alloc(), &[(2, 4), (0, 1)])?;
-    assert!(rt; some.is_plain() && some.len() == 3 && some.nbytes() == 48);
-    assert!(rt; is_row(&some, 1, Some(b"c")) && is_row(&some, 2, Some(b"ab")));
+    let rows = [
+        Some(b"".as_slice()),
+        Some(b"c".as_slice()),
+        Some(b"ab".as_slice()),
+    ];
+    assert!(rt; some.is_plain() && some.nbytes() == 48 && are_rows(&some, &rows));
     Ok(())
 }

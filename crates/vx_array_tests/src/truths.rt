@@ -24,10 +24,10 @@ fn truth_values_are_copied_and_made_plain(rt: HostRuntime) -> Result<(), Fail> {
     let values = bits(rt.alloc(), &[true, true, false])?;
     let valid = Some(bits(rt.alloc(), &[true, false, true])?);
     let tree = accepted(ArrayRef::bool(values, valid, Nullable))?;
-    assert!(rt; has_truths(&tree, &[Some(true), None, Some(false)]) && tree.nbytes() == 2);
     let plain = tree.copy(rt.alloc())?.canonical(rt.alloc())?;
-    assert!(rt; has_truths(&plain, &[Some(true), None, Some(false)]));
-    assert!(rt; plain.is_plain() && !tree.is_plain());
+    let truths = [Some(true), None, Some(false)];
+    let have_both = has_truths(&tree, &truths) && has_truths(&plain, &truths);
+    assert!(rt; have_both && tree.nbytes() == 2 && plain.is_plain() && !tree.is_plain());
     Ok(())
 }
 
@@ -42,10 +42,10 @@ fn nine_rows_take_two_bytes(rt: HostRuntime) -> Result<(), Fail> {
 #[test]
 fn a_masked_constant_is_made_plain(rt: HostRuntime) -> Result<(), Fail> {
     let tree = ArrayRef::constant(Scalar::bool(true, Nullable), 2);
-    assert_eq!(rt; tree.nbytes(), 2);
     let tree = accepted(ArrayRef::masked(rt.alloc(), tree, bits(rt.alloc(), &[false, true])?))?;
     let plain = tree.canonical(rt.alloc())?;
-    assert!(rt; plain.is_plain() && has_truths(&plain, &[None, Some(true)]));
+    // A byte and one for the type, and a byte of validity.
+    assert!(rt; tree.nbytes() == 3 && plain.is_plain() && has_truths(&plain, &[None, Some(true)]));
     Ok(())
 }
 
@@ -56,7 +56,8 @@ fn ranges_of_plain_truth_values_are_plain(rt: HostRuntime) -> Result<(), Fail> {
     let tree = accepted(ArrayRef::bool(values, valid, Nullable))?;
     assert!(rt; tree.is_plain() && tree.dtype().is_flat() && tree.len() == 3);
     let some = tree.gather(rt.alloc(), &[(2, 3), (0, 1)])?;
-    assert!(rt; some.is_plain() && has_truths(&some, &[Some(true), Some(true)]));
-    assert_eq!(rt; some.nbytes(), 1);
+    assert!(rt;
+        some.is_plain() && has_truths(&some, &[Some(true), Some(true)]) && some.nbytes() == 1
+    );
     Ok(())
 }

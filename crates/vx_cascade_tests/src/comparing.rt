@@ -2,17 +2,49 @@
 
 use std::alloc::Global;
 use vx_array::ArrayRef;
-use vx_base::{ArrayId, Nullability, PType, VortexResult};
+use vx_base::{ArrayId, ExecutionCtx, Nullability, PType, VortexResult};
 use vx_btrblocks::BtrBlocksCompressor;
-use vx_fixtures::{column, context, flat};
+use vx_fixtures::{column, context, flat, made_of};
 use vx_scheme::{NoScheme, Scheme};
 
 /// The root's encoding, the bytes, and the encoding of the first child.
 pub(crate) type Form = (ArrayId, u128, Option<ArrayId>);
 
 pub(crate) fn form_of(tree: &ArrayRef) -> Form {
-    let child = tree.child(0).map(|child| child.encoding_id());
-    (tree.encoding_id(), tree.nbytes(), child)
+    (tree.encoding_id(), tree.nbytes(), encoding_inside(tree))
+}
+
+// The encoding of the first child.
+fn encoding_inside(tree: &ArrayRef) -> Option<ArrayId> {
+    let child = tree.child(0)?;
+    Some(child.encoding_id())
+}
+
+// The encoding and the bytes of the tree inside at a place.
+pub(crate) fn inside(tree: &ArrayRef, place: usize) -> Option<(ArrayId, u128)> {
+    let child = tree.child(place)?;
+    Some((child.encoding_id(), child.nbytes()))
+}
+
+// How many parts a scheme makes of a column, and the form of its tree with the parts as they are.
+pub(crate) fn made_form<S: Scheme>(
+    alloc: Global,
+    scheme: &S,
+    ptype: PType,
+    rows: &[Option<i128>],
+) -> VortexResult<(u64, Form)> {
+    let (parts, tree) = made_of(alloc, scheme, ptype, rows)?;
+    Ok((parts, form_of(&tree)))
+}
+
+// The form of the tree that a compressor makes.
+pub(crate) fn form_by<X: Scheme>(
+    compressor: &BtrBlocksCompressor<X>,
+    array: &ArrayRef,
+    ctx: &mut ExecutionCtx,
+) -> VortexResult<Form> {
+    let tree = compressor.compress(array, ctx)?;
+    Ok(form_of(&tree))
 }
 
 // The form by the shipped schemes, and by a list with schemes of a caller's.
@@ -23,9 +55,9 @@ pub(crate) fn by_both<X: Scheme>(
 ) -> VortexResult<(Form, Form)> {
     let mut ctx = context(alloc)?;
     let shipped = BtrBlocksCompressor::<NoScheme>::shipped(alloc)?;
-    let without = shipped.compress(array, &mut ctx)?;
-    let with = compressor.compress(array, &mut ctx)?;
-    Ok((form_of(&without), form_of(&with)))
+    let without = form_by(&shipped, array, &mut ctx)?;
+    let with = form_by(compressor, array, &mut ctx)?;
+    Ok((without, with))
 }
 
 // The same of a column without nulls, and of one with nulls.

@@ -8,7 +8,7 @@ use vx_base::ArrayId::{Delta, Sequence, VarBin, VarBinView};
 use vx_base::Nullability::{NonNullable, Nullable};
 use vx_base::{ByteRows, Bytes, DType, Mask, VortexResult};
 use vx_examples::{JoinedTexts, compressor_with_texts};
-use vx_fixtures::{accepted, byte_rows};
+use vx_fixtures::{accepted, byte_rows, rules_of};
 use vx_scheme::Scheme;
 
 // Two letters, others for each of 1,024 rows.
@@ -57,10 +57,12 @@ fn offsets_become_less_than_a_byte_each(rt: HostRuntime) -> Result<(), Fail> {
         None,
         DType::utf8(NonNullable),
     )?;
-    assert!(rt; all == ((VarBinView, 16368, None), (VarBin, 2046, Some(Sequence))));
     let valid = Some(three_of_four(rt.alloc())?);
     let some = texts_by_both(rt.alloc(), pairs(rt.alloc())?, valid, DType::utf8(Nullable))?;
-    assert!(rt; some == ((VarBinView, 16496, None), (VarBin, 1928, Some(Delta))));
+    assert!(rt;
+        all == ((VarBinView, 16368, None), (VarBin, 2046, Some(Sequence)))
+            && some == ((VarBinView, 16496, None), (VarBin, 1928, Some(Delta)))
+    );
     Ok(())
 }
 
@@ -72,21 +74,23 @@ fn no_tree_is_larger_than_the_plain_one(rt: HostRuntime) -> Result<(), Fail> {
         &[b"twelve bytes", b"two and more", b"as many here"],
     )?;
     let texts = texts_by_both(rt.alloc(), twelves, None, DType::utf8(NonNullable))?;
-    assert!(rt; texts == ((VarBinView, 48, None), (VarBinView, 48, None)));
     let binaries = texts_by_both(
         rt.alloc(),
         pairs(rt.alloc())?,
         None,
         DType::binary(NonNullable),
     )?;
-    assert!(rt; binaries == ((VarBinView, 16368, None), (VarBinView, 16368, None)));
+    assert!(rt;
+        texts == ((VarBinView, 48, None), (VarBinView, 48, None))
+            && binaries == ((VarBinView, 16368, None), (VarBinView, 16368, None))
+    );
     Ok(())
 }
 
 #[test]
 fn joined_texts_have_no_rules(rt: HostRuntime) -> Result<(), Fail> {
-    assert!(rt; JoinedTexts.matches(&DType::utf8(Nullable)) && JoinedTexts.num_children() == 1);
-    assert!(rt; JoinedTexts.descendant_exclusions(rt.alloc())?.len() == 0);
-    assert!(rt; JoinedTexts.ancestor_exclusions(rt.alloc())?.len() == 0);
+    let rules = rules_of(rt.alloc(), &JoinedTexts)?;
+    let takes_texts = JoinedTexts.matches(&DType::utf8(Nullable));
+    assert!(rt; takes_texts && JoinedTexts.num_children() == 1 && rules == (0, 0));
     Ok(())
 }

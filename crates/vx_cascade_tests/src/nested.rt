@@ -1,12 +1,13 @@
 //! Nested columns by the shipped compressor, with ample memory.
 
+use crate::comparing::inside;
 use std::alloc::Global;
 use std::test::Fail;
 use vx_array::ArrayRef;
 use vx_base::ArrayId::{List, Null, Primitive, Sequence};
 use vx_base::Nullability::{NonNullable, Nullable};
 use vx_base::PType::{I32, U64};
-use vx_base::{ArrayId, VortexError, VortexResult};
+use vx_base::{VortexError, VortexResult};
 use vx_btrblocks::BtrBlocksCompressor;
 use vx_fixtures::{accepted, bits, context, flat};
 use vx_scheme::NoScheme;
@@ -25,31 +26,29 @@ fn lists(alloc: Global) -> VortexResult<ArrayRef> {
     accepted(ArrayRef::list(alloc, elements, offsets, valid, Nullable))
 }
 
-// The encoding and the bytes of the tree inside at a place.
-fn inside(tree: &ArrayRef, place: usize) -> Option<(ArrayId, u128)> {
-    let child = tree.child(place)?;
-    Some((child.encoding_id(), child.nbytes()))
-}
-
 // Offsets of 64 bits become offsets of 8. The elements 1, 2 and 3 are a sequence; 1 byte is the lists' validity.
 #[test]
 fn the_offsets_of_lists_are_narrowed(rt: HostRuntime) -> Result<(), Fail> {
     let tree = compressed(rt.alloc(), &lists(rt.alloc())?)?;
-    assert!(rt; tree.encoding_id() == List && tree.nbytes() == 6);
     assert!(rt;
-        inside(&tree, 0) == Some((Sequence, 0)) && inside(&tree, 1) == Some((Primitive, 5))
+        tree.encoding_id() == List
+            && tree.nbytes() == 6
+            && inside(&tree, 0) == Some((Sequence, 0))
+            && inside(&tree, 1) == Some((Primitive, 5))
     );
     Ok(())
 }
 
+// Whether so many nulls stay nulls alone.
+fn stay(alloc: Global, len: u64) -> VortexResult<bool> {
+    let tree = compressed(alloc, &ArrayRef::null(len))?;
+    Ok(tree.encoding_id() == Null && tree.len() == len)
+}
+
 #[test]
 fn nulls_alone_stay_up_to_the_limit_of_rows(rt: HostRuntime) -> Result<(), Fail> {
-    let tree = compressed(rt.alloc(), &ArrayRef::null(2_147_483_648))?;
-    assert!(rt; tree.encoding_id() == Null && tree.len() == 2_147_483_648);
-    let refused = match compressed(rt.alloc(), &ArrayRef::null(2_147_483_649)) {
-        Ok(_) => false,
-        Err(error) => error == VortexError::TooManyRows,
-    };
-    assert!(rt; refused);
+    let as_many = stay(rt.alloc(), 2_147_483_648)?;
+    let one_more = stay(rt.alloc(), 2_147_483_649);
+    assert!(rt; as_many && one_more == Err(VortexError::TooManyRows));
     Ok(())
 }

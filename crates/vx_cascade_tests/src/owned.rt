@@ -25,13 +25,18 @@ fn wholes(alloc: Global) -> VortexResult<ArrayRef> {
     flat(alloc, I64, NonNullable, wholes.as_slice())
 }
 
+// The same as moments.
+fn moments(alloc: Global) -> VortexResult<ArrayRef> {
+    let kind = accepted(TimestampType::new(TimeUnit::Seconds, None))?;
+    accepted(ArrayRef::timestamp(alloc, wholes(alloc)?, kind))
+}
+
 #[test]
 fn what_is_given_up_becomes_the_same_tree(rt: HostRuntime) -> Result<(), Fail> {
-    let form = form_of_owned(rt.alloc(), wholes(rt.alloc())?)?;
-    assert!(rt; form == (FoR, 512, Some(BitPacked)));
-    let kind = accepted(TimestampType::new(TimeUnit::Seconds, None))?;
-    let moments = ArrayRef::timestamp(rt.alloc(), wholes(rt.alloc())?, kind);
-    let form = form_of_owned(rt.alloc(), accepted(moments)?)?;
-    assert!(rt; form == (Timestamp, 512, Some(FoR)));
+    let of_wholes = form_of_owned(rt.alloc(), wholes(rt.alloc())?)?;
+    let of_moments = form_of_owned(rt.alloc(), moments(rt.alloc())?)?;
+    assert!(rt;
+        of_wholes == (FoR, 512, Some(BitPacked)) && of_moments == (Timestamp, 512, Some(FoR))
+    );
     Ok(())
 }

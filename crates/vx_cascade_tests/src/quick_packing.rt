@@ -1,12 +1,12 @@
 //! What quick packing tells and makes of columns, and where it is chosen, with ample memory.
 
-use crate::comparing::{form_of, tens_by_both, waves_by_both};
+use crate::comparing::{made_form, tens_by_both, waves_by_both};
 use std::test::Fail;
 use vx_base::ArrayId::{BitPacked, Dict, FoR, Primitive};
 use vx_base::PType::I32;
 use vx_examples::{QuickPacking, compressor};
-use vx_fixtures::{Told, made_of, told_of};
-use vx_scheme::{CompressorContext, Scheme};
+use vx_fixtures::{Told, rules_of, told_of};
+use vx_scheme::CompressorContext;
 
 #[test]
 fn the_ratio_is_of_the_greatest_value(rt: HostRuntime) -> Result<(), Fail> {
@@ -16,12 +16,11 @@ fn the_ratio_is_of_the_greatest_value(rt: HostRuntime) -> Result<(), Fail> {
         ([Some(5), Some(-3)], Told::Nothing, Primitive, 8),
     ] {
         let told = told_of(rt.alloc(), &scheme, &CompressorContext::new(), I32, &rows)?;
-        assert!(rt; told == (estimate, Told::Nothing));
-        let (parts, tree) = made_of(rt.alloc(), &scheme, I32, &rows)?;
-        assert!(rt; parts == 0 && form_of(&tree) == (encoding, nbytes, None));
+        let made = made_form(rt.alloc(), &scheme, I32, &rows)?;
+        assert!(rt; told == (estimate, Told::Nothing) && made == (0, (encoding, nbytes, None)));
     }
-    assert!(rt; scheme.descendant_exclusions(rt.alloc())?.len() == 0);
-    assert!(rt; scheme.ancestor_exclusions(rt.alloc())?.len() == 0);
+    let rules = rules_of(rt.alloc(), &scheme)?;
+    assert!(rt; rules == (0, 0));
     Ok(())
 }
 
@@ -31,7 +30,8 @@ fn it_is_chosen_where_a_sample_sees_nothing_but_zeros(rt: HostRuntime) -> Result
     let waves = waves_by_both(rt.alloc(), &compressor, 0)?;
     let tens = tens_by_both(rt.alloc(), &compressor, -3)?;
     let frame = (FoR, 512, Some(BitPacked));
-    assert!(rt; waves == ((Dict, 2048, Some(Primitive)), (BitPacked, 768, None)));
-    assert!(rt; tens == (frame, frame));
+    assert!(rt;
+        waves == ((Dict, 2048, Some(Primitive)), (BitPacked, 768, None)) && tens == (frame, frame)
+    );
     Ok(())
 }

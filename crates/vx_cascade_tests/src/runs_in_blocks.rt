@@ -1,12 +1,13 @@
 //! Runs in blocks by a compressor over their scheme alone, with ample memory.
 
+use crate::comparing::inside;
 use std::alloc::Global;
 use std::test::Fail;
 use vx_array::ArrayRef;
 use vx_base::ArrayId::{Primitive, Rle};
 use vx_base::Nullability::NonNullable;
 use vx_base::PType::U32;
-use vx_base::{ArrayId, VortexResult};
+use vx_base::VortexResult;
 use vx_compressor::{CascadingCompressor, Schemes};
 use vx_fixtures::{accepted, context, flat};
 use vx_schemes::IntRLEScheme;
@@ -27,20 +28,17 @@ fn compressed(alloc: Global, array: &ArrayRef) -> VortexResult<ArrayRef> {
     compressor.compress(array, &mut context(alloc)?)
 }
 
-// The encoding and the bytes of the tree inside at a place.
-fn inside(tree: &ArrayRef, place: usize) -> Option<(ArrayId, u128)> {
-    let child = tree.child(place)?;
-    Some((child.encoding_id(), child.nbytes()))
-}
-
 // A run of the first block, and two of the second: three values of 4 bytes, a number of one byte for each row of two
 // blocks, and where the runs of each block begin.
 #[test]
 fn a_run_ends_with_its_block(rt: HostRuntime) -> Result<(), Fail> {
     let tree = compressed(rt.alloc(), &two_runs(rt.alloc())?)?;
-    assert!(rt; tree.encoding_id() == Rle && tree.nbytes() == 2062);
-    assert!(rt; inside(&tree, 0) == Some((Primitive, 12)));
-    assert!(rt; inside(&tree, 1) == Some((Primitive, 2048)));
-    assert!(rt; inside(&tree, 2) == Some((Primitive, 2)));
+    assert!(rt;
+        tree.encoding_id() == Rle
+            && tree.nbytes() == 2062
+            && inside(&tree, 0) == Some((Primitive, 12))
+            && inside(&tree, 1) == Some((Primitive, 2048))
+            && inside(&tree, 2) == Some((Primitive, 2))
+    );
     Ok(())
 }

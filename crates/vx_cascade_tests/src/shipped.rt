@@ -1,8 +1,9 @@
 //! The shipped compressor, with ample memory.
 
-use crate::comparing::{Form, form_of, tens};
+use crate::comparing::{Form, form_by, form_of, tens};
 use std::alloc::Global;
 use std::test::Fail;
+use vx_array::ArrayRef;
 use vx_base::ArrayId::{BitPacked, Delta, FoR, Primitive, RunEnd, Sequence, Sparse};
 use vx_base::Nullability::NonNullable;
 use vx_base::PType::{I32, U32, U64};
@@ -11,17 +12,22 @@ use vx_btrblocks::BtrBlocksCompressor;
 use vx_fixtures::{context, flat};
 use vx_scheme::NoScheme;
 
+// What an array becomes, and what its tree becomes.
+fn forms_of(alloc: Global, array: &ArrayRef) -> VortexResult<(Form, Form)> {
+    let mut ctx = context(alloc)?;
+    let compressor = BtrBlocksCompressor::<NoScheme>::shipped(alloc)?;
+    let tree = compressor.compress(array, &mut ctx)?;
+    let again = form_by(&compressor, &tree, &mut ctx)?;
+    Ok((form_of(&tree), again))
+}
+
 #[test]
 fn a_tree_becomes_the_same_tree_again(rt: HostRuntime) -> Result<(), Fail> {
-    let mut ctx = context(rt.alloc())?;
-    let compressor = BtrBlocksCompressor::<NoScheme>::shipped(rt.alloc())?;
     let wholes = tens(rt.alloc(), 1000, 1000)?;
     let array = flat(rt.alloc(), I32, NonNullable, wholes.as_slice())?;
-    let tree = compressor.compress(&array, &mut ctx)?;
-    let again = compressor.compress(&tree, &mut ctx)?;
-    for tree in [&tree, &again] {
-        assert!(rt; form_of(tree) == (FoR, 512, Some(BitPacked)));
-    }
+    let forms = forms_of(rt.alloc(), &array)?;
+    let frame = (FoR, 512, Some(BitPacked));
+    assert!(rt; forms == (frame, frame));
     Ok(())
 }
 
@@ -29,7 +35,8 @@ fn a_tree_becomes_the_same_tree_again(rt: HostRuntime) -> Result<(), Fail> {
 fn form_of_wholes(alloc: Global, ptype: PType, wholes: &[i128]) -> VortexResult<Form> {
     let compressor = BtrBlocksCompressor::<NoScheme>::shipped(alloc)?;
     let array = flat(alloc, ptype, NonNullable, wholes)?;
-    Ok(form_of(&compressor.compress(&array, &mut context(alloc)?)?))
+    let mut ctx = context(alloc)?;
+    form_by(&compressor, &array, &mut ctx)
 }
 
 // 0 to 99.
@@ -62,25 +69,38 @@ fn squares(alloc: Global) -> VortexResult<Vec<i128>> {
     Ok(wholes)
 }
 
-// No row of a sequence takes a byte. One row of a thousand is a place of one byte and a value of 8, and the fill takes 9.
+// No row of a sequence takes a byte.
 #[test]
-fn numbers_in_steps_and_a_rare_one(rt: HostRuntime) -> Result<(), Fail> {
-    let form = form_of_wholes(rt.alloc(), I32, ramp(rt.alloc())?.as_slice())?;
+fn numbers_in_steps_are_a_sequence(rt: HostRuntime) -> Result<(), Fail> {
+    let ramp = ramp(rt.alloc())?;
+    let form = form_of_wholes(rt.alloc(), I32, ramp.as_slice())?;
     assert!(rt; form == (Sequence, 0, None));
+    Ok(())
+}
+
+// One row of a thousand is a place of one byte and a value of 8, and the fill takes 9.
+#[test]
+fn a_rare_number_is_a_patch(rt: HostRuntime) -> Result<(), Fail> {
     let rare = two_runs(rt.alloc(), (1, 0), (999, 999))?;
     let form = form_of_wholes(rt.alloc(), U64, rare.as_slice())?;
     assert!(rt; form == (Sparse, 18, Some(Primitive)));
     Ok(())
 }
 
-// Two ends of a byte and two values of 4. Squares differ by at most 4,093: two bases of 8 bytes, and two blocks of 12 bits
-// a row.
+// Two ends of a byte and two values of 4.
 #[test]
-fn runs_and_a_slow_series(rt: HostRuntime) -> Result<(), Fail> {
+fn two_long_runs_have_two_ends_and_two_values(rt: HostRuntime) -> Result<(), Fail> {
     let runs = two_runs(rt.alloc(), (50, 0), (50, 7))?;
     let form = form_of_wholes(rt.alloc(), U32, runs.as_slice())?;
     assert!(rt; form == (RunEnd, 10, Some(Primitive)));
-    let form = form_of_wholes(rt.alloc(), U64, squares(rt.alloc())?.as_slice())?;
+    Ok(())
+}
+
+// Squares differ by at most 4,093: two bases of 8 bytes, and two blocks of 12 bits a row.
+#[test]
+fn a_slow_series_is_its_differences(rt: HostRuntime) -> Result<(), Fail> {
+    let squares = squares(rt.alloc())?;
+    let form = form_of_wholes(rt.alloc(), U64, squares.as_slice())?;
     assert!(rt; form == (Delta, 3088, Some(Primitive)));
     Ok(())
 }

@@ -1,6 +1,8 @@
 //! What span frames tell of columns, and what becomes of their part, with ample memory.
 
-use crate::comparing::{Form, form_of, rows_by_both, tens_by_both, waves_by_both, wholes_by_both};
+use crate::comparing::{
+    Form, made_form, rows_by_both, tens_by_both, waves_by_both, wholes_by_both,
+};
 use std::alloc::Global;
 use std::test::Fail;
 use vx_base::ArrayId::{BitPacked, Dict, FoR, Primitive};
@@ -8,7 +10,7 @@ use vx_base::PType::{I64, U16};
 use vx_base::VortexResult;
 use vx_btrblocks::BtrBlocksCompressor;
 use vx_examples::{SpanFrame, compressor_with_frames};
-use vx_fixtures::{Told, made_of, told_of};
+use vx_fixtures::{Told, rules_of, told_of};
 use vx_scheme::{CompressorContext, Scheme};
 
 #[test]
@@ -21,11 +23,13 @@ fn differences_are_one_part(rt: HostRuntime) -> Result<(), Fail> {
         U16,
         &rows,
     )?;
-    assert!(rt; told == (Told::Ratio(16, 1), Told::Nothing));
-    let (parts, tree) = made_of(rt.alloc(), &SpanFrame, U16, &rows)?;
-    assert!(rt; parts == 1 && form_of(&tree) == (FoR, 7, Some(Primitive)));
-    assert!(rt; SpanFrame.descendant_exclusions(rt.alloc())?.len() == 0);
-    assert!(rt; SpanFrame.ancestor_exclusions(rt.alloc())?.len() == 0);
+    let made = made_form(rt.alloc(), &SpanFrame, U16, &rows)?;
+    let rules = rules_of(rt.alloc(), &SpanFrame)?;
+    assert!(rt;
+        told == (Told::Ratio(16, 1), Told::Nothing)
+            && made == (1, (FoR, 7, Some(Primitive)))
+            && rules == (0, 0)
+    );
     Ok(())
 }
 
@@ -38,9 +42,11 @@ fn the_part_becomes_whatever_is_best_for_its_sample(rt: HostRuntime) -> Result<(
     let packed = tens_by_both(rt.alloc(), &compressor, 0)?;
     let coded = waves_by_both(rt.alloc(), &compressor, 1000)?;
     let frame = (FoR, 512, Some(BitPacked));
-    assert!(rt; framed == (frame, frame));
-    assert!(rt; packed == ((BitPacked, 512, None), (BitPacked, 512, None)));
-    assert!(rt; coded == ((FoR, 768, Some(BitPacked)), (FoR, 2048, Some(Dict))));
+    assert!(rt;
+        framed == (frame, frame)
+            && packed == ((BitPacked, 512, None), (BitPacked, 512, None))
+            && coded == ((FoR, 768, Some(BitPacked)), (FoR, 2048, Some(Dict)))
+    );
     Ok(())
 }
 
@@ -73,7 +79,9 @@ fn the_part_becomes_a_dictionary(rt: HostRuntime) -> Result<(), Fail> {
         three[0], three[1], three[2], three[0], three[1], three[2], three[1], three[2], None,
     ];
     let of_three = rows_by_both(rt.alloc(), &compressor, U16, &rows)?;
-    assert!(rt; of_twenties == ((Primitive, 800, None), (FoR, 100, Some(Dict))));
-    assert!(rt; of_three == ((Primitive, 20, None), (FoR, 11, Some(Dict))));
+    assert!(rt;
+        of_twenties == ((Primitive, 800, None), (FoR, 100, Some(Dict)))
+            && of_three == ((Primitive, 20, None), (FoR, 11, Some(Dict)))
+    );
     Ok(())
 }

@@ -1,18 +1,16 @@
 //! Lines that have a scalar's text or a child, written by the rules.
 
+use crate::reading::lists;
 use std::alloc::Global;
 use std::test::Fail;
 use vx_array::ArrayRef;
 use vx_base::Nullability::NonNullable;
 use vx_base::{Bytes, Scalar, Text};
-use vx_document::listing_text;
 
-// Whether the listing of the tree is this text.
-fn lists(alloc: Global, tree: &ArrayRef, text: &str) -> Result<bool, Fail> {
-    if tree.nbytes() == u128::MAX {
-        return Err(Fail::from("too many bytes"));
-    }
-    Ok(listing_text(alloc, tree)?.as_str() == text)
+// Whether the listing of a scalar in so many rows is this text.
+fn lists_constant(alloc: Global, scalar: Scalar, len: u64, text: &str) -> Result<bool, Fail> {
+    let tree = ArrayRef::constant(scalar, len);
+    lists(alloc, &tree, text)
 }
 
 #[test]
@@ -21,14 +19,9 @@ fn a_text_stands_as_a_string_of_json(rt: HostRuntime) -> Result<(), Fail> {
     let Ok(scalar) = Scalar::text(text, NonNullable) else {
         return Err(Fail::from("a long text"));
     };
-    let tree = ArrayRef::constant(scalar, 2);
-    assert!(rt;
-        lists(
-            rt.alloc(),
-            &tree,
-            "vortex.constant text len=2 size=5 value=\"\\\"\u{e9}\\n\"\n"
-        )?
-    );
+    let listing = "vortex.constant text len=2 size=5 value=\"\\\"\u{e9}\\n\"\n";
+    let is_listed = lists_constant(rt.alloc(), scalar, 2, listing)?;
+    assert!(rt; is_listed);
     Ok(())
 }
 
@@ -38,13 +31,8 @@ fn bytes_stand_as_their_digits(rt: HostRuntime) -> Result<(), Fail> {
     let Ok(scalar) = Scalar::binary(bytes, NonNullable) else {
         return Err(Fail::from("long bytes"));
     };
-    let tree = ArrayRef::constant(scalar, 3);
-    assert!(rt;
-        lists(
-            rt.alloc(),
-            &tree,
-            "vortex.constant binary len=3 size=3 value=\"00ff\"\n"
-        )?
-    );
+    let listing = "vortex.constant binary len=3 size=3 value=\"00ff\"\n";
+    let is_listed = lists_constant(rt.alloc(), scalar, 3, listing)?;
+    assert!(rt; is_listed);
     Ok(())
 }

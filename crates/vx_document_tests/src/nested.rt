@@ -1,6 +1,6 @@
 //! Documents of nested types: their plain trees, and what makes them none. Written by the rules.
 
-use crate::reading::{document, lists, plain};
+use crate::reading::{document, reads};
 use std::alloc::Global;
 use std::test::Fail;
 use vx_document::{Unread, read_document};
@@ -8,8 +8,8 @@ use vx_document::{Unread, read_document};
 #[test]
 fn nulls_alone(rt: HostRuntime) -> Result<(), Fail> {
     let text = "{\"type\":\"null\",\"rows\":[null,null],\"words\":[0]}";
-    let tree = plain(rt.alloc(), text)?;
-    assert!(rt; lists(rt.alloc(), &tree, "vortex.null null len=2 size=0\n")?);
+    let listing = "vortex.null null len=2 size=0\n";
+    assert!(rt; reads(rt.alloc(), text, listing, &[])?);
     Ok(())
 }
 
@@ -17,14 +17,9 @@ fn nulls_alone(rt: HostRuntime) -> Result<(), Fail> {
 fn lists_of_integers(rt: HostRuntime) -> Result<(), Fail> {
     let text =
         "{\"type\":{\"list\":\"i32?\",\"nullable\":true},\"rows\":[[1,2],[],null,[3]],\"words\":[0]}";
-    let tree = plain(rt.alloc(), text)?;
-    assert!(rt;
-        lists(
-            rt.alloc(),
-            &tree,
-            "vortex.list [i32?]? len=4 size=53\n  vortex.primitive i32? len=3 size=12\n  vortex.primitive u64 len=5 size=40\n"
-        )?
-    );
+    let listing =
+        "vortex.list [i32?]? len=4 size=53\n  vortex.primitive i32? len=3 size=12\n  vortex.primitive u64 len=5 size=40\n";
+    assert!(rt; reads(rt.alloc(), text, listing, &[])?);
     Ok(())
 }
 
@@ -32,14 +27,9 @@ fn lists_of_integers(rt: HostRuntime) -> Result<(), Fail> {
 fn structs_of_an_integer_and_a_text(rt: HostRuntime) -> Result<(), Fail> {
     let text =
         "{\"type\":{\"struct\":[[\"a\",\"u8\"],[\"b\",\"text?\"]]},\"rows\":[[7,\"x\"],[7,null]],\"words\":[0]}";
-    let tree = plain(rt.alloc(), text)?;
-    assert!(rt;
-        lists(
-            rt.alloc(),
-            &tree,
-            "vortex.struct {a:u8,b:text?} len=2 size=35\n  vortex.primitive u8 len=2 size=2\n  vortex.varbinview text? len=2 size=33\n"
-        )?
-    );
+    let listing =
+        "vortex.struct {a:u8,b:text?} len=2 size=35\n  vortex.primitive u8 len=2 size=2\n  vortex.varbinview text? len=2 size=33\n";
+    assert!(rt; reads(rt.alloc(), text, listing, &[])?);
     Ok(())
 }
 
@@ -47,14 +37,9 @@ fn structs_of_an_integer_and_a_text(rt: HostRuntime) -> Result<(), Fail> {
 fn lists_of_two(rt: HostRuntime) -> Result<(), Fail> {
     let text =
         "{\"rows\":[[1,2],null],\"type\":{\"nullable\":true,\"size\":2,\"fixed\":\"u8\"},\"words\":[0]}";
-    let tree = plain(rt.alloc(), text)?;
-    assert!(rt;
-        lists(
-            rt.alloc(),
-            &tree,
-            "vortex.fixed_size_list [u8;2]? len=2 size=5 list_size=2\n  vortex.primitive u8 len=4 size=4\n"
-        )?
-    );
+    let listing =
+        "vortex.fixed_size_list [u8;2]? len=2 size=5 list_size=2\n  vortex.primitive u8 len=4 size=4\n";
+    assert!(rt; reads(rt.alloc(), text, listing, &[])?);
     Ok(())
 }
 
@@ -62,27 +47,33 @@ fn lists_of_two(rt: HostRuntime) -> Result<(), Fail> {
 fn structs_within_structs_of_one_name(rt: HostRuntime) -> Result<(), Fail> {
     let text =
         "{\"type\":{\"struct\":[[\"a\",{\"list\":\"u8\"}],[\"a\",{\"struct\":[]}]],\"nullable\":true},\"rows\":[[[1],[]],null],\"words\":[0]}";
-    let tree = plain(rt.alloc(), text)?;
-    assert!(rt;
-        lists(
-            rt.alloc(),
-            &tree,
-            "vortex.struct {a:[u8],a:{}}? len=2 size=26\n  vortex.list [u8] len=2 size=25\n    vortex.primitive u8 len=1 size=1\n    vortex.primitive u64 len=3 size=24\n  vortex.struct {} len=2 size=0\n"
-        )?
-    );
+    let listing =
+        "vortex.struct {a:[u8],a:{}}? len=2 size=26\n  vortex.list [u8] len=2 size=25\n    vortex.primitive u8 len=1 size=1\n    vortex.primitive u64 len=3 size=24\n  vortex.struct {} len=2 size=0\n";
+    assert!(rt; reads(rt.alloc(), text, listing, &[])?);
     Ok(())
+}
+
+// Whether no count of the document that the text is passes the limit.
+fn counts_fit(alloc: Global, text: &str) -> Result<bool, Fail> {
+    let read = document(alloc, text)?;
+    Ok(read.column.counts_fit())
 }
 
 #[test]
 fn counts_pass_the_limit_before_a_tree_is_made(rt: HostRuntime) -> Result<(), Fail> {
-    let many =
-        "{\"type\":{\"fixed\":\"u8\",\"size\":2147483648,\"nullable\":true},\"rows\":[null,null],\"words\":[0]}";
-    assert!(rt; !document(rt.alloc(), many)?.column.counts_fit());
-    let few =
-        "{\"type\":{\"fixed\":\"u8\",\"size\":2147483648,\"nullable\":true},\"rows\":[null],\"words\":[0]}";
-    assert!(rt; document(rt.alloc(), few)?.column.counts_fit());
-    let none = "{\"type\":{\"fixed\":\"u8\",\"size\":4294967295},\"rows\":[],\"words\":[0]}";
-    assert!(rt; document(rt.alloc(), none)?.column.counts_fit());
+    let many = counts_fit(
+        rt.alloc(),
+        "{\"type\":{\"fixed\":\"u8\",\"size\":2147483648,\"nullable\":true},\"rows\":[null,null],\"words\":[0]}",
+    )?;
+    let few = counts_fit(
+        rt.alloc(),
+        "{\"type\":{\"fixed\":\"u8\",\"size\":2147483648,\"nullable\":true},\"rows\":[null],\"words\":[0]}",
+    )?;
+    let none = counts_fit(
+        rt.alloc(),
+        "{\"type\":{\"fixed\":\"u8\",\"size\":4294967295},\"rows\":[],\"words\":[0]}",
+    )?;
+    assert!(rt; !many && few && none);
     Ok(())
 }
 

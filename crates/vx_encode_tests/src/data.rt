@@ -1,31 +1,71 @@
 //! What is told of a sparse array beside its trees.
 
+use std::alloc::Global;
 use std::test::Fail;
 use vx_array::Patches;
-use vx_base::Nullability::{NonNullable, Nullable};
+use vx_base::Nullability::{self, NonNullable, Nullable};
 use vx_base::PType::{I32, U8};
-use vx_base::{DType, Scalar, VortexError};
+use vx_base::{DType, Scalar, VortexError, VortexResult};
 use vx_encode::{Sparse, SparseData};
 use vx_fixtures::{accepted, flat};
 
-#[test]
-fn data_of_an_array(rt: HostRuntime) -> Result<(), Fail> {
-    let alloc = rt.alloc();
+// 10 and 20 in two of four rows from row 2 on.
+fn two(alloc: Global) -> VortexResult<Patches> {
     let indices = flat(alloc, U8, NonNullable, &[3, 5])?;
     let values = flat(alloc, I32, NonNullable, &[10, 20])?;
-    let patches = accepted(Patches::new(4, 2, indices, values))?;
-    let fill = Scalar::primitive(1, I32, NonNullable)?;
-    let own = fill.copy(alloc)?;
-    let data = SparseData::try_new_from_patches(&patches, &own)?;
-    assert!(rt; data.len() == 4 && data.offset() == 2 && !data.is_empty());
-    assert!(rt; *data.dtype() == DType::primitive(I32, NonNullable) && *data.fill_scalar() == fill);
-    assert!(rt; data.describe(alloc)?.as_str() == "fill_value: 1");
-    assert!(rt; SparseData::validate(&patches, &own, own.dtype(), 4).is_ok());
-    let longer = SparseData::validate(&patches, &own, own.dtype(), 5);
-    assert!(rt; longer == Err(VortexError::LengthMismatch));
-    let other = SparseData::validate(&patches, &own, &DType::primitive(I32, Nullable), 5);
-    assert!(rt; other == Err(VortexError::MismatchedTypes));
-    let array = accepted(Sparse::try_new_from_patches(alloc, patches, fill))?;
-    assert!(rt; array.sparse_data() == data);
+    accepted(Patches::new(4, 2, indices, values))
+}
+
+fn one() -> VortexResult<Scalar> {
+    Scalar::primitive(1, I32, NonNullable)
+}
+
+// Whether it is told of four rows from row 2 on, filled by one.
+fn tells(alloc: Global, data: &SparseData<'_>) -> VortexResult<bool> {
+    let is_described = data.describe(alloc)?.as_str() == "fill_value: 1";
+    let has_rows = data.len() == 4 && data.offset() == 2 && !data.is_empty();
+    let has_type = *data.dtype() == DType::primitive(I32, NonNullable);
+    Ok(is_described && has_rows && has_type && *data.fill_scalar() == one()?)
+}
+
+#[test]
+fn data_of_patches(rt: HostRuntime) -> Result<(), Fail> {
+    let patches = two(rt.alloc())?;
+    let fill = one()?;
+    let data = SparseData::try_new_from_patches(&patches, &fill)?;
+    assert!(rt; tells(rt.alloc(), &data)?);
+    Ok(())
+}
+
+// Why the patches aren't those of so many rows of integers with this fill, if they aren't.
+fn validated(
+    patches: &Patches,
+    fill: &Scalar,
+    nullability: Nullability,
+    len: u64,
+) -> VortexResult<()> {
+    SparseData::validate(patches, fill, &DType::primitive(I32, nullability), len)
+}
+
+#[test]
+fn patches_are_of_a_type_and_a_length(rt: HostRuntime) -> Result<(), Fail> {
+    let patches = two(rt.alloc())?;
+    let fill = one()?;
+    let same = validated(&patches, &fill, NonNullable, 4);
+    let longer = validated(&patches, &fill, NonNullable, 5);
+    let other = validated(&patches, &fill, Nullable, 5);
+    assert!(rt;
+        same.is_ok()
+            && longer == Err(VortexError::LengthMismatch)
+            && other == Err(VortexError::MismatchedTypes)
+    );
+    Ok(())
+}
+
+#[test]
+fn an_array_has_the_data_of_its_patches(rt: HostRuntime) -> Result<(), Fail> {
+    let made = Sparse::try_new_from_patches(rt.alloc(), two(rt.alloc())?, one()?);
+    let array = accepted(made)?;
+    assert!(rt; tells(rt.alloc(), &array.sparse_data())?);
     Ok(())
 }

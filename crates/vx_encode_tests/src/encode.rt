@@ -42,59 +42,115 @@ fn is_refused(
     }
 }
 
+// Whether a column is encoded with a fill as patches at these indices of a type, and has these rows.
+fn encodes(
+    column: &ArrayRef,
+    fill: Option<&Scalar>,
+    ctx: &mut ExecutionCtx,
+    (ptype, numbers): (PType, &[i128]),
+    rows: &[Option<i128>],
+) -> VortexResult<bool> {
+    let tree = Sparse::encode(column, fill, ctx)?;
+    Ok(is_patched(&tree, ptype, numbers) && has_rows(&tree, rows))
+}
+
+// Whether a column is encoded with a fill that is told so.
+fn fills(
+    column: &ArrayRef,
+    fill: Option<&Scalar>,
+    ctx: &mut ExecutionCtx,
+    text: &str,
+) -> VortexResult<bool> {
+    let tree = Sparse::encode(column, fill, ctx)?;
+    is_filled(ctx.alloc(), tree, text)
+}
+
+// Whether a column is encoded as one scalar in these rows.
+fn is_one(
+    column: &ArrayRef,
+    fill: Option<&Scalar>,
+    ctx: &mut ExecutionCtx,
+    rows: &[Option<i128>],
+) -> VortexResult<bool> {
+    let tree = Sparse::encode(column, fill, ctx)?;
+    Ok(tree.encoding_id() == ArrayId::Constant && has_rows(&tree, rows))
+}
+
 #[test]
 fn the_most_frequent_integer_is_the_fill(rt: HostRuntime) -> Result<(), Fail> {
-    let alloc = rt.alloc();
-    let mut ctx = context(alloc)?;
-    let column = flat(alloc, I32, NonNullable, &[1, 1, 2])?;
-    let tree = Sparse::encode(&column, None, &mut ctx)?;
-    assert!(rt; is_patched(&tree, U64, &[2]) && has_wholes(&tree, &[1, 1, 2]));
-    assert!(rt; is_filled(alloc, tree, "fill_value: 1")?);
-    let fill = Scalar::primitive(2, I32, Nullable)?;
-    let tree = Sparse::encode(&column, Some(&fill), &mut ctx)?;
-    assert!(rt; is_patched(&tree, U64, &[0, 1]) && has_wholes(&tree, &[1, 1, 2]));
-    let same = Sparse::encode(&flat(alloc, U8, NonNullable, &[7, 7])?, None, &mut ctx)?;
-    assert!(rt; same.encoding_id() == ArrayId::Constant && has_wholes(&same, &[7, 7]));
-    let empty = Sparse::encode(&flat(alloc, U8, NonNullable, &[])?, None, &mut ctx)?;
-    assert!(rt; empty.is_plain() && empty.len() == 0);
+    let mut ctx = context(rt.alloc())?;
+    let column = flat(rt.alloc(), I32, NonNullable, &[1, 1, 2])?;
+    let two = Scalar::primitive(2, I32, Nullable)?;
+    let rows = [Some(1), Some(1), Some(2)];
+    let by_its_own = encodes(&column, None, &mut ctx, (U64, &[2]), &rows)?;
+    let by_two = encodes(&column, Some(&two), &mut ctx, (U64, &[0, 1]), &rows)?;
+    assert!(rt; by_its_own && by_two && fills(&column, None, &mut ctx, "fill_value: 1")?);
     Ok(())
 }
 
 #[test]
+fn one_value_in_each_row_is_one_scalar(rt: HostRuntime) -> Result<(), Fail> {
+    let mut ctx = context(rt.alloc())?;
+    let same = flat(rt.alloc(), U8, NonNullable, &[7, 7])?;
+    assert!(rt; is_one(&same, None, &mut ctx, &[Some(7), Some(7)])?);
+    Ok(())
+}
+
+#[test]
+fn an_empty_column_stays_plain(rt: HostRuntime) -> Result<(), Fail> {
+    let mut ctx = context(rt.alloc())?;
+    let none = flat(rt.alloc(), U8, NonNullable, &[])?;
+    let empty = Sparse::encode(&none, None, &mut ctx)?;
+    assert!(rt; empty.is_plain() && empty.len() == 0);
+    Ok(())
+}
+
+// 9 in row 5 of eleven, and null in the others.
+fn nine_among_nulls(alloc: Global) -> VortexResult<(ArrayRef, Vec<Option<i128>>)> {
+    let mut wholes = vec![in alloc; 0; 11]?;
+    let mut valid = vec![in alloc; false; 11]?;
+    let mut rows = vec![in alloc; None; 11]?;
+    (wholes[5], valid[5], rows[5]) = (9, true, Some(9));
+    let column = with_nulls(alloc, U8, wholes.as_slice(), valid.as_slice())?;
+    Ok((column, rows))
+}
+
+#[test]
 fn nulls_in_most_rows_are_the_fill(rt: HostRuntime) -> Result<(), Fail> {
-    let alloc = rt.alloc();
-    let mut ctx = context(alloc)?;
-    let fill = Scalar::primitive(3, U8, NonNullable)?;
-    let valid = [
-        false, false, false, false, false, true, false, false, false, false, false,
-    ];
-    let column = with_nulls(alloc, U8, &[0, 0, 0, 0, 0, 9, 0, 0, 0, 0, 0], &valid)?;
-    let tree = Sparse::encode(&column, Some(&fill), &mut ctx)?;
-    let rows = [
-        None,
-        None,
-        None,
-        None,
-        None,
-        Some(9),
-        None,
-        None,
-        None,
-        None,
-        None,
-    ];
-    assert!(rt; is_patched(&tree, U32, &[5]) && has_rows(&tree, &rows));
-    assert!(rt; is_filled(alloc, tree, "fill_value: null")?);
-    let nulls = with_nulls(alloc, U8, &[0, 0], &[false, false])?;
-    let tree = Sparse::encode(&nulls, Some(&fill), &mut ctx)?;
-    assert!(rt; tree.encoding_id() == ArrayId::Constant && has_rows(&tree, &[None, None]));
-    // With a null fill each row is a patch, and with any other each null.
-    let column = with_nulls(alloc, U8, &[3, 0, 4], &[true, false, true])?;
+    let mut ctx = context(rt.alloc())?;
+    let three = Scalar::primitive(3, U8, NonNullable)?;
+    let (column, rows) = nine_among_nulls(rt.alloc())?;
+    let patched = encodes(
+        &column,
+        Some(&three),
+        &mut ctx,
+        (U32, &[5]),
+        rows.as_slice(),
+    )?;
+    assert!(rt; patched && fills(&column, Some(&three), &mut ctx, "fill_value: null")?);
+    Ok(())
+}
+
+#[test]
+fn nulls_alone_are_one_scalar(rt: HostRuntime) -> Result<(), Fail> {
+    let mut ctx = context(rt.alloc())?;
+    let three = Scalar::primitive(3, U8, NonNullable)?;
+    let nulls = with_nulls(rt.alloc(), U8, &[0, 0], &[false, false])?;
+    assert!(rt; is_one(&nulls, Some(&three), &mut ctx, &[None, None])?);
+    Ok(())
+}
+
+// With a null fill each row is a patch, and with any other each null.
+#[test]
+fn a_null_among_others_is_a_patch(rt: HostRuntime) -> Result<(), Fail> {
+    let mut ctx = context(rt.alloc())?;
+    let column = with_nulls(rt.alloc(), U8, &[3, 0, 4], &[true, false, true])?;
+    let three = Scalar::primitive(3, U8, NonNullable)?;
     let null = accepted(Scalar::null(DType::primitive(U8, Nullable)))?;
-    let tree = Sparse::encode(&column, Some(&null), &mut ctx)?;
-    assert!(rt; is_patched(&tree, U64, &[0, 1, 2]) && has_rows(&tree, &[Some(3), None, Some(4)]));
-    let tree = Sparse::encode(&column, Some(&fill), &mut ctx)?;
-    assert!(rt; is_patched(&tree, U64, &[1, 2]) && has_rows(&tree, &[Some(3), None, Some(4)]));
+    let rows = [Some(3), None, Some(4)];
+    let by_null = encodes(&column, Some(&null), &mut ctx, (U64, &[0, 1, 2]), &rows)?;
+    let by_three = encodes(&column, Some(&three), &mut ctx, (U64, &[1, 2]), &rows)?;
+    assert!(rt; by_null && by_three);
     Ok(())
 }
 
@@ -112,36 +168,52 @@ fn text(alloc: Global, letters: &str) -> VortexResult<Scalar> {
 
 #[test]
 fn texts_need_a_fill(rt: HostRuntime) -> Result<(), Fail> {
+    let mut ctx = context(rt.alloc())?;
+    let column = texts(rt.alloc(), &[b"a"])?;
+    assert!(rt; is_refused(&column, None, &mut ctx, VortexError::MismatchedTypes));
+    Ok(())
+}
+
+// Whether a row prints so.
+fn prints(alloc: Global, tree: &ArrayRef, row: u64, text: &str) -> VortexResult<bool> {
+    Ok(tree.scalar_at(alloc, row)?.json(alloc)?.as_str() == text)
+}
+
+#[test]
+fn texts_other_than_the_fill_are_patches(rt: HostRuntime) -> Result<(), Fail> {
     let alloc = rt.alloc();
     let mut ctx = context(alloc)?;
-    let column = texts(alloc, &[b"a"])?;
-    assert!(rt; is_refused(&column, None, &mut ctx, VortexError::MismatchedTypes));
     let column = texts(alloc, &[b"b", b"ab", b"b"])?;
-    let tree = Sparse::encode(&column, Some(&text(alloc, "b")?), &mut ctx)?;
-    assert!(rt; is_patched(&tree, U64, &[1]));
-    assert!(rt; tree.scalar_at(alloc, 0)?.json(alloc)?.as_str() == "\"b\"");
-    assert!(rt; tree.scalar_at(alloc, 1)?.json(alloc)?.as_str() == "\"ab\"");
+    let fill = text(alloc, "b")?;
+    let tree = Sparse::encode(&column, Some(&fill), &mut ctx)?;
+    let print = prints(alloc, &tree, 0, "\"b\"")? && prints(alloc, &tree, 1, "\"ab\"")?;
+    assert!(rt; print && is_patched(&tree, U64, &[1]));
     Ok(())
 }
 
 #[test]
-fn what_is_refused(rt: HostRuntime) -> Result<(), Fail> {
-    let alloc = rt.alloc();
-    let mut ctx = context(alloc)?;
+fn too_many_rows_are_refused(rt: HostRuntime) -> Result<(), Fail> {
+    let mut ctx = context(rt.alloc())?;
     let many = ArrayRef::constant(Scalar::primitive(1, U8, NonNullable)?, 4_294_967_296);
-    assert!(rt; is_refused(&many, None, &mut ctx, VortexError::TooManyRows));
-    let column = flat(alloc, I32, NonNullable, &[1])?;
     let null = accepted(Scalar::null(DType::primitive(I32, Nullable)))?;
-    assert!(rt; is_refused(&column, Some(&null), &mut ctx, VortexError::CastRefused));
+    let without = is_refused(&many, None, &mut ctx, VortexError::TooManyRows);
+    assert!(rt; without && is_refused(&many, Some(&null), &mut ctx, VortexError::MismatchedTypes));
+    Ok(())
+}
+
+#[test]
+fn fills_of_another_type_are_refused(rt: HostRuntime) -> Result<(), Fail> {
+    let mut ctx = context(rt.alloc())?;
+    let column = flat(rt.alloc(), I32, NonNullable, &[1])?;
+    let null = accepted(Scalar::null(DType::primitive(I32, Nullable)))?;
     let other = Scalar::primitive(1, U8, NonNullable)?;
-    assert!(rt; is_refused(&many, Some(&null), &mut ctx, VortexError::MismatchedTypes));
-    assert!(rt;
-        is_refused(
-            &column,
-            Some(&other),
-            &mut ctx,
-            VortexError::MismatchedTypes
-        )
+    let of_null = is_refused(&column, Some(&null), &mut ctx, VortexError::CastRefused);
+    let of_other = is_refused(
+        &column,
+        Some(&other),
+        &mut ctx,
+        VortexError::MismatchedTypes,
     );
+    assert!(rt; of_null && of_other);
     Ok(())
 }

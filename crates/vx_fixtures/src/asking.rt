@@ -164,3 +164,10 @@ pub fn made_of<S: Scheme>(
     let mut column = bundle(alloc, ptype, rows)?;
     made_of_taken(scheme, &mut column, &mut ctx)
 }
+
+/// How many rules of exclusion a scheme has: against what stands below, and against standing below others.
+pub fn rules_of<S: Scheme>(alloc: Global, scheme: &S) -> VortexResult<(u64, u64)> {
+    let below = scheme.descendant_exclusions(alloc)?.len();
+    let above = scheme.ancestor_exclusions(alloc)?.len();
+    Ok((below, above))
+}

@@ -6,9 +6,9 @@ mod columns;
 mod making;
 mod rows;
 
-pub use asking::{Told, made_of, told_above, told_of};
+pub use asking::{Told, made_of, rules_of, told_above, told_of};
 pub use columns::{bundle, column, context};
 pub use making::{
     accepted, bits, byte_rows, flat, integers, list, list_scalar, packed, with_nulls,
 };
-pub use rows::{has_rows, has_wholes};
+pub use rows::{has_rows, has_wholes, is_made_plain};

@@ -1,6 +1,8 @@
 //! The rows of a tree, compared with plain slices.
 
+use std::alloc::Global;
 use vx_array::ArrayRef;
+use vx_base::VortexResult;
 
 /// Whether the tree has these rows, None at a null.
 pub fn has_rows(array: &ArrayRef, rows: &[Option<i128>]) -> bool {
@@ -26,4 +28,17 @@ pub fn has_wholes(array: &ArrayRef, wholes: &[i128]) -> bool {
         }
     }
     true
+}
+
+/// Whether a tree has these rows and takes the first of these bytes, and its copy made plain is plain, has the same rows and
+/// takes the second.
+pub fn is_made_plain(
+    alloc: Global,
+    tree: &ArrayRef,
+    (bytes, plain_bytes): (u128, u128),
+    rows: &[Option<i128>],
+) -> VortexResult<bool> {
+    let plain = tree.copy(alloc)?.canonical(alloc)?;
+    let has_both = has_rows(tree, rows) && has_rows(&plain, rows);
+    Ok(has_both && plain.is_plain() && tree.nbytes() == bytes && plain.nbytes() == plain_bytes)
 }

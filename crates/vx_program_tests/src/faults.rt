@@ -9,10 +9,12 @@ use vx_program::{Failed, Sink, Source, StdSink, StdSource, SureSink, SureSource,
 fn each_failed_read_is_told(rt: HostRuntime) -> Result<(), Fail> {
     let mut source = StdSource::new(Torn { reads: 0 });
     let mut piece = [0u8; 4];
-    for want in [Ok(2), Err(Failed), Ok(0)] {
-        assert_eq!(rt; source.read(&mut piece), want);
-    }
-    assert_eq!(rt; piece, [97, 98, 0, 0]);
+    let first = source.read(&mut piece);
+    let second = source.read(&mut piece);
+    let third = source.read(&mut piece);
+    assert!(rt;
+        first == Ok(2) && second == Err(Failed) && third == Ok(0) && piece == [97, 98, 0, 0]
+    );
     Ok(())
 }
 
@@ -22,33 +24,40 @@ fn each_failed_write_and_flush_is_told(rt: HostRuntime) -> Result<(), Fail> {
         writes: 0,
         flushes: 0,
     });
-    assert_eq!(rt; sink.reserve(u64::MAX), Ok(()));
-    assert_eq!(rt; sink.write(b""), Ok(0));
+    let reserved = sink.reserve(u64::MAX);
+    let empty = sink.write(b"");
     // Taken and flushed; refused; nothing taken; taken but not flushed; taken and flushed.
-    for want in [Ok(3), Err(Failed), Err(Failed), Err(Failed), Ok(3)] {
-        assert_eq!(rt; sink.write(b"wxyz"), want);
-    }
+    let first = sink.write(b"wxyz");
+    let second = sink.write(b"wxyz");
+    let third = sink.write(b"wxyz");
+    let fourth = sink.write(b"wxyz");
+    let fifth = sink.write(b"wxyz");
+    let refused = second == Err(Failed) && third == Err(Failed) && fourth == Err(Failed);
+    assert!(rt;
+        reserved == Ok(()) && empty == Ok(0) && first == Ok(3) && refused && fifth == Ok(3)
+    );
     Ok(())
 }
 
 #[test]
-fn faults_end_a_run(rt: HostRuntime) -> Result<(), Fail> {
+fn a_failed_read_ends_a_run(rt: HostRuntime) -> Result<(), Fail> {
     let words = word(rt.alloc(), "compress")?;
     let mut source = StdSource::new(Torn { reads: 1 });
     let mut sink = SureSink::new(rt.alloc());
-    assert_eq!(rt;
-        run(rt.alloc(), words.as_slice(), &mut source, &mut sink),
-        5
-    );
-    assert_eq!(rt; sink.bytes().as_slice(), b"refused: ReadFault\n".as_slice());
+    let status = run(rt.alloc(), words.as_slice(), &mut source, &mut sink);
+    assert!(rt; status == 5 && sink.bytes().as_slice() == b"refused: ReadFault\n".as_slice());
+    Ok(())
+}
+
+#[test]
+fn a_failed_write_ends_a_run(rt: HostRuntime) -> Result<(), Fail> {
+    let words = word(rt.alloc(), "compress")?;
     let mut source = SureSource::new(document(rt.alloc())?);
     let mut sink = StdSink::new(Blocked {
         writes: 1,
         flushes: 0,
     });
-    assert_eq!(rt;
-        run(rt.alloc(), words.as_slice(), &mut source, &mut sink),
-        6
-    );
+    let status = run(rt.alloc(), words.as_slice(), &mut source, &mut sink);
+    assert!(rt; status == 6);
     Ok(())
 }

@@ -5,20 +5,30 @@ use std::test::Fail;
 use vx_base::Bytes;
 use vx_program::{Input, SureSink, SureSource, deliver, read_all, run_in_memory};
 
-#[test]
-fn what_is_read_whole_is_delivered_whole(rt: HostRuntime) -> Result<(), Fail> {
-    let text = "seven\n";
-    let bytes = Vec::from_slice(rt.alloc(), text.as_bytes())?;
+// Whether the bytes of a text are read whole.
+fn is_read_whole(alloc: Global, text: &str) -> Result<bool, Fail> {
+    let bytes = Vec::from_slice(alloc, text.as_bytes())?;
     let mut source = SureSource::new(Bytes::from_vec(bytes));
-    match read_all(rt.alloc(), &mut source)? {
-        Input::Whole(got) => assert_eq!(rt; got.as_slice(), text.as_bytes()),
-        _ => assert!(rt; false, "not read whole"),
+    match read_all(alloc, &mut source)? {
+        Input::Whole(got) => Ok(got.as_slice() == text.as_bytes()),
+        _ => Ok(false),
     }
+}
+
+#[test]
+fn bytes_are_read_whole(rt: HostRuntime) -> Result<(), Fail> {
+    assert!(rt; is_read_whole(rt.alloc(), "seven\n")?);
+    Ok(())
+}
+
+#[test]
+fn texts_are_delivered_whole(rt: HostRuntime) -> Result<(), Fail> {
     let mut sink = SureSink::new(rt.alloc());
-    assert!(rt; deliver(&mut sink, text).is_ok());
-    assert!(rt; deliver(&mut sink, "8").is_ok());
-    assert_eq!(rt; sink.bytes().as_slice(), b"seven\n8".as_slice());
-    assert_eq!(rt; sink.into_bytes().as_slice(), b"seven\n8".as_slice());
+    let first = deliver(&mut sink, "seven\n").is_ok();
+    let second = deliver(&mut sink, "8").is_ok();
+    let has_both = sink.bytes().as_slice() == b"seven\n8".as_slice();
+    let bytes = sink.into_bytes();
+    assert!(rt; first && second && has_both && bytes.as_slice() == b"seven\n8".as_slice());
     Ok(())
 }
 
@@ -40,8 +50,7 @@ fn a_column_is_listed(rt: HostRuntime) -> Result<(), Fail> {
     let words = word(rt.alloc(), "compress")?;
     let bytes = document(rt.alloc())?;
     let (status, sink) = run_in_memory(rt.alloc(), words.as_slice(), bytes);
-    assert_eq!(rt; status, 0);
     let listing = b"vortex.constant i64 len=3 size=9 value=7\nplain=24 tree=9\n".as_slice();
-    assert_eq!(rt; sink.bytes().as_slice(), listing);
+    assert!(rt; status == 0 && sink.bytes().as_slice() == listing);
     Ok(())
 }

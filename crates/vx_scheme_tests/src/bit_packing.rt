@@ -1,10 +1,10 @@
 //! The scheme of bit packing, over columns worked by hand.
 
-use crate::shapes::is_tree;
+use crate::shapes::makes;
 use std::test::Fail;
 use vx_base::ArrayId::{BitPacked, Constant, Primitive};
 use vx_base::PType::{I8, I32, U8, U32};
-use vx_fixtures::{Told, made_of, told_of};
+use vx_fixtures::{Told, told_of};
 use vx_scheme::CompressorContext;
 use vx_schemes::BitPackingScheme;
 
@@ -32,9 +32,8 @@ fn what_fits_fewer_bits_is_packed(rt: HostRuntime) -> Result<(), Fail> {
         ),
     ] {
         let told = told_of(rt.alloc(), &scheme, &CompressorContext::new(), ptype, rows)?;
-        assert!(rt; told == (estimate, Told::Nothing), "{ptype:?}");
-        let (parts, tree) = made_of(rt.alloc(), &scheme, ptype, rows)?;
-        assert!(rt; parts == 0 && is_tree(&tree, (encoding, ptype, nbytes, rows), &[]));
+        let made = makes(rt.alloc(), &scheme, 0, (encoding, ptype, nbytes, rows), &[])?;
+        assert!(rt; told == (estimate, Told::Nothing) && made, "{ptype:?}");
     }
     Ok(())
 }
@@ -44,11 +43,12 @@ fn what_fits_fewer_bits_is_packed(rt: HostRuntime) -> Result<(), Fail> {
 fn a_wide_row_is_a_patch(rt: HostRuntime) -> Result<(), Fail> {
     let mut rows = [Some(1); 11];
     rows[10] = Some(1000);
-    let (_, tree) = made_of(rt.alloc(), &BitPackingScheme::v1(), U32, &rows)?;
     let children = [
         (Primitive, U8, 1, &[Some(10)][..]),
         (Constant, U32, 5, &[Some(1000)][..]),
     ];
-    assert!(rt; is_tree(&tree, (BitPacked, U32, 134, &rows), &children));
+    let root = (BitPacked, U32, 134, &rows[..]);
+    let made = makes(rt.alloc(), &BitPackingScheme::v1(), 0, root, &children)?;
+    assert!(rt; made);
     Ok(())
 }

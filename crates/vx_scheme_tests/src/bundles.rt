@@ -5,6 +5,7 @@ ghost use Rattle.std.specs.Prelude.{IsTrue};
 ghost use Rattle.vx_base.specs.PlainType.{is_integer};
 ghost use Rattle.vx_model.specs.TreeType.{tree_type};
 
+use std::alloc::Global;
 use std::test::Fail;
 use vx_base::PType::I64;
 use vx_base::{ExecutionCtx, VortexResult};
@@ -24,21 +25,31 @@ fn counts_of(
     Ok([of_summary, (stats.value_count(), stats.distinct_count())])
 }
 
+// The same of a bundle of these rows.
+fn counts_of_rows(alloc: Global, rows: &[Option<i128>]) -> VortexResult<[(u32, Option<u32>); 2]> {
+    let mut ctx = context(alloc)?;
+    let mut column = bundle(alloc, I64, rows)?;
+    counts_of(&mut column, &mut ctx)
+}
+
 #[test]
 fn a_bundle_tells_its_statistics(rt: HostRuntime) -> Result<(), Fail> {
-    let mut ctx = context(rt.alloc())?;
-    let mut column = bundle(rt.alloc(), I64, &[Some(5), Some(5), None])?;
-    let counts = counts_of(&mut column, &mut ctx);
-    drop(column);
-    assert!(rt; counts? == [(2, None), (2, Some(1))]);
+    let counts = counts_of_rows(rt.alloc(), &[Some(5), Some(5), None])?;
+    assert!(rt; counts == [(2, None), (2, Some(1))]);
     Ok(())
+}
+
+// Whether most of the values of a bundle of these rows are distinct.
+fn are_mostly_distinct(alloc: Global, rows: &[Option<i128>]) -> VortexResult<bool> {
+    let mut ctx = context(alloc)?;
+    let mut column = bundle(alloc, I64, rows)?;
+    column.is_mostly_distinct(&mut ctx)
 }
 
 const FAR: Option<i128> = Some(1_000_000_007);
 
 #[test]
 fn more_than_half_of_the_values_are_most(rt: HostRuntime) -> Result<(), Fail> {
-    let mut ctx = context(rt.alloc())?;
     for (rows, most) in [
         // Three of four, far apart, and half of them.
         (&[Some(0), FAR, Some(-7), FAR][..], true),
@@ -51,10 +62,8 @@ fn more_than_half_of_the_values_are_most(rt: HostRuntime) -> Result<(), Fail> {
         (&[FAR, None, FAR, None], false),
         (&[], false),
     ] {
-        let mut column = bundle(rt.alloc(), I64, rows)?;
-        let told = column.is_mostly_distinct(&mut ctx);
-        drop(column);
-        assert!(rt; told? == most, "{rows:?}");
+        let told = are_mostly_distinct(rt.alloc(), rows)?;
+        assert!(rt; told == most, "{rows:?}");
     }
     Ok(())
 }

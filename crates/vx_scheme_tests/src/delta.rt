@@ -2,6 +2,7 @@
 
 use crate::shapes::has_shape;
 use std::test::Fail;
+use vx_array::ArrayRef;
 use vx_base::ArrayId::{Delta, Primitive};
 use vx_base::Fraction;
 use vx_base::PType::{I32, U8, U64};
@@ -23,11 +24,9 @@ fn squares() -> [Option<i128>; 2048] {
 fn squares_are_worth_their_differences(rt: HostRuntime) -> Result<(), Fail> {
     let (top, scheme) = (CompressorContext::new(), DeltaScheme::default());
     let told = told_of(rt.alloc(), &scheme, &top, U64, &squares())?;
+    let told_leaf = told_of(rt.alloc(), &scheme, &top.as_leaf(), U64, &squares())?;
     let ratio = Told::Ratio(95 * 2048 * 64, 100 * 2048 * 13);
-    assert!(rt; told == (Told::Later, ratio));
-    let leaf = top.as_leaf();
-    let told = told_of(rt.alloc(), &scheme, &leaf, U64, &squares())?;
-    assert!(rt; told == (Told::Nothing, ratio));
+    assert!(rt; told == (Told::Later, ratio) && told_leaf == (Told::Nothing, ratio));
     Ok(())
 }
 
@@ -61,24 +60,30 @@ fn a_threshold_is_passed_or_nothing_is_told(rt: HostRuntime) -> Result<(), Fail>
 #[test]
 fn equal_rows_and_short_columns_are_skipped(rt: HostRuntime) -> Result<(), Fail> {
     let (top, scheme) = (CompressorContext::new(), DeltaScheme::default());
-    let told = told_of(rt.alloc(), &scheme, &top, I32, &[Some(7); 1024])?;
-    assert!(rt; told == (Told::Later, Told::Nothing));
-    let told = told_of(rt.alloc(), &scheme, &top, I32, &[Some(7); 1023])?;
-    assert!(rt; told == (Told::Nothing, Told::Nothing));
+    let equal = told_of(rt.alloc(), &scheme, &top, I32, &[Some(7); 1024])?;
+    let short = told_of(rt.alloc(), &scheme, &top, I32, &[Some(7); 1023])?;
+    assert!(rt; equal == (Told::Later, Told::Nothing) && short == (Told::Nothing, Told::Nothing));
     Ok(())
+}
+
+// Whether the bases of a tree are 5 alone, and its differences are those of a block, a byte each.
+fn stands_over_five(tree: &ArrayRef) -> bool {
+    match (tree.child(0), tree.child(1)) {
+        (Some(bases), Some(differences)) => {
+            has_shape(bases, &(Primitive, U8, 1, &[Some(5)]))
+                && differences.len() == 1024
+                && differences.nbytes() == 1024
+        }
+        _ => false,
+    }
 }
 
 #[test]
 fn differences_stand_over_bases(rt: HostRuntime) -> Result<(), Fail> {
     let rows = &[Some(5), Some(7), None, Some(4)];
     let (parts, tree) = made_of(rt.alloc(), &DeltaScheme::default(), U8, rows)?;
-    assert!(rt; parts == 2 && has_shape(&tree, &(Delta, U8, 1026, rows)));
-    match (tree.child(0), tree.child(1)) {
-        (Some(bases), Some(differences)) => {
-            assert!(rt; has_shape(bases, &(Primitive, U8, 1, &[Some(5)])));
-            assert!(rt; differences.len() == 1024 && differences.nbytes() == 1024);
-        }
-        _ => assert!(rt; false),
-    }
+    assert!(rt;
+        parts == 2 && has_shape(&tree, &(Delta, U8, 1026, rows)) && stands_over_five(&tree)
+    );
     Ok(())
 }

@@ -4,7 +4,7 @@ ghost use Rattle.std.specs.Prelude.{IfOk, IsTrue};
 ghost use Rattle.vx_base.specs.PlainType.{is_integer};
 ghost use Rattle.vx_model.specs.TreeType.{tree_type};
 
-use crate::shapes::is_tree;
+use crate::shapes::{Shape, is_tree};
 use std::test::Fail;
 use vx_array::ArrayRef;
 use vx_base::ArrayId::{Dict, Primitive};
@@ -30,16 +30,29 @@ fn encoded(array: &ArrayRef, ctx: &mut ExecutionCtx) -> Result<ArrayRef, Fail>
     Ok(integer_dictionary_encode(array, &stats, ctx)?)
 }
 
+// Whether a column's dictionary is this tree, and so is the dictionary's own.
+fn is_encoded(
+    array: &ArrayRef,
+    ctx: &mut ExecutionCtx,
+    root: Shape,
+    children: &[Shape],
+) -> Result<bool, Fail>
+    requires { IsTrue (is_integer (tree_type array.now)) }
+{
+    let dict = encoded(array, ctx)?;
+    let again = encoded(&dict, ctx)?;
+    Ok(is_tree(&dict, root, children) && is_tree(&again, root, children))
+}
+
 #[test]
 fn a_dictionary_is_encoded_as_its_column(rt: HostRuntime) -> Result<(), Fail> {
     let mut ctx = context(rt.alloc())?;
     let rows = &[Some(100), Some(200), Some(100), None, Some(100)];
-    let dict = encoded(&column(rt.alloc(), I32, rows)?, &mut ctx)?;
-    let again = encoded(&dict, &mut ctx)?;
+    let array = column(rt.alloc(), I32, rows)?;
     let codes = &[Some(0), Some(1), Some(0), None, Some(0)][..];
     let values = &[Some(100), Some(200)][..];
     let children = [(Primitive, U8, 6, codes), (Primitive, I32, 8, values)];
-    assert!(rt; is_tree(&dict, (Dict, I32, 14, rows), &children));
-    assert!(rt; is_tree(&again, (Dict, I32, 14, rows), &children));
+    let made = is_encoded(&array, &mut ctx, (Dict, I32, 14, rows), &children)?;
+    assert!(rt; made);
     Ok(())
 }

@@ -1,10 +1,10 @@
 //! The scheme of frames of reference, over columns worked by hand.
 
-use crate::shapes::is_tree;
+use crate::shapes::makes;
 use std::test::Fail;
 use vx_base::ArrayId::{BitPacked, FoR, Primitive};
 use vx_base::PType::{I8, I16, I32, U8, U32};
-use vx_fixtures::{Told, made_of, told_of};
+use vx_fixtures::{Told, told_of};
 use vx_scheme::CompressorContext;
 use vx_schemes::FoRScheme;
 
@@ -31,15 +31,20 @@ fn differences_are_of_the_unsigned_type(rt: HostRuntime) -> Result<(), Fail> {
     let scheme = FoRScheme::v1();
     // Two bits of each difference from 1,000, in a block of 1,024 rows.
     let rows = &[Some(1000), Some(1001), Some(1003)];
-    let (_, tree) = made_of(rt.alloc(), &scheme, I32, rows)?;
-    let packed = (BitPacked, U32, 256, &[Some(0), Some(1), Some(3)][..]);
-    assert!(rt; is_tree(&tree, (FoR, I32, 256, rows), &[packed]));
+    let differences = (BitPacked, U32, 256, &[Some(0), Some(1), Some(3)][..]);
+    let packed = makes(
+        rt.alloc(),
+        &scheme,
+        0,
+        (FoR, I32, 256, rows),
+        &[differences],
+    )?;
     // From -128 on; 255 takes all bits of the unsigned type.
     let rows = &[Some(127), Some(-128), None];
-    let (_, tree) = made_of(rt.alloc(), &scheme, I8, rows)?;
-    let plain = (Primitive, U8, 4, &[Some(255), Some(0), None][..]);
-    assert!(rt; is_tree(&tree, (FoR, I8, 4, rows), &[plain]));
-    let (parts, tree) = made_of(rt.alloc(), &scheme, I32, &[None, None])?;
-    assert!(rt; parts == 0 && is_tree(&tree, (Primitive, I32, 9, &[None, None]), &[]));
+    let differences = (Primitive, U8, 4, &[Some(255), Some(0), None][..]);
+    let plain = makes(rt.alloc(), &scheme, 0, (FoR, I8, 4, rows), &[differences])?;
+    let nulls = (Primitive, I32, 9, &[None, None][..]);
+    let kept = makes(rt.alloc(), &scheme, 0, nulls, &[])?;
+    assert!(rt; packed && plain && kept);
     Ok(())
 }

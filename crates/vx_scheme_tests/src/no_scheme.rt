@@ -3,6 +3,7 @@
 ghost use Rattle.std.specs.Prelude.{◌≡◌, ◌<◌};
 ghost use Rattle.vx_scheme.specs.Asked.{IsSiteTree};
 
+use std::alloc::Global;
 use std::marker::Brand;
 use std::sync::ledger::{Blank, Ledger};
 use std::test::Fail;
@@ -38,6 +39,13 @@ fn keeps(column: &mut ArrayAndStats, ctx: &mut ExecutionCtx) -> VortexResult<boo
     keeps_three::<Brand>(column, ctx, Blank::new(1))
 }
 
+// The same of a column of these rows.
+fn keeps_rows(alloc: Global, rows: &[Option<i128>]) -> VortexResult<bool> {
+    let mut ctx = context(alloc)?;
+    let mut column = bundle(alloc, PType::U8, rows)?;
+    keeps(&mut column, &mut ctx)
+}
+
 #[test]
 fn no_scheme_skips_and_keeps_a_column(rt: HostRuntime) -> Result<(), Fail> {
     let rows = [Some(7), Some(8), Some(7)];
@@ -48,11 +56,7 @@ fn no_scheme_skips_and_keeps_a_column(rt: HostRuntime) -> Result<(), Fail> {
         PType::U8,
         &rows,
     )?;
-    assert!(rt; told == (Told::Nothing, Told::Nothing));
-    let mut ctx = context(rt.alloc())?;
-    let mut column = bundle(rt.alloc(), PType::U8, &rows)?;
-    let kept = keeps(&mut column, &mut ctx);
-    drop(column);
-    assert!(rt; kept?);
+    let kept = keeps_rows(rt.alloc(), &rows)?;
+    assert!(rt; told == (Told::Nothing, Told::Nothing) && kept);
     Ok(())
 }

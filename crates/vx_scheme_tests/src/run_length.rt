@@ -1,12 +1,12 @@
 //! The scheme of runs in blocks, over columns worked by hand.
 
-use crate::shapes::is_tree;
+use crate::shapes::makes;
 use std::alloc::Global;
 use std::test::Fail;
 use vx_base::ArrayId::{Primitive, Rle};
 use vx_base::PType::{I32, U8, U32};
 use vx_base::VortexResult;
-use vx_fixtures::{Told, made_of, told_of};
+use vx_fixtures::{Told, told_of};
 use vx_scheme::CompressorContext;
 use vx_schemes::IntRLEScheme;
 
@@ -44,7 +44,6 @@ pub(crate) fn in_turn(alloc: Global, numbers: &[(i128, u16)]) -> VortexResult<Ve
 #[test]
 fn nulls_make_a_run_of_their_own(rt: HostRuntime) -> Result<(), Fail> {
     let rows = &[Some(5), Some(5), None, None, Some(5)];
-    let (parts, tree) = made_of(rt.alloc(), &IntRLEScheme, I32, rows)?;
     let numbers = in_turn(rt.alloc(), &[(0, 2), (1, 2), (2, 1), (0, 1019)])?;
     let values = &[Some(5), None, Some(5)][..];
     let children = [
@@ -52,7 +51,14 @@ fn nulls_make_a_run_of_their_own(rt: HostRuntime) -> Result<(), Fail> {
         (Primitive, U8, 1024, numbers.as_slice()),
         (Primitive, U8, 1, &[Some(0)][..]),
     ];
-    assert!(rt; parts == 3 && is_tree(&tree, (Rle, I32, 1038, rows), &children));
+    let made = makes(
+        rt.alloc(),
+        &IntRLEScheme,
+        3,
+        (Rle, I32, 1038, rows),
+        &children,
+    )?;
+    assert!(rt; made);
     Ok(())
 }
 
@@ -60,12 +66,13 @@ fn nulls_make_a_run_of_their_own(rt: HostRuntime) -> Result<(), Fail> {
 fn a_run_ends_with_its_block(rt: HostRuntime) -> Result<(), Fail> {
     let rows = in_turn(rt.alloc(), &[(0, 1000), (7, 1000)])?;
     let numbers = in_turn(rt.alloc(), &[(0, 1000), (1, 24), (0, 1024)])?;
-    let (_, tree) = made_of(rt.alloc(), &IntRLEScheme, U32, rows.as_slice())?;
     let children = [
         (Primitive, U32, 12, &[Some(0), Some(7), Some(7)][..]),
         (Primitive, U8, 2048, numbers.as_slice()),
         (Primitive, U8, 2, &[Some(0), Some(2)][..]),
     ];
-    assert!(rt; is_tree(&tree, (Rle, U32, 2062, rows.as_slice()), &children));
+    let root = (Rle, U32, 2062, rows.as_slice());
+    let made = makes(rt.alloc(), &IntRLEScheme, 3, root, &children)?;
+    assert!(rt; made);
     Ok(())
 }

@@ -1,11 +1,11 @@
 //! The scheme of sequences, over columns worked by hand.
 
-use crate::shapes::is_tree;
+use crate::shapes::makes;
 use std::test::Fail;
 use vx_base::ArrayId::{Primitive, Sequence};
 use vx_base::Fraction;
 use vx_base::PType::{I8, I32, U8};
-use vx_fixtures::{Told, made_of, told_above, told_of};
+use vx_fixtures::{Told, told_above, told_of};
 use vx_scheme::CompressorContext;
 use vx_schemes::SequenceScheme;
 
@@ -67,10 +67,15 @@ fn a_threshold_is_passed_or_nothing_is_told(rt: HostRuntime) -> Result<(), Fail>
 #[test]
 fn a_sequence_takes_no_bytes_of_values(rt: HostRuntime) -> Result<(), Fail> {
     let rows = &[Some(3), Some(2), Some(1)];
-    let (parts, tree) = made_of(rt.alloc(), &SequenceScheme, I8, rows)?;
-    assert!(rt; parts == 0 && is_tree(&tree, (Sequence, I8, 0, rows), &[]));
+    let stepped = makes(rt.alloc(), &SequenceScheme, 0, (Sequence, I8, 0, rows), &[])?;
     // A type without a sign has no step of -1.
-    let (parts, tree) = made_of(rt.alloc(), &SequenceScheme, U8, rows)?;
-    assert!(rt; parts == 0 && is_tree(&tree, (Primitive, U8, 3, rows), &[]));
+    let kept = makes(
+        rt.alloc(),
+        &SequenceScheme,
+        0,
+        (Primitive, U8, 3, rows),
+        &[],
+    )?;
+    assert!(rt; stepped && kept);
     Ok(())
 }

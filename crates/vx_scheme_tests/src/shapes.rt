@@ -1,8 +1,10 @@
 //! Trees, compared by their shapes.
 
+use std::alloc::Global;
 use vx_array::ArrayRef;
-use vx_base::{ArrayId, PType};
-use vx_fixtures::has_rows;
+use vx_base::{ArrayId, PType, VortexResult};
+use vx_fixtures::{has_rows, made_of};
+use vx_scheme::Scheme;
 
 // The encoding, type, bytes and rows of a tree.
 pub(crate) type Shape<'a> = (ArrayId, PType, u128, &'a [Option<i128>]);
@@ -29,4 +31,17 @@ pub(crate) fn is_tree(tree: &ArrayRef, root: Shape, children: &[Shape]) -> bool 
         }
     }
     true
+}
+
+// Whether a scheme makes so many parts of a tree's rows, and this is the tree with the parts as they are.
+pub(crate) fn makes<S: Scheme>(
+    alloc: Global,
+    scheme: &S,
+    parts: u64,
+    root: Shape,
+    children: &[Shape],
+) -> VortexResult<bool> {
+    let (_, ptype, _, rows) = root;
+    let (made, tree) = made_of(alloc, scheme, ptype, rows)?;
+    Ok(made == parts && is_tree(&tree, root, children))
 }

@@ -1,10 +1,10 @@
 //! The scheme of sparse values, over columns worked by hand.
 
-use crate::shapes::is_tree;
+use crate::shapes::makes;
 use std::test::Fail;
 use vx_base::ArrayId::{Constant, Primitive, Sparse};
 use vx_base::PType::{I32, U8};
-use vx_fixtures::{Told, made_of, told_of};
+use vx_fixtures::{Told, told_of};
 use vx_scheme::CompressorContext;
 use vx_schemes::SparseScheme;
 
@@ -65,34 +65,46 @@ fn one_value_has_to_stand_in_nine_of_ten(rt: HostRuntime) -> Result<(), Fail> {
 
 #[test]
 fn other_rows_are_patches(rt: HostRuntime) -> Result<(), Fail> {
-    let (parts, tree) = made_of(rt.alloc(), &SparseScheme, I32, &NINE_ONES)?;
     let children = [
         (Primitive, U8, 1, &[Some(9)][..]),
         (Primitive, I32, 4, &[Some(2)][..]),
     ];
-    assert!(rt; parts == 2 && is_tree(&tree, (Sparse, I32, 10, &NINE_ONES), &children));
-    let (_, tree) = made_of(rt.alloc(), &SparseScheme, I32, &MOST_NULL)?;
+    let root = (Sparse, I32, 10, &NINE_ONES[..]);
+    let over_ones = makes(rt.alloc(), &SparseScheme, 2, root, &children)?;
     let children = [
         (Primitive, U8, 1, &[Some(0)][..]),
         (Primitive, I32, 4, &[Some(3)][..]),
     ];
-    assert!(rt; is_tree(&tree, (Sparse, I32, 6, &MOST_NULL), &children));
+    let root = (Sparse, I32, 6, &MOST_NULL[..]);
+    let over_nulls = makes(rt.alloc(), &SparseScheme, 2, root, &children)?;
     // A null is a patch of a value.
     let rows = &[Some(5), None, Some(5)];
-    let (_, tree) = made_of(rt.alloc(), &SparseScheme, I32, rows)?;
     let children = [
         (Primitive, U8, 1, &[Some(1)][..]),
         (Primitive, I32, 5, &[None][..]),
     ];
-    assert!(rt; is_tree(&tree, (Sparse, I32, 11, rows), &children));
+    let of_a_null = makes(
+        rt.alloc(),
+        &SparseScheme,
+        2,
+        (Sparse, I32, 11, rows),
+        &children,
+    )?;
+    assert!(rt; over_ones && over_nulls && of_a_null);
     Ok(())
 }
 
 #[test]
 fn one_value_in_every_row_is_a_constant(rt: HostRuntime) -> Result<(), Fail> {
     for (rows, size) in [([Some(4), Some(4)], 5), ([None, None], 1)] {
-        let (parts, tree) = made_of(rt.alloc(), &SparseScheme, I32, &rows)?;
-        assert!(rt; parts == 0 && is_tree(&tree, (Constant, I32, size, &rows), &[]));
+        let made = makes(
+            rt.alloc(),
+            &SparseScheme,
+            0,
+            (Constant, I32, size, &rows),
+            &[],
+        )?;
+        assert!(rt; made);
     }
     Ok(())
 }

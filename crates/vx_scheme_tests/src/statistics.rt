@@ -1,9 +1,10 @@
 //! Statistics of small columns worked by hand.
 
+use std::alloc::Global;
 use std::test::Fail;
 use vx_array::ArrayRef;
 use vx_base::PType::{self, I8, I32, U8, U64};
-use vx_base::{Nullability, Scalar};
+use vx_base::{Nullability, Scalar, VortexError, VortexResult};
 use vx_fixtures::{accepted, bits, column, context};
 use vx_scheme::{ErasedStats, GenerateStatsOptions, IntegerStats};
 
@@ -15,14 +16,19 @@ const DISTINCT: GenerateStatsOptions = GenerateStatsOptions {
 // one with its count.
 type Counted = (u32, u32, u32, Option<u32>, Option<(i128, u32)>);
 
+// The most frequent value and its count.
+fn frequent(stats: &IntegerStats) -> Option<(i128, u32)> {
+    let (value, count) = stats.most_frequent_value_and_count()?;
+    Some((value.value, count))
+}
+
 fn counted(stats: &IntegerStats) -> Counted {
-    let frequent = stats.most_frequent_value_and_count();
     (
         stats.null_count(),
         stats.value_count(),
         stats.average_run_length(),
         stats.distinct_count(),
-        frequent.map(|(value, count)| (value.value, count)),
+        frequent(stats),
     )
 }
 
@@ -56,12 +62,17 @@ const ROWS: [Row; 6] = [
     ),
 ];
 
+// The statistics of a column of these rows, with its distinct values.
+fn stats_of(alloc: Global, ptype: PType, rows: &[Option<i128>]) -> VortexResult<IntegerStats> {
+    let mut ctx = context(alloc)?;
+    let array = column(alloc, ptype, rows)?;
+    IntegerStats::generate_opts(&array, DISTINCT, &mut ctx)
+}
+
 #[test]
 fn values_are_counted(rt: HostRuntime) -> Result<(), Fail> {
-    let mut ctx = context(rt.alloc())?;
     for (ptype, rows, want) in ROWS {
-        let array = column(rt.alloc(), ptype, rows)?;
-        let stats = IntegerStats::generate_opts(&array, DISTINCT, &mut ctx)?;
+        let stats = stats_of(rt.alloc(), ptype, rows)?;
         assert!(rt; counted(&stats) == want, "{rows:?}");
     }
     Ok(())
@@ -80,56 +91,68 @@ fn have_counts(stats: &IntegerStats, counts: &[(i32, u32)]) -> bool {
 
 #[test]
 fn distinct_values_ascend_with_their_counts(rt: HostRuntime) -> Result<(), Fail> {
-    let mut ctx = context(rt.alloc())?;
     let rows = [Some(1001), Some(1000), None, Some(1003), Some(1000)];
-    let array = column(rt.alloc(), I32, &rows)?;
-    let stats = IntegerStats::generate_opts(&array, DISTINCT, &mut ctx)?;
+    let stats = stats_of(rt.alloc(), I32, &rows)?;
     assert!(rt; have_counts(&stats, &[(1000, 2), (1001, 1), (1003, 1)]));
     Ok(())
 }
 
 // 40 times 9, 40 times 4, and 41 times 9: runs so long that they are counted in place of values.
-#[test]
-fn long_runs_are_counted_as_their_values_are(rt: HostRuntime) -> Result<(), Fail> {
-    let mut ctx = context(rt.alloc())?;
+fn long_runs() -> [Option<i128>; 121] {
     let mut rows = [Some(9); 121];
     for row in 40..80 {
         rows[row] = Some(4);
     }
-    let array = column(rt.alloc(), I32, &rows)?;
-    let stats = IntegerStats::generate_opts(&array, DISTINCT, &mut ctx)?;
+    rows
+}
+
+#[test]
+fn long_runs_are_counted_as_their_values_are(rt: HostRuntime) -> Result<(), Fail> {
+    let stats = stats_of(rt.alloc(), I32, &long_runs())?;
     assert!(rt; have_counts(&stats, &[(4, 40), (9, 81)]));
-    // A null in a run is none of its values.
+    Ok(())
+}
+
+#[test]
+fn a_null_in_a_long_run_is_none_of_its_values(rt: HostRuntime) -> Result<(), Fail> {
+    let mut rows = long_runs();
     rows[50] = None;
-    let array = column(rt.alloc(), I32, &rows)?;
-    let stats = IntegerStats::generate_opts(&array, DISTINCT, &mut ctx)?;
+    let stats = stats_of(rt.alloc(), I32, &rows)?;
     assert!(rt; have_counts(&stats, &[(4, 39), (9, 81)]));
     Ok(())
 }
 
+// The statistics of an array of integers, without its distinct values.
+fn plain_stats_of(alloc: Global, array: &ArrayRef) -> VortexResult<IntegerStats> {
+    if !array.dtype().is_integer() {
+        return Err(VortexError::MismatchedTypes);
+    }
+    let mut ctx = context(alloc)?;
+    IntegerStats::generate(array, &mut ctx)
+}
+
 #[test]
 fn without_a_value_the_extremes_are_swapped(rt: HostRuntime) -> Result<(), Fail> {
-    let mut ctx = context(rt.alloc())?;
     let array = column(rt.alloc(), I8, &[None])?;
-    let stats = IntegerStats::generate(&array, &mut ctx)?;
+    let stats = plain_stats_of(rt.alloc(), &array)?;
     let erased = stats.erased();
-    assert!(rt; !erased.min_is_zero() && !erased.min_is_negative());
-    assert_eq!(rt; erased.max_ilog2(), Some(7));
+    assert!(rt;
+        !erased.min_is_zero() && !erased.min_is_negative() && erased.max_ilog2() == Some(7)
+    );
     Ok(())
 }
 
 // Sevens with a null in row 1 of 4.
+fn sevens(alloc: Global) -> VortexResult<ArrayRef> {
+    let seven = Scalar::primitive(7, U8, Nullability::Nullable)?;
+    let valid = bits(alloc, &[true, false, true, true])?;
+    accepted(ArrayRef::masked(alloc, ArrayRef::constant(seven, 4), valid))
+}
+
 #[test]
 fn a_masked_constant_is_decoded(rt: HostRuntime) -> Result<(), Fail> {
-    let mut ctx = context(rt.alloc())?;
-    let seven = Scalar::primitive(7, U8, Nullability::Nullable)?;
-    let valid = bits(rt.alloc(), &[true, false, true, true])?;
-    let sevens = ArrayRef::constant(seven, 4);
-    let array = accepted(ArrayRef::masked(rt.alloc(), sevens, valid))?;
-    if !array.dtype().is_integer() {
-        return Err(Fail::from("no integers"));
-    }
-    let stats = IntegerStats::generate(&array, &mut ctx)?;
+    let array = sevens(rt.alloc())?;
+    let stats = plain_stats_of(rt.alloc(), &array)?;
     assert!(rt; counted(&stats) == (1, 3, 3, None, None));
     Ok(())
 }

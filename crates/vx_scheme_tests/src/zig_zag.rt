@@ -1,10 +1,10 @@
 //! The scheme of zigzag, over columns worked by hand.
 
-use crate::shapes::is_tree;
+use crate::shapes::makes;
 use std::test::Fail;
 use vx_base::ArrayId::{Primitive, ZigZag};
 use vx_base::PType::{I8, I32, I64, U8, U32, U64};
-use vx_fixtures::{Told, made_of, told_of};
+use vx_fixtures::{Told, told_of};
 use vx_scheme::CompressorContext;
 use vx_schemes::ZigZagScheme;
 
@@ -42,12 +42,13 @@ fn zigzag_stands_over_its_part(rt: HostRuntime) -> Result<(), Fail> {
             [Some(255), None, Some(254)],
         ),
     ] {
-        let (parts, tree) = made_of(rt.alloc(), &ZigZagScheme, ptype, &rows)?;
+        let root = (ZigZag, ptype, nbytes, &rows[..]);
         let children = [(Primitive, unsigned, nbytes, &words[..])];
-        assert!(rt; parts == 1 && is_tree(&tree, (ZigZag, ptype, nbytes, &rows), &children));
+        let made = makes(rt.alloc(), &ZigZagScheme, 1, root, &children)?;
+        assert!(rt; made);
     }
     let rows = &[Some(7), None];
-    let (parts, tree) = made_of(rt.alloc(), &ZigZagScheme, U8, rows)?;
-    assert!(rt; parts == 0 && is_tree(&tree, (Primitive, U8, 3, rows), &[]));
+    let kept = makes(rt.alloc(), &ZigZagScheme, 0, (Primitive, U8, 3, rows), &[])?;
+    assert!(rt; kept);
     Ok(())
 }
