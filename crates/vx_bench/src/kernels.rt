@@ -10,7 +10,8 @@ use std::time::CpuClock;
 use vx_array::{ArrayRef, Node};
 use vx_base::{Bytes, Integer, Mask, Nullability, PType, VortexResult};
 use vx_blocks::{
-    bit_width_histogram, block_runs, delta_blocks, pack, runs, sequence_of, undelta, unpack,
+    BlockRuns, bit_width_histogram, block_runs, delta_blocks, pack, runs, sequence_of, undelta,
+    unpack,
 };
 use vx_values::Ints;
 
@@ -131,21 +132,6 @@ fn show(rt: &impl Print, kernel: &str, on: &Setting, best: u128, digest: u64) ->
     Ok(())
 }
 
-// Times a kernel, and writes its line.
-fn tell<A: Drop, F: Fn() -> VortexResult<A>, D: Fn(&A) -> u64>(
-    rt: &(impl CpuClock + Print),
-    on: &Setting,
-    kernel: &str,
-    run: F,
-    digest_of: D,
-) -> Result<()>
-    requires run { F.IsAlwaysCallable run }
-    requires digest_of { D.IsAlwaysCallable digest_of }
-{
-    let (best, answer) = best_of(rt, on.repeats, run)?;
-    show(rt, kernel, on, best, digest_of(&answer))
-}
-
 fn tell_canonical(
     rt: &(impl AllocGlobal + CpuClock + Print),
     on: &Setting,
@@ -179,13 +165,33 @@ fn tell_sequence<T: Integer>(
     }
     let values = ramp::<T>(rt.alloc(), on.rows)?;
     let rows = values.as_slice();
-    tell(
-        rt,
-        on,
-        "sequence",
-        || Ok(sequence_of(rows)),
-        |found| u64::from(found.is_some()),
-    )
+    let (best, found) = best_of(rt, on.repeats, || Ok(sequence_of(rows)))?;
+    show(rt, "sequence", on, best, u64::from(found.is_some()))
+}
+
+fn digest_of_runs(made: &BlockRuns) -> u64 {
+    digest(made.heads.as_slice())
+        .wrapping_add(digest(made.numbers.as_slice()))
+        .wrapping_add(digest(made.offsets.as_slice()))
+}
+
+// The differences of rows, and their sums.
+fn tell_deltas<T: Integer>(
+    rt: &(impl AllocGlobal + CpuClock + Print),
+    on: &Setting,
+    rows: &[T],
+    valid: &Mask,
+) -> Result<()>
+    requires { length valid.now ≡ length rows.now }
+{
+    let alloc = rt.alloc();
+    let (best, (bases, deltas)) = best_of(rt, on.repeats, || delta_blocks(alloc, rows, valid))?;
+    let sum = digest(bases.as_slice()).wrapping_add(digest(deltas.as_slice()));
+    show(rt, "delta", on, best, sum)?;
+    let (bases, deltas) = delta_blocks(alloc, rows, valid)?;
+    let (bases, deltas) = (bases.as_slice(), deltas.as_slice());
+    let (best, rows) = best_of(rt, on.repeats, || undelta(alloc, bases, deltas))?;
+    show(rt, "undelta", on, best, digest(rows.as_slice()))
 }
 
 // Times the kernels of series on runs and on a ramp of the type.
@@ -201,41 +207,12 @@ fn tell_series<T: Integer>(
     let alloc = rt.alloc();
     let values = repeated::<T>(alloc, on.rows, on.width)?;
     let rows = values.as_slice();
-    tell(
-        rt,
-        on,
-        "runs",
-        || runs(alloc, rows, valid),
-        |ends| digest(ends.as_slice()),
-    )?;
-    tell(
-        rt,
-        on,
-        "block_runs",
-        || block_runs(alloc, rows, valid),
-        |made| {
-            digest(made.heads.as_slice())
-                .wrapping_add(digest(made.numbers.as_slice()))
-                .wrapping_add(digest(made.offsets.as_slice()))
-        },
-    )?;
+    let (best, ends) = best_of(rt, on.repeats, || runs(alloc, rows, valid))?;
+    show(rt, "runs", on, best, digest(ends.as_slice()))?;
+    let (best, made) = best_of(rt, on.repeats, || block_runs(alloc, rows, valid))?;
+    show(rt, "block_runs", on, best, digest_of_runs(&made))?;
     tell_sequence::<T>(rt, on)?;
-    tell(
-        rt,
-        on,
-        "delta",
-        || delta_blocks(alloc, rows, valid),
-        |made| { digest(made.0.as_slice()).wrapping_add(digest(made.1.as_slice())) },
-    )?;
-    let (bases, deltas) = delta_blocks(alloc, rows, valid)?;
-    let (bases, deltas) = (bases.as_slice(), deltas.as_slice());
-    tell(
-        rt,
-        on,
-        "undelta",
-        || undelta(alloc, bases, deltas),
-        |rows| digest(rows.as_slice()),
-    )
+    tell_deltas(rt, on, rows, valid)
 }
 
 // Times each kernel on rows of the type.
@@ -248,29 +225,14 @@ fn tell_of<T: Integer>(rt: &(impl AllocGlobal + CpuClock + Print), on: &Setting)
     let values = values::<T>(alloc, on.rows, width)?;
     let values = values.as_slice();
     let valid = &Mask::from_bits(vec![in alloc; true; on.rows]?);
-    tell(
-        rt,
-        on,
-        "histogram",
-        || bit_width_histogram(alloc, values, valid),
-        |counts| digest(counts.as_slice()),
-    )?;
-    tell(
-        rt,
-        on,
-        "pack",
-        || pack(alloc, values, valid, width),
-        |packed| digest(packed.as_slice()),
-    )?;
+    let (best, counts) = best_of(rt, on.repeats, || bit_width_histogram(alloc, values, valid))?;
+    show(rt, "histogram", on, best, digest(counts.as_slice()))?;
+    let (best, packed) = best_of(rt, on.repeats, || pack(alloc, values, valid, width))?;
+    show(rt, "pack", on, best, digest(packed.as_slice()))?;
     let packed = pack(alloc, values, valid, width)?;
     let bytes = packed.as_slice();
-    tell(
-        rt,
-        on,
-        "unpack",
-        || unpack(alloc, bytes, width, 0, rows),
-        |words| digest(words.as_slice()),
-    )?;
+    let (best, words) = best_of(rt, on.repeats, || unpack(alloc, bytes, width, 0, rows))?;
+    show(rt, "unpack", on, best, digest(words.as_slice()))?;
     tell_canonical(rt, on, packed)?;
     if width == SERIES_WIDTH {
         tell_series::<T>(rt, on, valid)?;
