@@ -28,9 +28,9 @@ LEFT_OUT = {
 EDITS = {
     "finishing": ("negative_values_are_packed", "        return EstimateVerdict::Skip;", "        return EstimateVerdict::AlwaysUse;"),
     "part": (
-        "column_is_its_own_part",
+        "reference_is_one_too_small",
         "    one_part(alloc, differences(alloc, array, least)?)",
-        "    one_part(alloc, array.copy(alloc)?)",
+        "    one_part(alloc, differences(alloc, array, least - 1)?)",
     ),
 }
 
@@ -39,13 +39,7 @@ TEST = """//! Tests of `{type}`, with ample memory.
 
 #[cfg(test)]
 mod tests {{
-    use std::alloc::Global;
-    use std::test::Fail;
-    use vx_base::ArrayId::{id};
-    use vx_base::PType::U16;
-    use vx_base::VortexResult;
-    use vx_fixtures::{{column, context}};
-    use {crate}::compressor;
+{uses}
 
     // 1,024 rows from {least} to {least} + 7.
     fn rows(alloc: Global) -> VortexResult<Vec<Option<i128>>> {{
@@ -68,6 +62,13 @@ mod tests {{
 """
 
 
+def uses(crate, encoding):
+    """The imports of the test, in the order in which `rt fmt` has them."""
+    paths = [f"{crate}::compressor", "std::alloc::Global", "std::test::Fail", f"vx_base::ArrayId::{encoding}",
+             "vx_base::PType::U16", "vx_base::VortexResult", "vx_fixtures::{column, context}"]
+    return "\n".join(f"    use {path};" for path in sorted(paths))
+
+
 def snake(name):
     return re.sub(r"(?<!^)(?=[A-Z])", "_", name).lower()
 
@@ -75,12 +76,15 @@ def snake(name):
 def copy(crate, name, kind):
     old_type, old_name, old_id, old_compressor, encoding, least = KINDS[kind]
     new_name = snake(name)
+    words = new_name.replace("_", " ")
     renamed = [
         (old_id, f"{crate}.{new_name}"),
         ("Rattle.vx_examples", f"Rattle.{crate}"),
         (old_compressor, "compressor"),
         (old_type, name),
         (old_name, new_name),
+        (old_name.replace("_", " "), words),
+        (old_name.replace("_", " ").capitalize(), words.capitalize()),
     ]
 
     def rename(text):
@@ -109,7 +113,7 @@ def copy(crate, name, kind):
     wrong.write_text(f"file: src/{new_name}.rt\nold: {old}\nnew: {new}\n")
     tests = Path("crates") / f"{crate}_tests" / "src" / "lib.rt"
     tests.parent.mkdir(parents=True)
-    tests.write_text(TEST.format(type=name, crate=crate, id=encoding, least=least))
+    tests.write_text(TEST.format(type=name, crate=crate, uses=uses(crate, encoding), id=encoding, least=least))
 
 
 def list_crates(crate):
