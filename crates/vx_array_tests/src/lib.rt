@@ -16,6 +16,8 @@ mod nested;
 #[cfg(test)]
 mod patches;
 #[cfg(test)]
+mod printed;
+#[cfg(test)]
 mod runs;
 #[cfg(test)]
 mod sparse;

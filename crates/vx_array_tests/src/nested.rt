@@ -1,5 +1,6 @@
 //! Structs, lists, fixed-size lists and nulls alone: their rows, their plain trees and their sizes.
 
+use crate::printed::prints;
 use std::alloc::Global;
 use std::test::Fail;
 use vx_array::{ArrayRef, Arrays};
@@ -7,20 +8,6 @@ use vx_base::Nullability::{NonNullable, Nullable};
 use vx_base::PType::{I32, U8};
 use vx_base::{DType, Names, Scalar, Text, Value, Values, VortexError, VortexResult};
 use vx_fixtures::{accepted, bits, flat};
-
-// Whether the rows print so.
-fn prints(alloc: Global, tree: &ArrayRef, rows: &[&str]) -> VortexResult<bool> {
-    if tree.len() != rows.len() as u64 {
-        return Ok(false);
-    }
-    for row in 0..rows.len() {
-        let text = tree.scalar_at(alloc, row as u64)?.json(alloc)?;
-        if text.as_str() != rows[row] {
-            return Ok(false);
-        }
-    }
-    Ok(true)
-}
 
 // A plain tree with these rows and bytes.
 fn is_plain_of(alloc: Global, tree: &ArrayRef, bytes: u128, rows: &[&str]) -> VortexResult<bool> {

@@ -1,5 +1,6 @@
 //! A fill and patches: their rows, their plain trees, their extents and what is refused.
 
+use crate::printed::prints;
 use std::alloc::Global;
 use std::test::Fail;
 use vx_array::{ArrayRef, Patches};
@@ -7,20 +8,6 @@ use vx_base::Nullability::{NonNullable, Nullable};
 use vx_base::PType::{I32, U8, U32};
 use vx_base::{DType, Scalar, VortexError, VortexResult};
 use vx_fixtures::{accepted, flat, is_made_plain, list_scalar, with_nulls};
-
-// Whether the rows print so.
-fn prints(alloc: Global, tree: &ArrayRef, rows: &[&str]) -> VortexResult<bool> {
-    if tree.len() != rows.len() as u64 {
-        return Ok(false);
-    }
-    for row in 0..rows.len() {
-        let text = tree.scalar_at(alloc, row as u64)?.json(alloc)?;
-        if text.as_str() != rows[row] {
-            return Ok(false);
-        }
-    }
-    Ok(true)
-}
 
 // 10, 20 and 30 in rows 1, 3 and 5 of eight, and 1 in the others.
 fn wholes(alloc: Global) -> VortexResult<ArrayRef> {
