@@ -42,7 +42,7 @@ use Rattle.vx_array.specs.declared.array.Node.TheVariants as nodes
 use Rattle.vx_array.specs.Beneath.{ArePlain, is_default, is_zero}
 use Rattle.vx_array.specs.TreeOf.{tree_of}
 use Rattle.vx_array.proofs.ValueAt.{between_next, no_other}
-use Rattle.vx_array.proofs.Views.{all-stop}
+use Rattle.vx_flat.proofs.Views.{all-stop}
 
 -- ---- a node whose type is flat
 

@@ -1,7 +1,7 @@
 pub mod AtNode
 pub mod Blocks
-pub mod ByteLists
 pub mod Canonicals
+pub mod ConstantExtents
 pub mod Decodings
 pub mod DefaultLemmas
 pub mod Falls
@@ -11,7 +11,6 @@ pub mod Flat
 pub mod Holes
 pub mod Looks
 pub mod Making
-pub mod Payloads
 pub mod PatchPlaces
 pub mod PlacedRows
 pub mod PlainFixed
@@ -20,10 +19,9 @@ pub mod PlainNested
 pub mod PlainRows
 pub mod RunDecodings
 pub mod RunNulls
-pub mod RunPlaces
+pub mod RunRows
 pub mod Runs
 pub mod StandardFacts
-pub mod Steps
 pub mod SumLemmas
 pub mod TreeWayLemmas
 pub mod TreeWays
@@ -31,7 +29,5 @@ pub mod Truths
 pub mod Typing
 pub mod Unpacked
 pub mod ValueAt
-pub mod ValueLemmas
 pub mod ValueWayLemmas
-pub mod Views
 pub mod WayLemmas

@@ -1,24 +1,22 @@
 -- The rows of a fill and patches, by the place of each among the patches' values and the fill behind them.
-use Rattle.std.proofs.Common.{◌≡◌, ◌<◌, ◌≤◌, ◌+◌, ◌-◌, ◌++◌, ◌∙◌, ℕ, zero, suc, ℤ, pos, List, [], ◌∷◌, length, map, take, refl, ap, sym, arith, true, false, Option, Some, None}
-use Rattle.std.specs.Prelude.{not, replicate, unwrap_or, slice_index_or}
-use Rattle.std.specs.List.{list_any, range_with_len}
+use Rattle.std.proofs.Common.{◌≡◌, ◌<◌, ◌≤◌, ◌+◌, ◌-◌, ◌++◌, ◌∙◌, ℕ, zero, suc, List, [], ◌∷◌, length, map, refl, ap, sym, arith, true, false, Option, Some, None}
+use Rattle.std.specs.Prelude.{not, replicate, unwrap_or}
+use Rattle.std.specs.List.{list_any}
 use Rattle.std.proofs.lemmas.Bool.{cond_both, or_parts}
-use Rattle.std.proofs.lemmas.List.{length-append, map-append, length-map, get_or-map, take_all}
-use Rattle.std.proofs.lemmas.List.FromFn.{length-map-range_with_len, get_or-map-range_with_len}
+use Rattle.std.proofs.lemmas.List.{length-append, map-append}
 use Rattle.std.proofs.lemmas.List.Quantifiers.{position-Some}
 use Rattle.vx_base.specs.declared.ptype.PType.TheVariants.{U64}
 use Rattle.vx_base.specs.Defaults.{default_of, or_default}
 use Rattle.vx_base.specs.PlainScalar.{PlainScalar}
 use Rattle.vx_base.specs.PlainType.{is_flat}
-use Rattle.vx_base.specs.PlainValue.{PlainValue, null, int, is_null, whole_or_zero}
+use Rattle.vx_base.specs.PlainValue.{PlainValue, null, is_null}
 use Rattle.vx_model.specs.Decoded.{picked}
 use Rattle.vx_model.specs.Plain.{validity, valid_bits}
 use Rattle.vx_model.specs.Refusals.{kept}
-use Rattle.vx_model.specs.Rows.{rows, row_at, is_index, index_of, place_of, patched, below}
+use Rattle.vx_model.specs.Rows.{rows, row_at, is_index, place_of, patched}
 use Rattle.vx_model.specs.Tree.{PlainPatches}
 use Rattle.vx_model.specs.TreeType.{tree_type}
-use Rattle.vx_model.specs.WellFormed.{WellFormedPatches, ascend}
-use Rattle.vx_model.proofs.PatchLemmas.{ascend-index, ascend-within}
+use Rattle.vx_model.specs.WellFormed.{WellFormedPatches}
 use Rattle.vx_model.proofs.PatchedLemmas.{patched-place, patched-fill}
 use Rattle.vx_values.specs.declared.decoded.Decoded.{Decoded}
 use Rattle.vx_values.specs.declared.ints.Ints.{Ints}
@@ -27,7 +25,7 @@ use Rattle.vx_values.specs.Codes.{validity_by_codes}
 use Rattle.vx_values.specs.IntsOf.{ptype_of, wholes_of}
 use Rattle.vx_values.specs.ValuesOf.{kind_of, kind_in, values_of, default_in, AreRows}
 use Rattle.vx_array.specs.IsDecoded.{IsDecoded}
-use Rattle.vx_array.specs.Places.{place_in, places_in, bits_in_rows}
+use Rattle.vx_flat.specs.Places.{place_in, places_in, bits_in_rows}
 use Rattle.vx_array.specs.TreeOf.{sparse_of}
 use Rattle.vx_array.proofs.Decodings.{default_of_kind}
 use Rattle.vx_array.proofs.PlacedRows.{kept-bits, items-placed, validity-placed}
@@ -61,72 +59,6 @@ row-placed is vs fill n same = pick (place_of is n) refl
         let l = p.0 in
         patched-place is vs fill n j same e ∙ sym (front vs (fill ∷ []) j (omega arith))
     pick None e = patched-fill is vs fill n e ∙ sym (behind vs fill (length is) same)
-
--- ---- the places, written over as many of the fill's
-
--- the numbers from 0 on
-abbrev pub numbers : ℕ → List PlainValue
-numbers n = map (λ k. int (pos k)) (range_with_len 0 n)
-
-pub length-numbers : (n : ℕ) → length (numbers n) ≡ n
-length-numbers n = length-map-range_with_len (λ k. int (pos k)) 0 n
-
-pub number-at : (n k : ℕ) → k < n → row_at (numbers n) k ≡ int (pos k)
-number-at n k l = get_or-map-range_with_len (λ k. int (pos k)) 0 n k k null l (omega arith)
-
-place-number : (is : List PlainValue) (n : ℕ) → whole_or_zero (patched is (numbers (length is)) (int (pos (length is))) n) ≡ pos (place_in is n)
-place-number is n = pick (place_of is n) refl
-  where
-    pick : (o : Option ℕ) → place_of is n ≡ o → whole_or_zero (patched is (numbers (length is)) (int (pos (length is))) n) ≡ pos (unwrap_or o (length is))
-    pick (Some j) e =
-        let p = position-Some (λ v. is_index v n) is j null e in
-        ap whole_or_zero (patched-place is (numbers (length is)) (int (pos (length is))) n j (sym (length-numbers (length is))) e ∙ number-at (length is) j p.0)
-    pick None e = ap whole_or_zero (patched-fill is (numbers (length is)) (int (pos (length is))) n e)
-
-places-from : (is : List PlainValue) (offset start n : ℕ)
-    → map (λ i. whole_or_zero (patched is (numbers (length is)) (int (pos (length is))) (offset + i))) (range_with_len start n) ≡ map (λ i. pos (place_in is (offset + i))) (range_with_len start n)
-places-from is offset start zero = refl
-places-from is offset start (suc n) = λ i. place-number is (offset + start) i ∷ places-from is offset (start + 1) n i
-
-pub places-written : (is : List PlainValue) (offset len : ℕ) → below (λ i. whole_or_zero (patched is (numbers (length is)) (int (pos (length is))) (offset + i))) len ≡ places_in is offset len
-places-written is offset len = places-from is offset 0 len
-
-places-filled : (start n count : ℕ) → map pos (replicate n count) ≡ map (λ i. pos count) (range_with_len start n)
-places-filled start zero count = refl
-places-filled start (suc n) count = ap (λ zs. pos count ∷ zs) (places-filled (start + 1) n count)
-
--- an empty list made as long as there are rows
-pub places-start : (made old : List ℕ) (room len n count : ℕ) → old ≡ [] → room ≡ 0 → made ≡ take len old ++ replicate (len - room) n → n ≡ count → map pos made ≡ map (λ i. pos count) (range_with_len 0 len)
-places-start made old room len n count none empty is same =
-    let all : len - room ≡ len = omega arith in
-    ap (map pos) is ∙ (λ i. map pos (take len (none i) ++ replicate (all i) (same i))) ∙ ap (λ xs. map pos (xs ++ replicate len count)) (take_all len [] (omega arith)) ∙ places-filled 0 len count
-
--- an index is a whole number from the offset on
-pub record IsIndexAt (zs : List ℤ) (offset len place : ℕ) : Type 0 where
-  pub number : ℕ
-  pub is : slice_index_or zs place (pos 0) ≡ pos number
-  pub found : index_of (row_at (map int zs) place) ≡ Some number
-  pub from : offset ≤ number
-  pub before : number < offset + len
-
-pub index-at : (zs : List ℤ) (offset len place : ℕ) → ascend offset (offset + len) (map int zs) ≡ true → place < length zs → IsIndexAt zs offset len place
-index-at zs offset len place e l = pick (index_of (row_at (map int zs) place)) refl
-  where
-    here : place < length (map int zs)
-    here = let same = length-map zs int in omega arith
-
-    value : row_at (map int zs) place ≡ int (slice_index_or zs place (pos 0))
-    value = get_or-map int zs place (pos 0) null l
-
-    whole : (z : ℤ) (n : ℕ) → index_of (int z) ≡ Some n → z ≡ pos n
-    whole (pos m) n f = cc
-    whole z n f = absurd cc
-
-    pick : (o : Option ℕ) → index_of (row_at (map int zs) place) ≡ o → IsIndexAt zs offset len place
-    pick None f = absurd (ascend-index offset (offset + len) (map int zs) place e here f)
-    pick (Some n) f =
-        let b = ascend-within offset (offset + len) (map int zs) place n e here f in
-        record { number = n; is = whole _ n (sym (ap index_of value) ∙ f); found = f; from = b.0; before = b.1 }
 
 -- ---- validity with one row more
 

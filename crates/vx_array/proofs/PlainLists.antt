@@ -1,5 +1,5 @@
 -- When trees of lists are plain: their elements are, offsets are the plain ones, and a null list has no elements or, of one size, defaults.
-use Rattle.std.proofs.Common.{◌≡◌, ◌∙◌, ◌<◌, ◌≤◌, ◌+◌, ◌-◌, ◌*◌, ℕ, zero, suc, pos, ℤ, List, [], ◌∷◌, length, map, get_or, refl, sym, ap, subst, arith, add-one, zero-add, Bool, true, false, Some, None}
+use Rattle.std.proofs.Common.{◌≡◌, ◌∙◌, ◌<◌, ◌≤◌, ◌+◌, ◌-◌, ℕ, zero, suc, pos, List, [], ◌∷◌, length, map, get_or, refl, sym, ap, arith, true, false, Some, None}
 use Rattle.std.specs.Prelude.{IsTrue, ◌↔◌, ◌==◌}
 use Rattle.std.specs.List.{list_all, range_with_len}
 use Rattle.std.proofs.lemmas.Bool.{and_parts, eqb-true, leb-true}
@@ -12,13 +12,13 @@ use Rattle.vx_base.specs.declared.ptype.PType.{PType}
 use Rattle.vx_base.specs.declared.ptype.PType.TheVariants.{U64}
 use Rattle.vx_base.specs.PlainScalar.{fits}
 use Rattle.vx_base.specs.PlainType.{is_nullable, allows_null}
-use Rattle.vx_base.specs.PlainValue.{PlainValue, null, int, items_or_empty}
+use Rattle.vx_base.specs.PlainValue.{PlainValue, null, int}
 use Rattle.vx_model.specs.Column.{column_of}
 use Rattle.vx_model.specs.Decoded.{zeroed_by}
 use Rattle.vx_model.specs.Nested.{joined}
 use Rattle.vx_model.specs.Offsets.{offsets_from, offsets_of, offset_values}
 use Rattle.vx_model.specs.Plain.{IsPlain, plain, plain_of, plain_offsets}
-use Rattle.vx_model.specs.Rows.{rows, row_at, offset_at, cut_at, parts_of}
+use Rattle.vx_model.specs.Rows.{rows, offset_at, cut_at}
 use Rattle.vx_model.specs.Tree.{Tree, Validity, primitive, list}
 use Rattle.vx_model.specs.TreeType.{tree_type}
 use Rattle.vx_model.specs.WellFormed.{WellFormed, IsValidityOf, lies_between, are_offsets}

@@ -6,7 +6,7 @@ use Rattle.std.proofs.lemmas.List.FromFn.{take-map-range_with_len}
 use Rattle.std.proofs.lemmas.Simd.{map-map}
 use Rattle.vx_base.specs.declared.ptype.PType.{PType}
 use Rattle.vx_base.specs.declared.dtype.Nullability.{Nullability}
-use Rattle.vx_base.specs.PlainType.{is_integer, is_nullable, integer_of}
+use Rattle.vx_base.specs.PlainType.{integer_of}
 use Rattle.vx_base.specs.PlainType as types
 use Rattle.vx_base.specs.Packed.{block_count}
 use Rattle.vx_base.specs.PlainValue.{int, whole_or_zero}

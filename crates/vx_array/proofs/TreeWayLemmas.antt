@@ -2,7 +2,7 @@
 use Rattle.std.proofs.Common.{◌≡◌, ◌+◌, ◌*◌, ◌++◌, ◌∙◌, ℕ, suc, List, [], ◌∷◌, length, map, true, refl, sym, ap, arith}
 use Rattle.std.proofs.lemmas.List.{length-append, map-append}
 use Rattle.vx_base.specs.PlainScalar.{PlainScalar}
-use Rattle.vx_base.specs.PlainType.{PlainType, PlainFields, boolean, primitive, utf8, binary, is_flat, is_integer, integer_of}
+use Rattle.vx_base.specs.PlainType.{PlainType, PlainFields, boolean, primitive, utf8, binary, is_flat}
 use Rattle.vx_base.specs.PlainType as types
 use Rattle.vx_base.specs.PlainValue.{PlainValue, PlainValues}
 use Rattle.vx_model.specs.Extents.{counts, field_counts, both, repeated, extents}

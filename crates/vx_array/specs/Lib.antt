@@ -1,13 +1,10 @@
 pub mod AsType
 pub mod Beneath
-pub mod Handed
 pub mod HasRuns
 pub mod IsArray
 pub mod IsDecoded
 pub mod Kept
 pub mod Look
-pub mod Places
-pub mod RunPlaces
 pub mod Sums
 pub mod TreeFalls
 pub mod TreeOf

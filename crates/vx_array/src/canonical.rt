@@ -10,13 +10,14 @@ ghost use Rattle.vx_array.specs.HasRuns.{has_runs};
 ghost use Rattle.vx_array.specs.IsDecoded.{IsDecoded};
 
 use crate::array::{ArrayRef, Node};
-use crate::node::{
-    as_type, block_places, decoded_bool, decoded_by_codes, decoded_constant, decoded_delta,
-    decoded_masked, decoded_moved, decoded_packed, decoded_primitive, decoded_sequence,
-    decoded_sparse, decoded_var_bin, decoded_view, decoded_zig_zag, run_places,
-};
+use crate::node::{as_type, decoded_constant, decoded_packed, decoded_sparse};
 use std::alloc::Global;
 use vx_base::VortexResult;
+use vx_flat::{
+    block_places, decoded_bool, decoded_by_codes, decoded_delta, decoded_masked, decoded_moved,
+    decoded_primitive, decoded_sequence, decoded_var_bin, decoded_view, decoded_zig_zag,
+    run_places,
+};
 use vx_values::{Decoded, Values};
 
 impl ArrayRef {

@@ -15,7 +15,6 @@ mod within;
 use crate::sizes::ROW_LIMIT;
 use vx_base::{DType, Fields, Text, Value};
 use within::rows_within;
-pub(crate) use within::values_of;
 
 // The way from a column to one within: to the column itself; or into a field of structs, or into the items of lists, and
 // on from there. It stands on the stack.

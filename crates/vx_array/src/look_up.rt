@@ -9,10 +9,11 @@ ghost use Rattle.vx_model.specs.TreeType.{tree_type};
 
 use crate::array::{ArrayRef, Node};
 use crate::node::{
-    BLOCK_ROWS, masked_at, moved_at, picked_at, piece_at, primitive_at, rle_at, run_at,
-    sequence_at, sparse_at, summed_at, truth_at, unpacked_at, unzigzagged_at, view_at, whole_at,
+    BLOCK_ROWS, masked_at, picked_at, piece_at, rle_at, run_at, sparse_at, summed_at, unpacked_at,
+    whole_at,
 };
 use vx_base::Cell;
+use vx_flat::{moved_at, primitive_at, sequence_at, truth_at, unzigzagged_at, view_at};
 
 impl ArrayRef {
     /// What stands in a row of a leaf type or of timestamps.

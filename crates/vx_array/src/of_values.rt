@@ -14,16 +14,15 @@ ghost use Rattle.vx_model.specs.Tree.{of_list};
 
 mod byte_lists;
 mod flat;
-mod within;
 
 use crate::array::ArrayRef;
 use crate::arrays::Arrays;
 use byte_lists::of_byte_lists;
-use flat::{of_bytes, of_stamps, of_truths, of_wholes, validity_of};
+use flat::{of_bytes, of_stamps, of_truths, of_wholes};
 use std::alloc::Global;
 use vx_base::{DType, Fields, IntList, Names, Nullability, Value, VortexResult};
+use vx_flat::{field_columns, filled_lists, list_items, validity_of};
 use vx_values::Ints;
-use within::{field_rows, filled_lists, first_column, list_items};
 
 impl ArrayRef {
     /// The plain tree of the column of a type with these values, each of which is one of the type. They are moved into
@@ -80,10 +79,11 @@ fn field_trees(alloc: Global, fields: &Fields, values: Vec<Value>) -> VortexResu
     requires { IsTrue (list_all (fields_fit (of_fields (fields_of fields.now))) (struct_rows (of_fields (fields_of fields.now)) (map value_of values.items))) }
     ensures { OrMemory result (λ trees. of_list trees ≡ plain_fields (of_fields (fields_of fields.now)) (struct_rows (of_fields (fields_of fields.now)) (map value_of values.items))) }
 {
-    let mut rows = field_rows(alloc, fields, values)?;
-    let mut trees = Vec::new(alloc);
-    for field in fields.as_slice() {
-        let column = first_column(alloc, &mut rows)?;
+    let parts = fields.as_slice();
+    let columns = field_columns(alloc, fields, values)?;
+    let mut trees = Vec::with_capacity(alloc, columns.len())?;
+    for column in columns {
+        let field = &parts[trees.len()];
         trees.push(ArrayRef::of_values(alloc, &field.1, column)?)?;
     }
     Ok(Arrays::from_vec(trees))

@@ -3,16 +3,17 @@
 ghost use Rattle.std.specs.Prelude.{◌≡◌, ◌<◌, ◌-◌, ◌+◌, ◌^◌, min, nat_le};
 ghost use Rattle.std.specs.List.{list_all};
 ghost use Rattle.vx_model.specs.Extents.{all_extents, extents_fit, row_limit};
-ghost use Rattle.vx_model.specs.Size.{nbytes, size, sizes, bit_bytes, validity_size};
+ghost use Rattle.vx_model.specs.Size.{nbytes, size, sizes};
 ghost use Rattle.vx_model.specs.Tree.{of_list};
 
 use crate::array::{ArrayRef, Node, Patches};
 use crate::arrays::Arrays;
 use crate::node::{
-    bool_bytes, constant_bytes, constant_extents_fit, masked_bytes, packed_bytes, primitive_bytes,
-    sparse_bytes, var_bin_bytes, var_bin_extents_fit, view_bytes,
+    constant_bytes, constant_extents_fit, packed_bytes, sparse_bytes, var_bin_extents_fit,
 };
-use vx_base::Mask;
+use vx_flat::{
+    bool_bytes, masked_bytes, primitive_bytes, var_bin_bytes, view_bytes, with_validity,
+};
 
 /// The greatest number of rows that is compressed.
 pub(crate) const ROW_LIMIT: u64 = 1 << 31;
@@ -143,34 +144,9 @@ impl Patches {
     }
 }
 
-// The bytes of children, and those of validity.
-fn with_validity(inside: u128, valid: &Option<Mask>) -> u128
-    ensures { result ≡ min (inside + validity_size valid.now) (2 ^ 128 - 1) }
-{
-    inside.saturating_add(validity_bytes(valid))
-}
-
 // Whether so many rows are compressed.
 pub(crate) fn is_few(rows: u64) -> bool
     ensures { result ≡ nat_le rows row_limit }
 {
     rows <= ROW_LIMIT
-}
-
-// Whole bytes that hold this many bits.
-pub(crate) fn bit_bytes(bits: u64) -> u128
-    ensures value { result ≡ bit_bytes bits }
-    ensures small { result < 2 ^ 62 }
-{
-    (u128::from(bits) + 7) / 8
-}
-
-pub(crate) fn validity_bytes(valid: &Option<Mask>) -> u128
-    ensures value { result ≡ validity_size valid.now }
-    ensures small { result < 2 ^ 62 }
-{
-    match valid {
-        Some(bits) => bit_bytes(bits.len()),
-        None => 0,
-    }
 }

@@ -2,7 +2,7 @@
 
 ghost use Rattle.std.specs.List.{list_all};
 ghost use Rattle.std.specs.Prelude.{◌≡◌, ◌<◌, ◌≤◌, ◌+◌, ◌*◌, ◌^◌, IsTrue, None, if◌then◌else◌, length, map, nat_lt};
-ghost use Rattle.vx_base.specs.Answers.{Answers, Decided, OrMemory, unless};
+ghost use Rattle.vx_base.specs.Answers.{Decided, OrMemory, unless};
 ghost use Rattle.vx_base.specs.Masks.{rows_between};
 ghost use Rattle.vx_base.specs.PlainScalar.{scalar};
 ghost use Rattle.vx_base.specs.PlainType.{is_integer};

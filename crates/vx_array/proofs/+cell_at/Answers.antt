@@ -34,7 +34,7 @@ use Rattle.vx_array.proofs.AtNode.{at_node}
 use Rattle.vx_array.proofs.Flat.{integer_flat, patches_flat}
 use Rattle.vx_array.proofs.Looks.{IsRead, read_of, found-there, half-after, half-before, read-none}
 use Rattle.vx_array.proofs.Runs.{before-next, above-next}
-use Rattle.vx_array.proofs.Steps.{whole-near, first-signed, step-signed, near-signed}
+use Rattle.vx_flat.proofs.Steps.{whole-near, first-signed, step-signed, near-signed}
 use Rattle.vx_array.proofs.SumLemmas.{whole_row, sum-start, sum-next}
 use Rattle.vx_array.proofs.Unpacked.{width-le}
 use Rattle.vx_array.proofs.+cell_at.Goals as goal

@@ -7,7 +7,7 @@ use Rattle.vx_model.proofs.RunEndLemmas.{length-run_end}
 use Rattle.vx_model.proofs.TreesLemmas.{few-of_list}
 use Rattle.vx_array.specs.TreeOf.{tree_of}
 use Rattle.vx_array.proofs.AtNode.{at_node}
-use Rattle.vx_array.proofs.Views.{all-stop, all-end}
+use Rattle.vx_flat.proofs.Views.{all-stop, all-end}
 use Rattle.vx_array.proofs.+extents_fit.Goals as goal
 
 pub arrays::Arrays::extents_fit-returns-then-not-extents_fit : goal.arrays::Arrays::extents_fit-returns-then-not-extents_fit

@@ -1,23 +1,23 @@
-use Rattle.std.proofs.Common.{arith, ◌≡◌, ◌∙◌, ◌+◌, ◌++◌, sym, ap, map, length, pos, None}
+use Rattle.std.proofs.Common.{arith, rules, ◌≡◌, ◌∙◌, ◌<◌, ◌+◌, ◌++◌, [], ◌∷◌, sym, ap, map, drop, length, get_or, pos, None}
 use Rattle.std.specs.List.{list_all}
-use Rattle.std.specs.VecDeque.{deque_items}
-use Rattle.std.proofs.lemmas.List.{length-map}
+use Rattle.std.specs.Vec.Iter.{into_iter_items}
+use Rattle.std.proofs.lemmas.List.{length-map, length-append}
 use Rattle.vx_base.specs.declared.dtype.Nullability.TheVariants.{NonNullable}
 use Rattle.vx_base.specs.declared.ptype.PType.TheVariants.{U64}
-use Rattle.vx_base.specs.PlainScalar.{fits, fields_fit}
+use Rattle.vx_base.specs.PlainScalar.{fits}
 use Rattle.vx_base.specs.PlainType.{of_fields}
-use Rattle.vx_base.specs.TypeOf.{type_of, value_of, fields_of}
+use Rattle.vx_base.specs.TypeOf.{type_of, value_of, field_of, fields_of}
 use Rattle.vx_base.proofs.FallLemmas.{field_falls, field_list_count}
 use Rattle.vx_base.proofs.MakesLemmas.{Makes_ok, Makes_err}
-use Rattle.vx_model.specs.Nested.{elements}
-use Rattle.vx_model.specs.Plain.{validity, plain_of, plain_fields}
+use Rattle.vx_model.specs.Nested.{elements, struct_rows}
+use Rattle.vx_flat.specs.Columns.{columns_of}
+use Rattle.vx_model.specs.Plain.{validity, plain_of}
 use Rattle.vx_model.specs.Refusals.{kept, structure_refusal, list_refusal, fixed_size_list_refusal}
 use Rattle.vx_model.specs.Tree.{primitive, structure, list, fixed_size_list, of_list, list_of}
 use Rattle.vx_model.proofs.PlainAdmittedLemmas.{structure_admitted, list_admitted, fixed_size_list_admitted}
 use Rattle.vx_model.proofs.DecodeLemmas.{kept-validity}
 use Rattle.vx_model.proofs.NestedLemmas.{struct_rows-fit, elements-fit, fixed_elements-fit}
-use Rattle.vx_array.specs.Handed.{rows_of}
-use Rattle.vx_array.proofs.FieldTrees.{fields_from, column-fits, others-fit, trees-more, trees-all}
+use Rattle.vx_array.proofs.FieldTrees.{fields_from, columns_fit, trees_of, columns-fit, trees-columns, length-columns, column-fits, others-fit, trees-more, trees-all}
 use Rattle.vx_array.proofs.+of_values.Goals as goal
 
 -- ---- structs
@@ -41,36 +41,66 @@ of_values::of_structs-returns-in-Err t c =
     ((λ i. structure_refusal (c.in_ok-names.ensures i) (c.in_ok-trees.ensures i) (len i) (valid i) c.args.nullability) ∙ structure_admitted (of_fields (fields_of c.args.fields.now)) c.args.nullability vs c.requires)
     c.in-Err.ensures
 
+pub of_values::field_trees-loop-column-init : goal.of_values::field_trees-loop-column-init
+of_values::field_trees-loop-column-init t c =
+    let all = fields_of c.args.fields.now in
+    let rows = struct_rows (of_fields all) (map value_of c.args.values.items) in
+    let seen : map (λ column. map value_of column.items) (into_iter_items c.into_iter-column-iterator.result) ≡ columns_of (length all) rows =
+    ap (λ columns. map (λ column. map value_of column.items) columns) (search rules) ∙ c.in_ok-columns.ensures in
+    let fs = c.as_slice-parts.result.now in
+    let parts = c.as_slice-parts.ensures in
+    let none = c.in_ok-trees.ensures.items in
+    let first : fields_from (length c.in_ok-trees.trees.items) fs ≡ of_fields all = (λ j. of_fields (map field_of (drop (length (none j)) fs))) ∙ ap of_fields parts in
+    record {
+      lengths = omega (arith, ap length none, ap length seen, length-columns (length all) rows, ap length parts, length-map fs field_of);
+      fitting = (λ j. columns_fit (first j) (seen j)) ∙ columns-fit all rows c.requires;
+      made = (λ j. none j ++ list_of (trees_of (first j) (seen j))) ∙ ap list_of (trees-columns all rows);
+    }
+
 pub of_values::field_trees-of_values-requires : goal.of_values::field_trees-of_values-requires
 of_values::field_trees-of_values-requires t c =
-    let fs = c.as_slice-field-items.result.now in
-    let f = c.field-item.result in
-    let i = c.loop-field.field-index in
-    let falls = field_falls fs i f (omega arith) c.field-item.is in
-    let count = ap field_list_count c.as_slice-field-items.ensures in
-    let rows = rows_of (map deque_items c.loop-field.rows.items) in
-    (omega arith, ap (list_all (fits (type_of f.1))) c.in_ok-column.ensures.first ∙ column-fits fs i f (omega arith) c.field-item.is rows c.loop-field.invariant.fitting)
+    let l = c.loop-column in
+    let fs = c.as_slice-parts.result.now in
+    let f = c.index-parts-len.result in
+    let i = length l.trees.items in
+    let left = ap (λ columns. map (λ column. map value_of column.items) columns) c.in-Some.ensures.steps.0 in
+    let here : i < length fs = omega (arith, ap length left, l.invariant.lengths) in
+    let at : c.len-in-loop-column.result ≡ i = search rules in
+    let is : f ≡ get_or fs i f = c.index-parts-len.is ∙ ap (λ k. get_or fs k f) at in
+    let falls = field_falls fs i f here is in
+    let count = ap field_list_count c.as_slice-parts.ensures in
+    (omega (arith, falls, count), column-fits fs i f here is _ _ (ap (columns_fit (fields_from i fs)) (sym left) ∙ l.invariant.fitting))
 
-pub of_values::field_trees-loop-field-preserved : goal.of_values::field_trees-loop-field-preserved
-of_values::field_trees-loop-field-preserved t c =
-    let fs = c.as_slice-field-items.result.now in
-    let f = c.field-item.result in
-    let i = c.loop-field.field-index in
-    let rows = rows_of (map deque_items c.loop-field.rows.items) in
-    let rest = c.in_ok-column.ensures.rest in
-    let made = c.in_ok-of_values.ensures ∙ ap (plain_of (type_of f.1)) c.in_ok-column.ensures.first in
+pub of_values::field_trees-loop-column-preserved : goal.of_values::field_trees-loop-column-preserved
+of_values::field_trees-loop-column-preserved t c =
+    let l = c.loop-column in
+    let fs = c.as_slice-parts.result.now in
+    let f = c.index-parts-len.result in
+    let i = length l.trees.items in
+    let left = ap (λ columns. map (λ column. map value_of column.items) columns) c.in-Some.ensures.steps.0 in
+    let here : i < length fs = omega (arith, ap length left, l.invariant.lengths) in
+    let at : c.len-in-loop-column.result ≡ i = search rules in
+    let is : f ≡ get_or fs i f = c.index-parts-len.is ∙ ap (λ k. get_or fs k f) at in
+    let column = map value_of c.in-Some.column.items in
+    let rest = map (λ column. map value_of column.items) (into_iter_items c.next.new.self) in
+    let new = c.in_ok-push.ensures.items in
+    let tree = c.in_ok-of_values.field-0 in
+    let long : length c.push.new.self.items ≡ i + 1 = ap length new ∙ length-append l.trees.items (tree ∷ []) in
+    let fit = ap (columns_fit (fields_from i fs)) (sym left) ∙ l.invariant.fitting in
+    let made = ap (λ columns. l.trees.items ++ list_of (trees_of (fields_from i fs) columns)) (sym left) ∙ l.invariant.made in
     record {
-      fitting = ap (list_all (fields_fit (fields_from (i + 1) fs))) rest ∙ others-fit fs i f (omega arith) c.field-item.is rows c.loop-field.invariant.fitting;
-      made =
-          (λ j. c.in_ok-push.ensures.items j ++ list_of (plain_fields (fields_from (i + 1) fs) (rest j)))
-          ∙ trees-more fs i f (omega arith) c.field-item.is rows c.loop-field.trees.items c.in_ok-of_values.field-0 _ made c.loop-field.invariant.made;
+      lengths = omega (arith, ap length left, l.invariant.lengths, long);
+      fitting = ap (λ n. columns_fit (fields_from n fs) rest) long ∙ others-fit fs i f here is column rest fit;
+      made = (λ j. new j ++ list_of (trees_of (fields_from (long j) fs) rest)) ∙ trees-more fs i f here is column rest l.trees.items tree _ c.in_ok-of_values.ensures made;
     }
 
 pub of_values::field_trees-returns : goal.of_values::field_trees-returns
 of_values::field_trees-returns t c =
-    let fs = c.as_slice-field-items.result.now in
-    let rows = rows_of (map deque_items c.loop-field.rows.items) in
-    ap of_list c.from_vec.ensures ∙ trees-all fs c.loop-field.field-index rows c.loop-field.trees.items _ (omega arith) c.loop-field.invariant.made
+    let l = c.loop-column in
+    let fs = c.as_slice-parts.result.now in
+    let left = map (λ column. map value_of column.items) (into_iter_items l.column-iterator) in
+    let none : length (into_iter_items l.column-iterator) ≡ 0 = search rules in
+    ap of_list c.from_vec.ensures ∙ trees-all fs (length l.trees.items) left l.trees.items _ (omega (arith, none, length-map (into_iter_items l.column-iterator) (λ column. map value_of column.items), l.invariant.lengths)) l.invariant.made
 
 -- ---- lists
 

@@ -1,15 +1,12 @@
-use Rattle.std.proofs.Common.{◌≡◌, ◌+◌, ◌*◌, ◌++◌, map, true}
-use Rattle.std.specs.List.{list_all}
-use Rattle.std.specs.VecDeque.{deque_items}
-use Rattle.vx_base.specs.PlainScalar.{fields_fit}
+use Rattle.std.proofs.Common.{◌≡◌, ◌+◌, ◌*◌, ◌++◌, length, map, true}
+use Rattle.std.specs.Vec.Iter.{into_iter_items}
 use Rattle.vx_base.specs.PlainType.{of_fields}
 use Rattle.vx_base.specs.TypeOf.{type_of, value_of, fields_of}
 use Rattle.vx_base.proofs.FallLemmas.{type_count, field_list_count}
 use Rattle.vx_model.specs.Nested.{struct_rows}
 use Rattle.vx_model.specs.Plain.{plain_fields}
 use Rattle.vx_model.specs.Tree.{list_of}
-use Rattle.vx_array.specs.Handed.{rows_of}
-use Rattle.vx_array.proofs.FieldTrees.{fields_from}
+use Rattle.vx_array.proofs.FieldTrees.{fields_from, columns_fit, trees_of}
 use Rattle.vx_array.proofs.+of_values.Given as goal
 
 -- three for each type and each field, and more where a call of the same comes first
@@ -32,12 +29,13 @@ abbrev pub decreases-of_values::of_fixed_lists : goal.decreases-of_values::of_fi
 decreases-of_values::of_fixed_lists l = 3 * type_count (type_of l.dtype.now) + 2
 
 -- the trees so far, and those of the fields that are left, whose values fit them
-abbrev pub invariant-of_values::field_trees-loop-field : goal.invariant-of_values::field_trees-loop-field
-invariant-of_values::field_trees-loop-field l =
+abbrev pub invariant-of_values::field_trees-loop-column : goal.invariant-of_values::field_trees-loop-column
+invariant-of_values::field_trees-loop-column l =
     let all = of_fields (fields_of l.fields) in
-    let left = fields_from l.field-index l.field-items in
-    let rows = rows_of (map deque_items l.rows.items) in
+    let fields = fields_from (length l.trees.items) l.parts in
+    let left = map (λ column. map value_of column.items) (into_iter_items l.column-iterator) in
     record {
-      fitting : list_all (fields_fit left) rows ≡ true;
-      made : l.trees.items ++ list_of (plain_fields left rows) ≡ list_of (plain_fields all (struct_rows all (map value_of l.fn.values.items)));
+      lengths : length l.trees.items + length left ≡ length l.parts;
+      fitting : columns_fit fields left ≡ true;
+      made : l.trees.items ++ list_of (trees_of fields left) ≡ list_of (plain_fields all (struct_rows all (map value_of l.fn.values.items)));
     }

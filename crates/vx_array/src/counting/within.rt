@@ -8,6 +8,7 @@ ghost use Rattle.vx_array.specs.Ways.{way_of, field_type, items_type, items_of_n
 
 use super::Way;
 use vx_base::{DType, Value};
+use vx_flat::values_of;
 
 // The rows that values have in the column that a way leads to.
 #[cycle(rows_within)]
@@ -111,17 +112,6 @@ fn values_in<'a>(value: Option<&'a Value>) -> &'a [Value]
     match value {
         Some(value) => values_of(value),
         None => &[],
-    }
-}
-
-// Those within one.
-#[tactic(auto, using(crate::proofs::ValueWayLemmas::lent))]
-pub(crate) fn values_of(value: &Value) -> &[Value]
-    ensures { map value_of result.now ≡ items_or_empty (value_of value.now) }
-{
-    match value {
-        Value::List(values) => values.as_slice(),
-        _ => &[],
     }
 }
 

@@ -22,10 +22,10 @@ ghost use Rattle.vx_values.specs.ValuesOf.{ints, AreRows};
 
 use crate::array::{ArrayRef, Node, Patches};
 use crate::node::Made;
-use crate::sizes::validity_bytes;
 use std::alloc::Global;
 use vx_base::{Bytes, Cell, DType, Mask, Nullability, PType, Refused, VortexError, VortexResult};
 use vx_blocks::get;
+use vx_flat::validity_bytes;
 use vx_values::{
     Decoded, Ints, behind, copy_validity, has_length, is_allowed, is_valid, keep, known_bytes,
     packed_size,

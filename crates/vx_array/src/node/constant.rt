@@ -14,10 +14,10 @@ ghost use Rattle.vx_model.specs.Tree.{constant};
 
 use crate::array::{ArrayRef, Node};
 use crate::counting::counts_fit;
-use crate::node::payload::payload_bytes;
 use std::alloc::Global;
 use std::slice;
 use vx_base::{Mask, Scalar, VortexResult};
+use vx_flat::payload_bytes;
 use vx_values::{Decoded, Values};
 
 impl ArrayRef {
@@ -50,7 +50,7 @@ pub(crate) fn constant_bytes(value: &Scalar) -> u128
 }
 
 // Whether the rows of it, and of each nested column, are few.
-#[tactic(auto, using(crate::proofs::Payloads::constants))]
+#[tactic(auto, using(crate::proofs::ConstantExtents::constants))]
 pub(crate) fn constant_extents_fit(value: &Scalar, len: u64) -> bool
     ensures { result ≡ extents_fit (constant value.now len) }
 {

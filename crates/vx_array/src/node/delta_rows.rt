@@ -1,27 +1,20 @@
 //! The rows of a delta node: one by itself, and all in one pass.
 
-ghost use Rattle.std.specs.Prelude.{◌≡◌, ◌<◌, ◌≤ℤ◌, ◌+◌, ◌-◌, ◌*◌, ◌^◌, IsTrue, if◌then◌else◌, length, map, pos, negsuc, take, true};
+ghost use Rattle.std.specs.Prelude.{◌≡◌, ◌<◌, ◌≤ℤ◌, ◌+◌, ◌-◌, ◌*◌, ◌^◌, IsTrue, if◌then◌else◌, length, pos, negsuc};
 ghost use Rattle.vx_array.specs.Sums.{sum_before};
-ghost use Rattle.vx_base.specs.Answers.{OrMemory};
 ghost use Rattle.vx_base.specs.CellValue.{cell_value};
-ghost use Rattle.vx_base.specs.Packed.{block_count};
 ghost use Rattle.vx_base.specs.PlainType.{is_integer, integer_of};
 ghost use Rattle.vx_base.specs.PlainValue.{int, null};
-ghost use Rattle.vx_base.specs.Undelta.{undelta};
 ghost use Rattle.vx_base.specs.Wrapping.{wrap};
-ghost use Rattle.vx_model.specs.Decoded.{zeroed_by};
-ghost use Rattle.vx_model.specs.Refusals.{validity_length};
-ghost use Rattle.vx_model.specs.Rows.{rows, block_rows, is_valid_at};
+ghost use Rattle.vx_model.specs.Rows.{rows, is_valid_at};
 ghost use Rattle.vx_model.specs.TreeType.{tree_type};
-ghost use Rattle.vx_values.specs.IntsOf.{ptype_of, wholes_of};
-ghost use Rattle.vx_values.specs.ValuesOf.{ints, AreRows};
 
 use super::offsets::whole_at;
 use super::rle::BLOCK_ROWS;
 use crate::array::ArrayRef;
-use std::alloc::Global;
-use vx_base::{Cell, Mask, PType, VortexResult};
-use vx_values::{Decoded, Ints, behind, copy_validity, is_valid};
+use vx_base::{Cell, Mask};
+use vx_flat::wrapped;
+use vx_values::is_valid;
 
 // The number in a row, null where it isn't valid.
 #[cycle(cell_at)]
@@ -60,35 +53,4 @@ fn sum_at(base: i128, deltas: &ArrayRef, row: u64) -> i128
         sum += whole_at(deltas, place);
     }
     sum
-}
-
-// A number wrapped into an integer type.
-fn wrapped(ptype: PType, whole: i128) -> i128
-    ensures { result ≡ wrap ptype whole }
-{
-    let all = ptype.greatest() - ptype.least() + 1;
-    let low = whole.rem_euclid(all);
-    if low <= ptype.greatest() {
-        low
-    } else {
-        low - all
-    }
-}
-
-// The rows, by the bases and the differences.
-pub(crate) fn decoded_delta(
-    alloc: Global,
-    bases: &Ints,
-    deltas: &Ints,
-    len: u64,
-    valid: &Option<Mask>,
-) -> VortexResult<Decoded>
-    requires kinds { ptype_of deltas.now ≡ ptype_of bases.now }
-    requires begins { length (wholes_of bases.now) ≡ block_count len }
-    requires enough { length (wholes_of deltas.now) ≡ block_rows * block_count len }
-    requires bits { validity_length valid.now len ≡ true }
-    ensures { OrMemory result (AreRows (ints (ptype_of bases.now)) (map int (zeroed_by (pos 0) valid.now (take len (undelta (ptype_of bases.now) (wholes_of bases.now) (wholes_of deltas.now))))) valid.now) }
-{
-    let rows = bases.undelta(alloc, deltas)?.truncated(len);
-    Ok(behind(rows, copy_validity(valid, alloc)?))
 }

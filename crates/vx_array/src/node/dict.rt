@@ -1,27 +1,22 @@
 //! Values by their places.
 
 ghost use Rattle.std.specs.List.{list_all};
-ghost use Rattle.std.specs.Prelude.{◌≡◌, IsTrue, MatchResult, true, length, map};
+ghost use Rattle.std.specs.Prelude.{◌≡◌, IsTrue, MatchResult, true, length};
 ghost use Rattle.vx_array.specs.TreeOf.{tree_of};
 ghost use Rattle.vx_base.specs.Answers.{Makes, OrMemory};
 ghost use Rattle.vx_base.specs.CellValue.{cell_value};
 ghost use Rattle.vx_base.specs.PlainType.{is_flat, is_integer};
-ghost use Rattle.vx_base.specs.PlainValue.{cell};
-ghost use Rattle.vx_model.specs.Decoded.{zeroed_by, picked};
-ghost use Rattle.vx_model.specs.Refusals.{dict_refusal, validity_length};
+ghost use Rattle.vx_model.specs.Refusals.{dict_refusal};
 ghost use Rattle.vx_model.specs.Rows.{rows, looked_up};
 ghost use Rattle.vx_model.specs.Tree.{dict};
 ghost use Rattle.vx_model.specs.TreeType.{tree_type};
 ghost use Rattle.vx_model.specs.WellFormed.{is_place};
-ghost use Rattle.vx_values.specs.Codes.{validity_by_codes};
-ghost use Rattle.vx_values.specs.IntsOf.{ptype_of, wholes_of};
-ghost use Rattle.vx_values.specs.ValuesOf.{kind_in, values_of, default_in, AreRows};
 
 use crate::array::{ArrayRef, Child, Node};
 use crate::node::Made;
 use std::alloc::Global;
-use vx_base::{Cell, Mask, Refused, VortexError, VortexResult};
-use vx_values::{Decoded, Ints, valid_codes};
+use vx_base::{Cell, Refused, VortexError, VortexResult};
+use vx_flat::is_place;
 
 impl ArrayRef {
     /// The value at each code's place in `values`; null where the code or that value is. Child 0: `codes`, as many
@@ -120,15 +115,6 @@ fn have_places(alloc: Global, codes: &ArrayRef, values: u64) -> bool
     }
 }
 
-pub(super) fn is_place(code: Option<i128>, values: u64) -> bool
-    ensures { result ≡ is_place values (cell code) }
-{
-    match code {
-        Some(code) => code >= 0 && code < i128::from(values),
-        None => true,
-    }
-}
-
 // Both in boxes, or as they were where memory is wanting.
 pub(crate) fn boxed(
     alloc: Global,
@@ -168,23 +154,4 @@ pub(crate) fn copied_dict(alloc: Global, codes: &ArrayRef, values: ArrayRef) -> 
     let codes = Box::new(alloc, codes.copy(alloc)?)?;
     let values = Box::new(alloc, values)?;
     Ok(Node::Dict(Child { array: codes }, Child { array: values }))
-}
-
-// The rows, by the codes with their validity and the rows of the values.
-pub(crate) fn decoded_by_codes(
-    alloc: Global,
-    codes: Ints,
-    valid: Option<Mask>,
-    values: Decoded,
-) -> VortexResult<Decoded>
-    requires { validity_length valid (length (wholes_of codes)) ≡ true }
-    ensures { OrMemory result (AreRows (kind_in values.values) (zeroed_by (default_in (kind_in values.values)) valid (map (λ code. picked (ptype_of codes) (values_of values.values) (default_in (kind_in values.values)) code) (wholes_of codes))) (validity_by_codes (ptype_of codes) (wholes_of codes) valid values.valid)) }
-{
-    let picked = values.values.picked(alloc, &codes)?;
-    let picked = picked.zeroed_by(&valid);
-    let valid = valid_codes(alloc, &codes, valid, &values.valid)?;
-    Ok(Decoded {
-        values: picked,
-        valid,
-    })
 }

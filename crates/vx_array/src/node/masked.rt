@@ -1,25 +1,20 @@
 //! A tree behind a mask.
 
-ghost use Rattle.std.specs.Prelude.{◌≡◌, ◌<◌, ◌+◌, ◌-◌, ◌^◌, length, IsTrue, Some, min, slice_index_or, false, if◌then◌else◌};
+ghost use Rattle.std.specs.Prelude.{◌≡◌, ◌<◌, ◌-◌, length, IsTrue, Some, slice_index_or, false, if◌then◌else◌};
 ghost use Rattle.vx_array.specs.TreeOf.{tree_of};
 ghost use Rattle.vx_base.specs.Answers.{Makes, OrMemory};
 ghost use Rattle.vx_base.specs.CellValue.{cell_value};
 ghost use Rattle.vx_base.specs.PlainType.{is_flat};
 ghost use Rattle.vx_base.specs.PlainValue.{null};
-ghost use Rattle.vx_model.specs.Decoded.{zeroed};
-ghost use Rattle.vx_model.specs.Refusals.{masked_refusal, kept};
+ghost use Rattle.vx_model.specs.Refusals.{masked_refusal};
 ghost use Rattle.vx_model.specs.Rows.{rows, row_at};
-ghost use Rattle.vx_model.specs.Size.{bit_bytes};
 ghost use Rattle.vx_model.specs.Tree.{masked};
 ghost use Rattle.vx_model.specs.TreeType.{tree_type};
-ghost use Rattle.vx_values.specs.ValuesOf.{kind_in, values_of, default_in, AreRows};
 
 use crate::array::{ArrayRef, Child, Node};
 use crate::node::Made;
-use crate::sizes::bit_bytes;
 use std::alloc::Global;
 use vx_base::{Cell, Mask, Refused, VortexError, VortexResult};
-use vx_values::{Decoded, keep};
 
 impl ArrayRef {
     /// The child's rows, null where `valid` is false. Refuses MismatchedTypes where the child isn't of a nullable leaf
@@ -85,27 +80,10 @@ pub(crate) fn masked_at<'a>(child: &'a ArrayRef, valid: &Mask, row: u64) -> Cell
     }
 }
 
-// The bytes, by those of the child.
-pub(crate) fn masked_bytes(child: u128, valid: &Mask) -> u128
-    ensures { result ≡ min (child + bit_bytes (length valid.now)) (2 ^ 128 - 1) }
-{
-    child.saturating_add(bit_bytes(valid.len()))
-}
-
 // A copy, of a copy of the child.
 pub(crate) fn copied_masked(alloc: Global, child: ArrayRef, valid: &Mask) -> VortexResult<Node>
     ensures { OrMemory result (λ copy. tree_of copy ≡ masked child valid.now) }
 {
     let child = Box::new(alloc, child)?;
     Ok(Node::Masked(Child { array: child }, valid.copy(alloc)?))
-}
-
-// The child's rows behind the mask, where none of them is null.
-pub(crate) fn decoded_masked(alloc: Global, child: Decoded, mask: &Mask) -> VortexResult<Decoded>
-    requires { length mask.now ≡ length (values_of child.values) }
-    ensures { OrMemory result (AreRows (kind_in child.values) (zeroed (default_in (kind_in child.values)) mask.now (values_of child.values)) (kept (Some mask.now))) }
-{
-    let values = child.values.zeroed(mask);
-    let valid = keep(Some(mask.copy(alloc)?));
-    Ok(Decoded { values, valid })
 }

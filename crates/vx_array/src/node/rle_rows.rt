@@ -1,24 +1,23 @@
 //! The places of the rows of runs in blocks: whether they are places of values, and the value at one.
 
 ghost use Rattle.std.specs.List.{list_all};
-ghost use Rattle.std.specs.Prelude.{◌≡◌, ◌<◌, ◌*◌, ◌/◌, ◌+ℤ◌, ◌==◌, ◌&&◌, IsTrue, length};
+ghost use Rattle.std.specs.Prelude.{◌≡◌, ◌<◌, ◌*◌, ◌/◌, ◌+ℤ◌, IsTrue, length};
 ghost use Rattle.vx_base.specs.Answers.{OrMemory};
 ghost use Rattle.vx_base.specs.CellValue.{cell_value};
 ghost use Rattle.vx_base.specs.Packed.{block_count};
-ghost use Rattle.vx_base.specs.PlainType.{is_integer, is_nullable};
+ghost use Rattle.vx_base.specs.PlainType.{is_integer};
 ghost use Rattle.vx_base.specs.PlainValue.{int};
 ghost use Rattle.vx_model.specs.Rows.{rows, below, block_rows, looked_up, rle_place};
 ghost use Rattle.vx_model.specs.TreeType.{tree_type};
 ghost use Rattle.vx_model.specs.WellFormed.{is_place};
 
-use super::dict::is_place;
 use super::offsets::whole_at;
-use super::places::sums_are_places;
 use super::rle::BLOCK_ROWS;
 use crate::array::ArrayRef;
 use crate::node::picked_at;
 use std::alloc::Global;
 use vx_base::{Cell, VortexResult};
+use vx_flat::{is_place, sums_are_places};
 
 // Whether the sum in each of so many rows is a place among so many values: of the decoded columns where there is memory
 // for them.
@@ -63,7 +62,7 @@ fn decoded_have_places(
 }
 
 // The same row by row.
-#[tactic(auto, using(crate::proofs::RunPlaces::sum_places))]
+#[tactic(auto, using(vx_flat::proofs::RunPlaces::sum_places))]
 fn rows_have_places(values: u64, indices: &ArrayRef, offsets: &ArrayRef, len: u64) -> bool
     requires indices { IsTrue (is_integer (tree_type indices.now)) }
     requires offsets { IsTrue (is_integer (tree_type offsets.now)) }

@@ -1,37 +1,31 @@
 //! Texts and binaries, by their offsets into bytes.
 
 ghost use Rattle.std.specs.List.{list_all};
-ghost use Rattle.std.specs.Prelude.{◌≡◌, ◌<◌, ◌≤◌, ◌+◌, ◌-◌, ◌^◌, ◌&&◌, IsTrue, not, length, map, min, nat_le, true, [], if◌then◌else◌};
+ghost use Rattle.std.specs.Prelude.{◌≡◌, ◌<◌, ◌+◌, ◌-◌, IsTrue, length, map, nat_le, true, if◌then◌else◌};
 ghost use Rattle.vx_array.specs.TreeOf.{tree_of};
 ghost use Rattle.vx_base.specs.Answers.{Makes, OrMemory};
 ghost use Rattle.vx_base.specs.CellValue.{cell_value};
 ghost use Rattle.vx_base.specs.Masks.{rows_between};
 ghost use Rattle.vx_base.specs.PlainScalar.{fits};
-ghost use Rattle.vx_base.specs.PlainType.{is_bytes, is_integer, is_nullable};
+ghost use Rattle.vx_base.specs.PlainType.{is_bytes, is_integer};
 ghost use Rattle.vx_base.specs.PlainValue as plain;
-ghost use Rattle.vx_base.specs.PlainValue.{int, null, is_short};
+ghost use Rattle.vx_base.specs.PlainValue.{null, is_short};
 ghost use Rattle.vx_base.specs.TypeOf.{type_of};
-ghost use Rattle.vx_model.specs.Decoded.{zeroed_by};
 ghost use Rattle.vx_model.specs.Extents.{row_limit};
 ghost use Rattle.vx_model.specs.Refusals.{var_bin_refusal, validity_length, kept};
 ghost use Rattle.vx_model.specs.Rows.{rows, cut_at, is_valid_at, offset_at, valid_rows};
-ghost use Rattle.vx_model.specs.Size.{validity_size};
 ghost use Rattle.vx_model.specs.Tree.{var_bin};
 ghost use Rattle.vx_model.specs.TreeType.{tree_type};
 ghost use Rattle.vx_model.specs.WellFormed.{are_offsets};
-ghost use Rattle.vx_values.specs.IntsOf.{wholes_of};
-ghost use Rattle.vx_values.specs.ValuesOf.{byte_rows, AreRows};
 
 use super::offsets::{are_integers, are_offsets, offset_at, row_count};
-use super::texts::fits;
 use crate::array::{ArrayRef, Child, Node};
 use crate::node::Made;
-use crate::sizes::{is_few, validity_bytes};
+use crate::sizes::is_few;
 use std::alloc::Global;
 use vx_base::{Bytes, Cell, DType, Mask, Refused, VortexError, VortexResult, is_short};
-use vx_values::{
-    Decoded, Ints, Values, byte_rows, copy_validity, has_length, is_allowed, is_valid, keep,
-};
+use vx_flat::{fits, part};
+use vx_values::{copy_validity, has_length, is_allowed, is_valid, keep};
 
 impl ArrayRef {
     /// Texts or binaries, in each row the bytes from its offset to the next one, null where `valid` is false; beneath
@@ -145,15 +139,6 @@ fn piece<'a>(offsets: &ArrayRef, bytes: &'a Bytes, row: u64) -> &'a [u8]
     part(bytes.as_slice(), start, end)
 }
 
-// The bytes from a start to the one before an end.
-fn part(bytes: &[u8], start: u128, end: u128) -> &[u8]
-    requires rising { start ≤ end }
-    requires within { end ≤ length bytes.now }
-    ensures { result.now ≡ rows_between bytes.now start end }
-{
-    &bytes[start as usize..end as usize]
-}
-
 // The same, null where the row isn't valid.
 #[cycle(cell_at)]
 pub(crate) fn piece_at<'a>(
@@ -172,14 +157,6 @@ pub(crate) fn piece_at<'a>(
     } else {
         Cell::Null
     }
-}
-
-// The bytes, by those of the offsets.
-pub(crate) fn var_bin_bytes(offsets: u128, bytes: &Bytes, valid: &Option<Mask>) -> u128
-    ensures { result ≡ min (offsets + length bytes.now + validity_size valid.now) (2 ^ 128 - 1) }
-{
-    let own = u128::from(bytes.len()) + validity_bytes(valid);
-    offsets.saturating_add(own)
 }
 
 // Whether the rows are few.
@@ -203,24 +180,4 @@ pub(crate) fn copied_var_bin(
     let bytes = bytes.copy(alloc)?;
     let valid = copy_validity(valid, alloc)?;
     Ok(Node::VarBin(Child { array: offsets }, bytes, valid, dtype.copy(alloc)?))
-}
-
-// The rows, by the offsets.
-pub(crate) fn decoded_var_bin(
-    alloc: Global,
-    offsets: &Ints,
-    bytes: &Bytes,
-    valid: &Option<Mask>,
-) -> VortexResult<Decoded>
-    requires some { 1 ≤ length (wholes_of offsets.now) }
-    requires ends { IsTrue (are_offsets (length bytes.now) (map int (wholes_of offsets.now))) }
-    requires bits { validity_length valid.now (length (wholes_of offsets.now) - 1) ≡ true }
-    ensures { OrMemory result (AreRows byte_rows (map plain.bytes (zeroed_by [] valid.now (cut_at (map int (wholes_of offsets.now)) bytes.now))) valid.now) }
-{
-    let rows = byte_rows::cut(alloc, bytes.as_slice(), offsets, valid)?;
-    let valid = copy_validity(valid, alloc)?;
-    Ok(Decoded {
-        values: Values::Bytes(rows),
-        valid,
-    })
 }

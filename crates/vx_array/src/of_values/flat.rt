@@ -1,24 +1,19 @@
 //! Plain trees of flat types, from values.
 
-ghost use Rattle.std.specs.List.{list_all, list_any};
-ghost use Rattle.std.specs.Prelude.{◌≡◌, IsTrue, map};
-ghost use Rattle.vx_base.specs.Answers.{Answers, OrMemory};
-ghost use Rattle.vx_base.specs.Integers.{lies_in};
+ghost use Rattle.std.specs.List.{list_all};
+ghost use Rattle.std.specs.Prelude.{IsTrue, map};
+ghost use Rattle.vx_base.specs.Answers.{Answers};
 ghost use Rattle.vx_base.specs.PlainScalar.{fits};
 ghost use Rattle.vx_base.specs.PlainType.{is_bytes};
 ghost use Rattle.vx_base.specs.PlainType as types;
-ghost use Rattle.vx_base.specs.PlainValue.{is_null, truth_or_false, whole_or_zero, bytes_or_empty};
 ghost use Rattle.vx_base.specs.TypeOf.{type_of, value_of};
-ghost use Rattle.vx_model.specs.Plain.{plain_of, validity};
-ghost use Rattle.vx_values.specs.IntsOf.{ptype_of, wholes_of};
+ghost use Rattle.vx_model.specs.Plain.{plain_of};
 
 use crate::array::ArrayRef;
 use crate::node::stamped;
 use std::alloc::Global;
-use vx_base::{
-    ByteRows, DType, IntList, Integer, Mask, Nullability, PType, TimestampType, Value, VortexResult,
-};
-use vx_values::Ints;
+use vx_base::{DType, Nullability, PType, TimestampType, Value, VortexResult};
+use vx_flat::{byte_rows, truths, validity_of, wholes};
 
 // Truth values.
 pub(super) fn of_truths(
@@ -71,107 +66,4 @@ pub(super) fn of_bytes(alloc: Global, values: Vec<Value>, dtype: &DType) -> Vort
     let valid = validity_of(alloc, values.as_slice())?;
     let rows = byte_rows(alloc, values)?;
     Ok(ArrayRef::view_of(rows, valid, dtype.copy(alloc)?))
-}
-
-// Bits where some value is null.
-pub(super) fn validity_of(alloc: Global, values: &[Value]) -> VortexResult<Option<Mask>>
-    ensures { Answers result (validity (map value_of values.now)) }
-{
-    if !has_null(values) {
-        return Ok(None);
-    }
-    let mut bits = Vec::with_capacity(alloc, values.len())?;
-    for value in values {
-        bits.push(!is_null(value))?;
-    }
-    Ok(Some(Mask::from_bits(bits)))
-}
-
-// Whether some value is null.
-pub(super) fn has_null(values: &[Value]) -> bool
-    ensures { result ≡ list_any is_null (map value_of values.now) }
-{
-    for value in values {
-        if is_null(value) {
-            return true;
-        }
-    }
-    false
-}
-
-pub(super) fn is_null(value: &Value) -> bool
-    ensures { result ≡ is_null (value_of value.now) }
-{
-    matches!(value, Value::Null)
-}
-
-// The truth value of each, false where there is none.
-fn truths(alloc: Global, values: &[Value]) -> VortexResult<Mask>
-    ensures { Answers result (map truth_or_false (map value_of values.now)) }
-{
-    let mut bits = Vec::with_capacity(alloc, values.len())?;
-    for value in values {
-        bits.push(matches!(value, Value::Bool(true)))?;
-    }
-    Ok(Mask::from_bits(bits))
-}
-
-// The whole number of each, 0 where there is none, in a type that holds them.
-fn wholes(alloc: Global, values: &[Value], ptype: PType) -> VortexResult<Ints>
-    requires { IsTrue (list_all (lies_in ptype) (map whole_or_zero (map value_of values.now))) }
-    ensures { OrMemory result (λ ints. (ptype_of ints ≡ ptype) × (wholes_of ints ≡ map whole_or_zero (map value_of values.now))) }
-{
-    match ptype {
-        PType::U8 => Ok(Ints::U8(integers(alloc, values)?)),
-        PType::U16 => Ok(Ints::U16(integers(alloc, values)?)),
-        PType::U32 => Ok(Ints::U32(integers(alloc, values)?)),
-        PType::U64 => Ok(Ints::U64(integers(alloc, values)?)),
-        PType::I8 => Ok(Ints::I8(integers(alloc, values)?)),
-        PType::I16 => Ok(Ints::I16(integers(alloc, values)?)),
-        PType::I32 => Ok(Ints::I32(integers(alloc, values)?)),
-        PType::I64 => Ok(Ints::I64(integers(alloc, values)?)),
-    }
-}
-
-// The same of one type.
-#[tactic(auto, using(crate::proofs::ValueLemmas::held))]
-fn integers<T: Integer>(alloc: Global, values: &[Value]) -> VortexResult<IntList<T>>
-    requires { IsTrue (list_all (lies_in T.kind) (map whole_or_zero (map value_of values.now))) }
-    ensures { OrMemory result (λ list. map T.whole list ≡ map whole_or_zero (map value_of values.now)) }
-{
-    let mut list = Vec::with_capacity(alloc, values.len())?;
-    for value in values {
-        list.push(integer::<T>(value))?;
-    }
-    Ok(IntList::from_vec(list))
-}
-
-fn integer<T: Integer>(value: &Value) -> T
-    requires { IsTrue (lies_in T.kind (whole_or_zero (value_of value.now))) }
-    ensures { T.whole result ≡ whole_or_zero (value_of value.now) }
-{
-    let Some(item) = T::from_whole(whole(value)) else {
-        unreachable!();
-    };
-    item
-}
-
-fn whole(value: &Value) -> i128
-    ensures { result ≡ whole_or_zero (value_of value.now) }
-{
-    match value {
-        Value::Int(whole) => *whole,
-        _ => 0,
-    }
-}
-
-// The bytes of each, none where there are none. They are moved.
-fn byte_rows(alloc: Global, values: Vec<Value>) -> VortexResult<ByteRows>
-    ensures { Answers result (map bytes_or_empty (map value_of values.items)) }
-{
-    let mut rows = Vec::with_capacity(alloc, values.len())?;
-    for value in values {
-        rows.push(value.into_bytes(alloc))?;
-    }
-    Ok(ByteRows::from_vec(rows))
 }

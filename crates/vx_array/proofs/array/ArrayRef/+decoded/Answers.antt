@@ -28,7 +28,7 @@ use Rattle.vx_array.proofs.AtNode.{at_node}
 use Rattle.vx_array.proofs.Flat.{integer_flat}
 use Rattle.vx_array.proofs.Decodings.{integers_of, bits_of_integers, held_integers, wholes-rows, bool_rows, primitive_rows, view_rows, var_bin_rows, timestamp_rows, masked_rows_of, packed_rows, moved_rows, zig_zag_rows, dict_rows}
 use Rattle.vx_array.proofs.RunDecodings.{sequence_rows, delta_rows}
-use Rattle.vx_array.proofs.RunPlaces.{run_end_rows, rle_rows, block_place-word}
+use Rattle.vx_array.proofs.RunRows.{run_end_rows, rle_rows, block_place-word}
 use Rattle.vx_array.proofs.array.ArrayRef.+decoded.Goals as goal
 
 pub decoded-decoded_bool-requires : goal.decoded-decoded_bool-requires

@@ -1,7 +1,7 @@
 use Rattle.std.proofs.Common.{◌∙◌}
 use Rattle.std.proofs.lemmas.Result.{MatchResult-weaker}
 use Rattle.vx_array.proofs.Decodings.{integers_of}
-use Rattle.vx_array.proofs.RunPlaces.{block_places-rows}
+use Rattle.vx_array.proofs.RunRows.{block_places-rows}
 use Rattle.vx_array.proofs.node.rle_rows.decoded_have_places.Goals as goal
 
 pub returns : goal.returns

@@ -4,7 +4,7 @@ use Rattle.std.proofs.lemmas.Int.{to_z-of_z}
 use Rattle.vx_base.specs.PlainValue.{int}
 use Rattle.vx_model.specs.Rows.{rows, rle_place}
 use Rattle.vx_model.specs.WellFormed.{is_place}
-use Rattle.vx_array.proofs.RunPlaces.{passing-fails}
+use Rattle.vx_flat.proofs.RunPlaces.{passing-fails}
 use Rattle.vx_array.proofs.node.rle_rows.rows_have_places.Goals as goal
 
 pub returns-then-not-is_place : goal.returns-then-not-is_place

@@ -6,7 +6,7 @@ use Rattle.vx_base.specs.PlainValue.{int}
 use Rattle.vx_model.specs.Refusals.{kept}
 use Rattle.vx_values.specs.Codes.{validity_by_codes}
 use Rattle.vx_values.specs.IntsOf.{ptype_of, wholes_of}
-use Rattle.vx_array.specs.Places.{places_in, bits_in_rows}
+use Rattle.vx_flat.specs.Places.{places_in, bits_in_rows}
 use Rattle.vx_array.proofs.PatchPlaces.{sparse_rows}
 use Rattle.vx_array.proofs.node.sparse_rows.decoded_sparse.Goals as goal
 

@@ -4,7 +4,7 @@ use Rattle.std.specs.Prelude.{◌==◌}
 use Rattle.vx_model.specs.Rows.{rows}
 use Rattle.vx_model.specs.Tree.{Tree}
 use Rattle.vx_model.proofs.TreesLemmas.{all_have_rows-of_list}
-use Rattle.vx_array.proofs.Views.{all-stop, all-end}
+use Rattle.vx_flat.proofs.Views.{all-stop, all-end}
 use Rattle.vx_array.proofs.node.structure.all_have_rows.Goals as goal
 
 pub returns-then-not-has_rows : goal.returns-then-not-has_rows

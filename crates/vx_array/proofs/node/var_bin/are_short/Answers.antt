@@ -2,7 +2,7 @@ use Rattle.std.proofs.Common.{◌<◌, ◌∙◌, ◌-◌, [], length, ap, sym, 
 use Rattle.vx_base.specs.PlainValue.{is_short}
 use Rattle.vx_model.specs.Rows.{rows, cut_at}
 use Rattle.vx_model.proofs.VarBinLemmas.{length-cut_at, cut_at-at}
-use Rattle.vx_array.proofs.Views.{all-next, all-stop, all-end}
+use Rattle.vx_flat.proofs.Views.{all-next, all-stop, all-end}
 use Rattle.vx_array.proofs.node.var_bin.are_short.Goals as goal
 
 pub loop-row-preserved : goal.loop-row-preserved

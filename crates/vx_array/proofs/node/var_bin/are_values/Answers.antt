@@ -6,7 +6,7 @@ use Rattle.vx_base.specs.TypeOf.{type_of}
 use Rattle.vx_model.specs.Refusals.{kept, validity_length}
 use Rattle.vx_model.specs.Rows.{rows, cut_at, valid_rows, is_valid_at}
 use Rattle.vx_model.proofs.VarBinLemmas.{length-cut_at, cut_at-at}
-use Rattle.vx_array.proofs.Views.{all-next, all-stop, all-end, length-views, row_at-views}
+use Rattle.vx_flat.proofs.Views.{all-next, all-stop, all-end, length-views, row_at-views}
 use Rattle.vx_array.proofs.node.var_bin.are_values.Goals as goal
 
 pub loop-row-preserved : goal.loop-row-preserved

@@ -1,0 +1,136 @@
+-- Rows by the places of their values: what they are decoded to.
+use Rattle.std.proofs.Common.{◌≡◌, ◌<◌, ◌≤◌, ◌+◌, ◌-◌, ◌/◌, ◌^◌, ◌∙◌, ℕ, zero, suc, ℤ, pos, List, [], ◌∷◌, map, length, true, None, refl, sym, ap, arith}
+use Rattle.std.specs.Prelude.{◌+ℤ◌}
+use Rattle.std.specs.List.{list_all, range_with_len}
+use Rattle.std.proofs.lemmas.Bool.{lt-ltb}
+use Rattle.std.proofs.lemmas.Int.{ints}
+use Rattle.std.proofs.lemmas.List.{map-id}
+use Rattle.std.proofs.lemmas.Simd.{map-map}
+use Rattle.vx_base.specs.declared.ptype.PType.TheVariants.{U64}
+use Rattle.vx_base.specs.declared.dtype.Nullability.TheVariants.{NonNullable}
+use Rattle.vx_base.specs.Defaults.{default_of, or_default}
+use Rattle.vx_base.specs.Integers.{lies_in}
+use Rattle.vx_base.specs.PlainType.{is_flat}
+use Rattle.vx_base.specs.PlainValue.{PlainValue, int, whole_or_zero}
+use Rattle.vx_model.specs.Decoded.{zeroed_by, picked}
+use Rattle.vx_model.specs.Plain.{validity}
+use Rattle.vx_model.specs.Refusals.{dict_refusal}
+use Rattle.vx_model.specs.Rows.{rows, row_at, below, block_rows, looked_up, rle_place, offset_at, run_value}
+use Rattle.vx_model.specs.Tree.{Tree, Validity, primitive, dict, run_end, rle}
+use Rattle.vx_model.specs.TreeType.{tree_type}
+use Rattle.vx_model.specs.WellFormed.{WellFormed, is_place, ascend}
+use Rattle.vx_model.proofs.DecodeLemmas.{validity-cells}
+use Rattle.vx_model.proofs.DictDecodeLemmas.{default_of-dict}
+use Rattle.vx_model.proofs.DictLemmas.{dict_accepted}
+use Rattle.vx_model.proofs.MadeLemmas.{primitive_made}
+use Rattle.vx_model.proofs.PatchLemmas.{ascend_parts}
+use Rattle.vx_model.proofs.RleLemmas.{rle-code}
+use Rattle.vx_model.proofs.RunEndLemmas.{last_end, end-between}
+use Rattle.vx_values.specs.declared.decoded.Decoded.{Decoded}
+use Rattle.vx_values.specs.declared.ints.Ints.{Ints}
+use Rattle.vx_values.specs.Codes.{validity_by_codes}
+use Rattle.vx_values.specs.IntsOf.{ptype_of, wholes_of}
+use Rattle.vx_values.specs.ValuesOf.{kind_of, kind_in, values_of, default_in, AreRows}
+use Rattle.vx_array.specs.IsDecoded.{IsDecoded}
+use Rattle.vx_flat.specs.RunPlaces.{run_number, block_place, IsWord}
+use Rattle.vx_array.proofs.Decodings.{AreIntegers, dict_rows, kind_of-dict, wholes-rows}
+use Rattle.vx_array.proofs.Flat.{integer_flat}
+use Rattle.vx_array.proofs.SumLemmas.{whole_row}
+use Rattle.vx_flat.proofs.RunPlaces.{below-same, passing, run_value-number}
+
+-- ---- rows whose values stand at places among others
+
+-- as a dict of the places is decoded
+module _ (values : Tree) (f : ℕ → ℤ) (n : ℕ) where
+  abbrev pub placed : Tree
+  placed = primitive U64 (below f n) None NonNullable
+
+  cells : map int (below f n) ≡ below (λ i. int (f i)) n
+  cells = map-map int f (range_with_len 0 n)
+
+  pub placed_rows : (t : Tree) (xs : Ints) (v d : Decoded) → WellFormed values → is_flat (tree_type values) ≡ true → tree_type t ≡ tree_type values → ptype_of xs ≡ U64 → wholes_of xs ≡ below f n
+      → ((i : ℕ) → i < n → lies_in U64 (f i) ≡ true) → ((i : ℕ) → i < n → is_place (length (rows values)) (int (f i)) ≡ true) → rows t ≡ below (λ i. looked_up (rows values) (int (f i))) n → IsDecoded values v
+      → AreRows (kind_in v.values) (zeroed_by (default_in (kind_in v.values)) None (map (λ code. picked (ptype_of xs) (values_of v.values) (default_in (kind_in v.values)) code) (wholes_of xs))) (validity_by_codes (ptype_of xs) (wholes_of xs) None v.valid) d
+      → IsDecoded t d
+  placed_rows t xs v d w flat typed kind wholes held places are hv r =
+      let codes : WellFormed placed = primitive_made U64 (below f n) None NonNullable refl refl (passing (lies_in U64) f n held) in
+      let there : list_all (is_place (length (rows values))) (rows placed) ≡ true = ap (list_all (is_place (length (rows values)))) cells ∙ passing (is_place (length (rows values))) (λ i. int (f i)) n places in
+      let accepted : dict_refusal placed values ≡ None = rw (flat, there) refl in
+      let whole : wholes_of xs ≡ map whole_or_zero (map int (below f n)) = wholes ∙ sym (map-map whole_or_zero int (below f n) ∙ map-id (below f n)) in
+      let own : AreIntegers placed xs None = record { ptype = kind; wholes = whole; bits = sym (validity-cells None (below f n) NonNullable tt) } in
+      let decoded : IsDecoded (dict placed values) d = dict_rows placed values xs None v d (dict_accepted placed values accepted codes w) own hv r in
+      let default : default_of (tree_type (dict placed values)) ≡ default_of (tree_type t) = default_of-dict (tree_type placed) (tree_type values) ∙ ap default_of (sym typed) in
+      let same : rows (dict placed values) ≡ rows t = ap (map (looked_up (rows values))) cells ∙ map-map (looked_up (rows values)) (λ i. int (f i)) (range_with_len 0 n) ∙ sym are in (
+        decoded.0 ∙ kind_of-dict (tree_type placed) (tree_type values) ∙ ap kind_of (sym typed),
+        decoded.1 ∙ (λ i. map (or_default (default i)) (same i)),
+        decoded.2 ∙ ap validity same,
+      )
+
+-- ends rise by one at least
+end-far : (low high : ℕ) (ends : List PlainValue) (k : ℕ) → ascend low high ends ≡ true → k < length ends → low + k ≤ offset_at ends k
+end-far low high [] k e l = absurd (omega arith)
+end-far low high (int (pos n) ∷ ends) zero e l = let p = (ascend_parts low high n ends e).0 in omega arith
+end-far low high (int (pos n) ∷ ends) (suc k) e l = let p = ascend_parts low high n ends e in let a = p.0 in let rest = end-far (n + 1) high ends k p.2 (omega arith) in omega arith
+end-far low high (v ∷ ends) k e l = absurd cc
+
+pub run_end_rows : (ends values : Tree) (es places : Ints) (ev : Validity) (v d : Decoded) → WellFormed (run_end ends values) → AreIntegers ends es ev → ptype_of places ≡ U64
+    → wholes_of places ≡ map pos (below (run_number (map int (wholes_of es))) (last_end (map int (wholes_of es)))) → IsDecoded values v
+    → AreRows (kind_in v.values) (zeroed_by (default_in (kind_in v.values)) None (map (λ code. picked (ptype_of places) (values_of v.values) (default_in (kind_in v.values)) code) (wholes_of places))) (validity_by_codes (ptype_of places) (wholes_of places) None v.valid) d
+    → IsDecoded (run_end ends values) d
+run_end_rows ends values es places ev v d w h kind wholes hv r =
+    let own = w.2 in
+    let read : map int (wholes_of es) ≡ rows ends = wholes-rows ends es ev w.0 own.ends_type own.not_null h in
+    let f : ℕ → ℤ = λ i. pos (run_number (rows ends) i) in
+    let n = last_end (rows ends) in
+    let found = λ (i : ℕ) (l : i < n). run_value-number (rows ends) (rows values) i own.lengths l in
+    let held = λ (i : ℕ) (l : i < n). (
+    let p = (found i l).0 in
+    let far = end-far 1 (2 ^ 64) (rows ends) (run_number (rows ends) i) own.rising p in
+    let few = (end-between 1 (2 ^ 64) (rows ends) (run_number (rows ends) i) own.rising p).1 in
+    lt-ltb (run_number (rows ends) i) (2 ^ 64) (omega arith)
+    ) in
+    placed_rows values f n (run_end ends values) places v d w.1 (integer_flat (tree_type values) own.values_type) refl kind
+    (wholes ∙ (λ j. map pos (below (run_number (read j)) (last_end (read j)))) ∙ map-map pos (run_number (rows ends)) (range_with_len 0 n)) held
+    (λ i l. lt-ltb (run_number (rows ends) i) (length (rows values)) (let p = (found i l).0 in let same = own.lengths in omega arith))
+    (below-same (run_value (rows ends) (rows values)) (λ i. row_at (rows values) (run_number (rows ends) i)) n (λ i l. (found i l).1)) hv r
+
+-- ---- the places of blocks of runs
+
+-- of decoded columns and of trees they are the same
+block_place-rows : (indices offsets : Tree) (is os : Ints) (iv ov : Validity) → AreIntegers indices is iv → AreIntegers offsets os ov → (i : ℕ)
+    → block_place (wholes_of os) (wholes_of is) i ≡ whole_or_zero (row_at (rows offsets) (i / block_rows)) +ℤ whole_or_zero (row_at (rows indices) i)
+block_place-rows indices offsets is os iv ov hi ho i = (λ j. block_place (ho.wholes j) (hi.wholes j) i) ∙ sym (λ j. whole_row (rows offsets) (i / block_rows) j +ℤ whole_row (rows indices) i j)
+
+-- so they are places of as many values
+pub block_places-rows : (values len : ℕ) (indices offsets : Tree) (is os : Ints) (iv ov : Validity) → AreIntegers indices is iv → AreIntegers offsets os ov
+    → list_all (is_place values) (below (λ i. int (block_place (wholes_of os) (wholes_of is) i)) len) ≡ list_all (is_place values) (below (rle_place (rows offsets) (rows indices)) len)
+block_places-rows values len indices offsets is os iv ov hi ho =
+    ap (list_all (is_place values)) (below-same (λ i. int (block_place (wholes_of os) (wholes_of is) i)) (rle_place (rows offsets) (rows indices)) len (λ i l. ap int (block_place-rows indices offsets is os iv ov hi ho i)))
+
+module _ (values indices offsets : Tree) (len : ℕ) (is os : Ints) (iv ov : Validity) (w : WellFormed (rle values indices offsets len)) (hi : AreIntegers indices is iv) (ho : AreIntegers offsets os ov) where
+  abbrev pub own_place : ℕ → ℤ
+  own_place i = whole_or_zero (row_at (rows offsets) (i / block_rows)) +ℤ whole_or_zero (row_at (rows indices) i)
+
+  pub block_place-own : (i : ℕ) → block_place (wholes_of os) (wholes_of is) i ≡ own_place i
+  block_place-own i = block_place-rows indices offsets is os iv ov hi ho i
+
+  -- each is a place of a value
+  there : (i : ℕ) → i < len → is_place (length (rows values)) (int (own_place i)) ≡ true
+  there i l = let c = rle-code values indices offsets len i w l in ap (λ z. is_place (length (rows values)) (int z)) c.is ∙ lt-ltb _ _ c.within
+
+  own_place-held : length (rows values) < 2 ^ 64 → (i : ℕ) → i < len → lies_in U64 (own_place i) ≡ true
+  own_place-held few i l = let c = rle-code values indices offsets len i w l in ap (lies_in U64) c.is ∙ lt-ltb c.place (2 ^ 64) (let a = c.within in omega arith)
+
+  pub block_place-word : length (rows values) < 2 ^ 64 → (i : ℕ) → i < len → IsWord (block_place (wholes_of os) (wholes_of is) i)
+  block_place-word few i l =
+      let c = rle-code values indices offsets len i w l in
+      let is = block_place-own i ∙ c.is in
+      let within = c.within in
+      (omega (arith, ints, is), omega (arith, ints, is, within, few))
+
+  pub rle_rows : (places : Ints) (v d : Decoded) → length (rows values) < 2 ^ 64 → ptype_of places ≡ U64 → wholes_of places ≡ below (block_place (wholes_of os) (wholes_of is)) len → IsDecoded values v
+      → AreRows (kind_in v.values) (zeroed_by (default_in (kind_in v.values)) None (map (λ code. picked (ptype_of places) (values_of v.values) (default_in (kind_in v.values)) code) (wholes_of places))) (validity_by_codes (ptype_of places) (wholes_of places) None v.valid) d
+      → IsDecoded (rle values indices offsets len) d
+  rle_rows places v d few kind wholes hv r =
+      placed_rows values own_place len (rle values indices offsets len) places v d w.0 (integer_flat (tree_type values) w.3.values_type) refl kind (wholes ∙ below-same (block_place (wholes_of os) (wholes_of is)) own_place len (λ i l. block_place-own i))
+      (own_place-held few) there refl hv r

@@ -1,0 +1,9 @@
+pub mod ByteLists
+pub mod PatchPlaces
+pub mod Payloads
+pub mod RunPlaces
+pub mod StandardFacts
+pub mod Steps
+pub mod ValueLemmas
+pub mod Views
+pub mod WrapLemmas

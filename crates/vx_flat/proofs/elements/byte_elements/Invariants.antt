@@ -1,0 +1,15 @@
+use Rattle.std.proofs.Common.{◌≡◌, ◌++◌, length, map}
+use Rattle.std.specs.Vec.Iter.{into_iter_items}
+use Rattle.vx_base.specs.PlainValue.{bytes_or_empty}
+use Rattle.vx_base.specs.TypeOf.{value_of}
+use Rattle.vx_model.specs.Nested.{list_rows, elements}
+use Rattle.vx_model.specs.Offsets.{offsets_of}
+use Rattle.vx_flat.proofs.ValueLemmas.{ends_from}
+use Rattle.vx_flat.proofs.elements.byte_elements.Given as goal
+
+-- the rows and the offsets, and those of what is left
+abbrev pub invariant-loop-value : goal.invariant-loop-value
+invariant-loop-value l = record {
+  rows : l.rows.items ++ map bytes_or_empty (elements (map value_of (into_iter_items l.value-iterator))) ≡ map bytes_or_empty (elements (map value_of l.fn.values.items));
+  offsets : l.offsets.items ++ ends_from (length l.rows.items) (list_rows (map value_of (into_iter_items l.value-iterator))) ≡ offsets_of (list_rows (map value_of l.fn.values.items));
+}

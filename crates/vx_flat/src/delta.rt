@@ -1,0 +1,48 @@
+//! Integers as differences: a sum in its type, decoding.
+
+ghost use Rattle.std.specs.Prelude.{◌≡◌, ◌<◌, ◌+◌, ◌-◌, ◌*◌, length, map, pos, take, true};
+ghost use Rattle.vx_base.specs.Answers.{OrMemory};
+ghost use Rattle.vx_base.specs.Packed.{block_count};
+ghost use Rattle.vx_base.specs.PlainValue.{int};
+ghost use Rattle.vx_base.specs.Undelta.{undelta};
+ghost use Rattle.vx_base.specs.Wrapping.{wrap};
+ghost use Rattle.vx_model.specs.Decoded.{zeroed_by};
+ghost use Rattle.vx_model.specs.Refusals.{validity_length};
+ghost use Rattle.vx_model.specs.Rows.{rows, block_rows};
+ghost use Rattle.vx_values.specs.IntsOf.{ptype_of, wholes_of};
+ghost use Rattle.vx_values.specs.ValuesOf.{ints, AreRows};
+
+use std::alloc::Global;
+use vx_base::{Mask, PType, VortexResult};
+use vx_values::{Decoded, Ints, behind, copy_validity};
+
+/// The number of an integer type that differs from a whole number by a multiple of 2 to the type's bits.
+pub fn wrapped(ptype: PType, whole: i128) -> i128
+    ensures { result ≡ wrap ptype whole }
+{
+    let all = ptype.greatest() - ptype.least() + 1;
+    let low = whole.rem_euclid(all);
+    if low <= ptype.greatest() {
+        low
+    } else {
+        low - all
+    }
+}
+
+/// The first `len` rows by the bases of their blocks and the differences, 0 where `valid` is false.
+pub fn decoded_delta(
+    alloc: Global,
+    bases: &Ints,
+    deltas: &Ints,
+    len: u64,
+    valid: &Option<Mask>,
+) -> VortexResult<Decoded>
+    requires kinds { ptype_of deltas.now ≡ ptype_of bases.now }
+    requires begins { length (wholes_of bases.now) ≡ block_count len }
+    requires enough { length (wholes_of deltas.now) ≡ block_rows * block_count len }
+    requires bits { validity_length valid.now len ≡ true }
+    ensures { OrMemory result (AreRows (ints (ptype_of bases.now)) (map int (zeroed_by (pos 0) valid.now (take len (undelta (ptype_of bases.now) (wholes_of bases.now) (wholes_of deltas.now))))) valid.now) }
+{
+    let rows = bases.undelta(alloc, deltas)?.truncated(len);
+    Ok(behind(rows, copy_validity(valid, alloc)?))
+}

@@ -1,0 +1,45 @@
+//! Values by their places: what a place is, decoding.
+
+ghost use Rattle.std.specs.Prelude.{◌≡◌, true, length, map};
+ghost use Rattle.vx_base.specs.Answers.{OrMemory};
+ghost use Rattle.vx_base.specs.PlainValue.{cell};
+ghost use Rattle.vx_model.specs.Decoded.{zeroed_by, picked};
+ghost use Rattle.vx_model.specs.Refusals.{validity_length};
+ghost use Rattle.vx_model.specs.WellFormed.{is_place};
+ghost use Rattle.vx_values.specs.Codes.{validity_by_codes};
+ghost use Rattle.vx_values.specs.IntsOf.{ptype_of, wholes_of};
+ghost use Rattle.vx_values.specs.ValuesOf.{kind_in, values_of, default_in, AreRows};
+
+use std::alloc::Global;
+use vx_base::{Mask, VortexResult};
+use vx_values::{Decoded, Ints, valid_codes};
+
+/// Whether a code is null or the place of one of so many values.
+pub fn is_place(code: Option<i128>, values: u64) -> bool
+    ensures { result ≡ is_place values (cell code) }
+{
+    match code {
+        Some(code) => code >= 0 && code < i128::from(values),
+        None => true,
+    }
+}
+
+/// The rows: the value at each code's place, the default beneath nulls, by the codes with their validity and the values
+/// with theirs.
+pub fn decoded_by_codes(
+    alloc: Global,
+    codes: Ints,
+    valid: Option<Mask>,
+    values: Decoded,
+) -> VortexResult<Decoded>
+    requires { validity_length valid (length (wholes_of codes)) ≡ true }
+    ensures { OrMemory result (AreRows (kind_in values.values) (zeroed_by (default_in (kind_in values.values)) valid (map (λ code. picked (ptype_of codes) (values_of values.values) (default_in (kind_in values.values)) code) (wholes_of codes))) (validity_by_codes (ptype_of codes) (wholes_of codes) valid values.valid)) }
+{
+    let picked = values.values.picked(alloc, &codes)?;
+    let picked = picked.zeroed_by(&valid);
+    let valid = valid_codes(alloc, &codes, valid, &values.valid)?;
+    Ok(Decoded {
+        values: picked,
+        valid,
+    })
+}

@@ -1,0 +1,68 @@
+//! Integers, each less a reference: a row, decoding.
+
+ghost use Rattle.std.specs.Prelude.{◌≡◌, IsTrue, pos, true, false, length, map};
+ghost use Rattle.vx_base.specs.Answers.{OrMemory};
+ghost use Rattle.vx_base.specs.CellValue.{cell_value};
+ghost use Rattle.vx_base.specs.Integers.{unsigned_of};
+ghost use Rattle.vx_base.specs.PlainScalar.{fits};
+ghost use Rattle.vx_base.specs.PlainType as types;
+ghost use Rattle.vx_base.specs.PlainType.{integer_of, is_integer};
+ghost use Rattle.vx_base.specs.PlainValue.{int, is_null};
+ghost use Rattle.vx_base.specs.declared.dtype.Nullability.TheVariants.{Nullable};
+ghost use Rattle.vx_base.specs.declared.ptype.PType.TheVariants.{U64};
+ghost use Rattle.vx_model.specs.Decoded.{zeroed_by};
+ghost use Rattle.vx_model.specs.Refusals.{validity_length};
+ghost use Rattle.vx_model.specs.Rows.{moved, summed};
+ghost use Rattle.vx_values.specs.IntsOf.{ptype_of, wholes_of};
+ghost use Rattle.vx_values.specs.ValuesOf.{ints, AreRows};
+
+use std::alloc::Global;
+use vx_base::{Cell, Mask, Scalar, VortexResult};
+use vx_values::{Decoded, Ints, behind, summed_in};
+
+/// The row of a frame whose difference from the reference is given, null where it is null.
+pub fn moved_at(reference: &Scalar, difference: Cell<'_>) -> Cell<'static>
+    requires integer { IsTrue (is_integer reference.now.dtype) }
+    requires not_null { is_null reference.now.value ≡ false }
+    requires held { IsTrue (fits (types.primitive U64 Nullable) (cell_value difference)) }
+    ensures { cell_value result ≡ moved reference.now (cell_value difference.entry) }
+{
+    reference.known();
+    match (reference.integer(), difference) {
+        (Some(whole), Cell::Int(difference)) => {
+            Cell::Int(summed_in(reference.dtype().ptype(), whole, difference))
+        }
+        _ => Cell::Null,
+    }
+}
+
+// The sums of the reference and each difference.
+fn moved(alloc: Global, reference: &Scalar, differences: &Ints) -> VortexResult<Ints>
+    requires integer { IsTrue (is_integer reference.now.dtype) }
+    requires not_null { is_null reference.now.value ≡ false }
+    requires unsigned { ptype_of differences.now ≡ unsigned_of (integer_of reference.now.dtype) }
+    ensures { OrMemory result (λ ints. (ptype_of ints ≡ integer_of reference.now.dtype) × (wholes_of ints ≡ map (summed reference.now) (wholes_of differences.now))) }
+{
+    reference.known();
+    let Some(whole) = reference.integer() else {
+        unreachable!();
+    };
+    differences.moved(alloc, reference.dtype().ptype(), whole)
+}
+
+/// The sums of the reference and each difference, 0 beneath nulls, by the differences and their validity.
+pub fn decoded_moved(
+    alloc: Global,
+    differences: Ints,
+    valid: Option<Mask>,
+    reference: &Scalar,
+) -> VortexResult<Decoded>
+    requires integer { IsTrue (is_integer reference.now.dtype) }
+    requires not_null { is_null reference.now.value ≡ false }
+    requires unsigned { ptype_of differences ≡ unsigned_of (integer_of reference.now.dtype) }
+    requires bits { validity_length valid (length (wholes_of differences)) ≡ true }
+    ensures { OrMemory result (AreRows (ints (integer_of reference.now.dtype)) (map int (zeroed_by (pos 0) valid (map (summed reference.now) (wholes_of differences)))) valid) }
+{
+    let values = moved(alloc, reference, &differences)?;
+    Ok(behind(values, valid))
+}

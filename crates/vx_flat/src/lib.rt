@@ -1,0 +1,45 @@
+//! What nodes say of flat columns without a tree: a row, the bytes, what is refused, decoding, the places of runs and patches;
+//! flat lists out of values, and the values within values. A file for each node that has a part here, under its name.
+#![tactic(auto)]
+
+mod bool;
+mod delta;
+mod dict;
+mod elements;
+mod frame_of_reference;
+mod lists;
+mod longer;
+mod masked;
+mod patched;
+mod payload;
+mod places;
+mod primitive;
+mod sequence;
+mod sizes;
+mod texts;
+mod var_bin;
+mod var_bin_view;
+mod within;
+mod zig_zag;
+
+pub use bool::{bool_bytes, decoded_bool, is_false_beneath, truth_at};
+pub use delta::{decoded_delta, wrapped};
+pub use dict::{decoded_by_codes, is_place};
+pub use elements::{byte_elements, element_validity, values_of};
+pub use frame_of_reference::{decoded_moved, moved_at};
+pub use lists::{byte_rows, has_null, is_null, truths, validity_of, wholes};
+pub use longer::{bits_with, values_with};
+pub use masked::{decoded_masked, masked_bytes};
+pub use patched::patch_places;
+pub use payload::payload_bytes;
+pub use places::{block_places, run_places, sums_are_places};
+pub use primitive::{
+    decoded_primitive, flat_refusal, is_zero_beneath, primitive_at, primitive_bytes,
+};
+pub use sequence::{are_held, decoded_sequence, is_held, sequence_at};
+pub use sizes::{bit_bytes, validity_bytes, with_validity};
+pub use texts::fits;
+pub use var_bin::{decoded_var_bin, part, var_bin_bytes};
+pub use var_bin_view::{decoded_view, is_empty_beneath, view_at, view_bytes, view_refusal};
+pub use within::{field_columns, filled_lists, list_items};
+pub use zig_zag::{decoded_zig_zag, unzigzagged_at};

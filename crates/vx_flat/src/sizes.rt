@@ -1,0 +1,32 @@
+//! The bytes of bits and of validity.
+
+ghost use Rattle.std.specs.Prelude.{◌≡◌, ◌<◌, ◌-◌, ◌+◌, ◌^◌, min};
+ghost use Rattle.vx_model.specs.Size.{bit_bytes, validity_size};
+
+use vx_base::Mask;
+
+/// The bytes of children and those of validity, at most the greatest number of 128 bits.
+pub fn with_validity(inside: u128, valid: &Option<Mask>) -> u128
+    ensures { result ≡ min (inside + validity_size valid.now) (2 ^ 128 - 1) }
+{
+    inside.saturating_add(validity_bytes(valid))
+}
+
+/// Whole bytes that hold this many bits.
+pub fn bit_bytes(bits: u64) -> u128
+    ensures value { result ≡ bit_bytes bits }
+    ensures small { result < 2 ^ 62 }
+{
+    (u128::from(bits) + 7) / 8
+}
+
+/// The bytes of validity: a bit a row where there are bits, else none.
+pub fn validity_bytes(valid: &Option<Mask>) -> u128
+    ensures value { result ≡ validity_size valid.now }
+    ensures small { result < 2 ^ 62 }
+{
+    match valid {
+        Some(bits) => bit_bytes(bits.len()),
+        None => 0,
+    }
+}

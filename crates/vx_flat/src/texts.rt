@@ -1,0 +1,23 @@
+//! When bytes are a row of a type of texts or binaries.
+
+ghost use Rattle.std.specs.Prelude.{◌≡◌, IsTrue};
+ghost use Rattle.vx_base.specs.CellValue.{cell_value};
+ghost use Rattle.vx_base.specs.PlainScalar.{fits};
+ghost use Rattle.vx_base.specs.PlainType.{is_bytes};
+ghost use Rattle.vx_base.specs.TypeOf.{type_of};
+
+use vx_base::{Cell, DType, is_short, is_text};
+
+/// Whether a row is one of a type of texts or binaries: null of a nullable one, else fewer than 2^32 bytes, and of texts
+/// what is UTF-8.
+pub fn fits(dtype: &DType, row: Cell<'_>) -> bool
+    requires { IsTrue (is_bytes (type_of dtype.now)) }
+    ensures { result ≡ fits (type_of dtype.now) (cell_value row.entry) }
+{
+    match (dtype, row) {
+        (_, Cell::Null) => dtype.is_nullable(),
+        (DType::Utf8(_), Cell::Bytes(bytes)) => is_short(bytes) && is_text(bytes),
+        (DType::Binary(_), Cell::Bytes(bytes)) => is_short(bytes),
+        _ => false,
+    }
+}

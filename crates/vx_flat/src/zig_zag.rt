@@ -1,0 +1,39 @@
+//! Integers as their zigzag: a row, decoding.
+
+ghost use Rattle.std.specs.Prelude.{◌≡◌, IsTrue, true, not, map};
+ghost use Rattle.vx_base.specs.Answers.{OrMemory};
+ghost use Rattle.vx_base.specs.CellValue.{cell_value};
+ghost use Rattle.vx_base.specs.Integers.{is_signed, signed_of};
+ghost use Rattle.vx_base.specs.PlainScalar.{fits};
+ghost use Rattle.vx_base.specs.PlainType as types;
+ghost use Rattle.vx_base.specs.PlainValue.{int};
+ghost use Rattle.vx_base.specs.declared.dtype.Nullability.TheVariants.{Nullable};
+ghost use Rattle.vx_base.specs.declared.ptype.PType.TheVariants.{U64};
+ghost use Rattle.vx_model.specs.Rows.{unzigzagged, unzigzagged_whole};
+ghost use Rattle.vx_values.specs.IntsOf.{ptype_of, wholes_of};
+ghost use Rattle.vx_values.specs.ValuesOf.{ints, AreRows};
+
+use std::alloc::Global;
+use vx_base::{Cell, Mask, VortexResult};
+use vx_blocks::unzigzag;
+use vx_values::{Decoded, Ints, Values};
+
+/// The row whose zigzag is given, null where it is null.
+pub fn unzigzagged_at(word: Cell<'_>) -> Cell<'static>
+    requires { IsTrue (fits (types.primitive U64 Nullable) (cell_value word)) }
+    ensures { cell_value result ≡ unzigzagged (cell_value word.entry) }
+{
+    match word {
+        Cell::Int(word) => Cell::Int(i128::from(unzigzag(word as u64))),
+        Cell::Null | Cell::Bool(_) | Cell::Bytes(_) => Cell::Null,
+    }
+}
+
+/// The integers whose zigzag each row is, with its validity.
+pub fn decoded_zig_zag(alloc: Global, zigzags: Ints, valid: Option<Mask>) -> VortexResult<Decoded>
+    requires { not (is_signed (ptype_of zigzags)) ≡ true }
+    ensures { OrMemory result (AreRows (ints (signed_of (ptype_of zigzags))) (map int (map unzigzagged_whole (wholes_of zigzags))) valid) }
+{
+    let values = Values::Ints(zigzags.unzigzagged(alloc)?);
+    Ok(Decoded { values, valid })
+}
