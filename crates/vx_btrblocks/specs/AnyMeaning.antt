@@ -4,14 +4,14 @@ use Rattle.vx_base.specs.declared.array_id.ArrayId.{ArrayId}
 use Rattle.vx_scheme.specs.Lawful.{Lawful}
 use Rattle.vx_scheme.specs.Meaning.{Meaning}
 use Rattle.vx_schemes.specs.BitPacking.Meaning.{bit_packing_meaning, bit_packing_lawful}
-use Rattle.vx_schemes.specs.Delta.Meaning.{delta_meaning, delta_lawful}
 use Rattle.vx_schemes.specs.Dictionary.Meaning.{int_dict_meaning, int_dict_lawful}
 use Rattle.vx_schemes.specs.FrameOfReference.Meaning.{for_meaning, for_meaning_lawful}
-use Rattle.vx_schemes.specs.RunEnd.Meaning.{run_end_meaning, run_end_lawful}
-use Rattle.vx_schemes.specs.RunLength.Meaning.{int_rle_meaning, int_rle_lawful}
-use Rattle.vx_schemes.specs.Sequence.Meaning.{sequence_meaning, sequence_lawful}
-use Rattle.vx_schemes.specs.Sparse.Meaning.{sparse_meaning, sparse_lawful}
 use Rattle.vx_schemes.specs.ZigZag.Meaning.{zig_zag_meaning, zig_zag_lawful}
+use Rattle.vx_schemes_runs.specs.Delta.Meaning.{delta_meaning, delta_lawful}
+use Rattle.vx_schemes_runs.specs.RunEnd.Meaning.{run_end_meaning, run_end_lawful}
+use Rattle.vx_schemes_runs.specs.RunLength.Meaning.{int_rle_meaning, int_rle_lawful}
+use Rattle.vx_schemes_runs.specs.Sequence.Meaning.{sequence_meaning, sequence_lawful}
+use Rattle.vx_schemes_runs.specs.Sparse.Meaning.{sparse_meaning, sparse_lawful}
 use Rattle.vx_btrblocks.specs.declared.any_scheme.AnyScheme.{AnyScheme}
 use Rattle.vx_btrblocks.specs.declared.any_scheme.AnyScheme.TheVariants.{FoR, ZigZag, BitPacking, Sparse, IntDict, RunEnd, Sequence, IntRLE, Delta, Own}
 

@@ -5,14 +5,14 @@ use Rattle.vx_model.specs.Column.{Column}
 use Rattle.vx_model.specs.Tree.{Tree}
 use Rattle.vx_scheme.specs.Meaning.{Meaning}
 use Rattle.vx_schemes.specs.BitPacking.Meaning.{bit_packing_meaning}
-use Rattle.vx_schemes.specs.Delta.Meaning.{delta_meaning, default_delta}
 use Rattle.vx_schemes.specs.Dictionary.Meaning.{int_dict_meaning}
 use Rattle.vx_schemes.specs.FrameOfReference.Meaning.{for_meaning}
-use Rattle.vx_schemes.specs.RunEnd.Meaning.{run_end_meaning}
-use Rattle.vx_schemes.specs.RunLength.Meaning.{int_rle_meaning}
-use Rattle.vx_schemes.specs.Sequence.Meaning.{sequence_meaning}
-use Rattle.vx_schemes.specs.Sparse.Meaning.{sparse_meaning}
 use Rattle.vx_schemes.specs.ZigZag.Meaning.{zig_zag_meaning}
+use Rattle.vx_schemes_runs.specs.Delta.Meaning.{delta_meaning, default_delta}
+use Rattle.vx_schemes_runs.specs.RunEnd.Meaning.{run_end_meaning}
+use Rattle.vx_schemes_runs.specs.RunLength.Meaning.{int_rle_meaning}
+use Rattle.vx_schemes_runs.specs.Sequence.Meaning.{sequence_meaning}
+use Rattle.vx_schemes_runs.specs.Sparse.Meaning.{sparse_meaning}
 use Rattle.vx_compressor.specs.Cascade.{Setting, leaf_tree}
 
 -- in the order in which they are judged

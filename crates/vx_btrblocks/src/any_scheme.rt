@@ -8,10 +8,8 @@ use vx_scheme::{
     AllowedIds, AncestorRules, ArrayAndStats, CompressionEstimate, CompressorContext,
     DescendantRules, EstimateVerdict, GenerateStatsOptions, Scheme, Split,
 };
-use vx_schemes::{
-    BitPackingScheme, DeltaScheme, FoRScheme, IntDictScheme, IntRLEScheme, RunEndScheme,
-    SequenceScheme, SparseScheme, ZigZagScheme,
-};
+use vx_schemes::{BitPackingScheme, FoRScheme, IntDictScheme, ZigZagScheme};
+use vx_schemes_runs::{DeltaScheme, IntRLEScheme, RunEndScheme, SequenceScheme, SparseScheme};
 
 /// A shipped scheme, or one of the caller's own. It does in each call what the scheme in it does.
 #[derive(Clone, Copy, Debug, PartialEq, Eq)]

@@ -15,10 +15,8 @@ use vx_array::ArrayRef;
 use vx_base::{ExecutionCtx, VortexResult};
 use vx_compressor::{CascadingCompressor, Schemes};
 use vx_scheme::Scheme;
-use vx_schemes::{
-    BitPackingScheme, DeltaScheme, FoRScheme, IntDictScheme, IntRLEScheme, RunEndScheme,
-    SequenceScheme, SparseScheme, ZigZagScheme,
-};
+use vx_schemes::{BitPackingScheme, FoRScheme, IntDictScheme, ZigZagScheme};
+use vx_schemes_runs::{DeltaScheme, IntRLEScheme, RunEndScheme, SequenceScheme, SparseScheme};
 
 /// Makes a column's tree over the shipped schemes and those of the caller.
 #[derive(Drop)]

@@ -10,7 +10,7 @@ use vx_base::PType::U32;
 use vx_base::VortexResult;
 use vx_compressor::{CascadingCompressor, Schemes};
 use vx_fixtures::{accepted, context, flat};
-use vx_schemes::IntRLEScheme;
+use vx_schemes_runs::IntRLEScheme;
 
 // 0 in a thousand rows, and then 7 in a thousand.
 fn two_runs(alloc: Global) -> VortexResult<ArrayRef> {

@@ -8,7 +8,7 @@ use vx_base::Fraction;
 use vx_base::PType::{I32, U8, U64};
 use vx_fixtures::{Told, made_of, told_above, told_of};
 use vx_scheme::CompressorContext;
-use vx_schemes::DeltaScheme;
+use vx_schemes_runs::DeltaScheme;
 
 // The squares of 2,048 numbers: differences from 0 to 4,093, which have 12 digits.
 fn squares() -> [Option<i128>; 2048] {

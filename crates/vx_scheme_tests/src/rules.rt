@@ -3,10 +3,8 @@
 use std::test::Fail;
 use vx_fixtures::rules_of;
 use vx_scheme::NoScheme;
-use vx_schemes::{
-    BitPackingScheme, DeltaScheme, FoRScheme, IntDictScheme, IntRLEScheme, RunEndScheme,
-    SequenceScheme, SparseScheme, ZigZagScheme,
-};
+use vx_schemes::{BitPackingScheme, FoRScheme, IntDictScheme, ZigZagScheme};
+use vx_schemes_runs::{DeltaScheme, IntRLEScheme, RunEndScheme, SequenceScheme, SparseScheme};
 
 #[test]
 fn each_scheme_tells_its_rules(rt: HostRuntime) -> Result<(), Fail> {

@@ -7,7 +7,7 @@ use vx_base::ArrayId::{Primitive, RunEnd};
 use vx_base::PType::{I32, U8, U16, U32};
 use vx_fixtures::{Told, told_of};
 use vx_scheme::CompressorContext;
-use vx_schemes::RunEndScheme;
+use vx_schemes_runs::RunEndScheme;
 
 #[test]
 fn four_values_a_run_are_tried(rt: HostRuntime) -> Result<(), Fail> {

@@ -8,7 +8,7 @@ use vx_base::PType::{I32, U8, U32};
 use vx_base::VortexResult;
 use vx_fixtures::{Told, told_of};
 use vx_scheme::CompressorContext;
-use vx_schemes::IntRLEScheme;
+use vx_schemes_runs::IntRLEScheme;
 
 #[test]
 fn four_values_a_run_are_tried_where_a_scheme_may_follow(rt: HostRuntime) -> Result<(), Fail> {

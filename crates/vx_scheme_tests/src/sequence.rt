@@ -7,7 +7,7 @@ use vx_base::Fraction;
 use vx_base::PType::{I8, I32, U8};
 use vx_fixtures::{Told, told_above, told_of};
 use vx_scheme::CompressorContext;
-use vx_schemes::SequenceScheme;
+use vx_schemes_runs::SequenceScheme;
 
 #[test]
 fn half_the_rows_of_a_sequence_are_expected(rt: HostRuntime) -> Result<(), Fail> {

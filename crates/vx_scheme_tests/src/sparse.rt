@@ -6,7 +6,7 @@ use vx_base::ArrayId::{Constant, Primitive, Sparse};
 use vx_base::PType::{I32, U8};
 use vx_fixtures::{Told, told_of};
 use vx_scheme::CompressorContext;
-use vx_schemes::SparseScheme;
+use vx_schemes_runs::SparseScheme;
 
 const NINE_ONES: [Option<i128>; 10] = [
     Some(1),

@@ -1,6 +1,5 @@
 pub mod BitPacking
 pub mod ColumnLemmas
-pub mod Delta
 pub mod Dictionary
 pub mod FrameOfReference
 pub mod KeptLemmas
@@ -8,12 +7,6 @@ pub mod MadeLemmas
 pub mod NarrowedLemmas
 pub mod PatchLemmas
 pub mod Produced
-pub mod RunFacts
-pub mod RunParts
-pub mod Sparse
 pub mod StandardFacts
-pub mod TripleLemmas
-pub mod Sequence
-pub mod ThresholdLemmas
 pub mod WidthLemmas
 pub mod ZigZag

@@ -22,20 +22,12 @@ use Rattle.vx_schemes.specs.FrameOfReference.Meaning.{for_meaning}
 use Rattle.vx_schemes.specs.FrameOfReference.Tree.{least_value, framed, for_made}
 use Rattle.vx_schemes.specs.OnePart.{part_where, over_part}
 use Rattle.vx_schemes.specs.Pairs.{pair_of}
-use Rattle.vx_schemes.specs.PartsLaws.{never_finished}
 use Rattle.vx_schemes.specs.Produced.{IsProduced, MakesProduced}
-use Rattle.vx_schemes.specs.RunEnd.Meaning.{run_end_meaning}
-use Rattle.vx_schemes.specs.RunEnd.Tree.{run_values, narrowed_ends, runs_or_plain}
-use Rattle.vx_schemes.specs.RunLength.Meaning.{int_rle_meaning}
-use Rattle.vx_schemes.specs.RunLength.Tree.{head_values, narrowed_run_numbers, narrowed_offsets, blocks_or_plain}
-use Rattle.vx_schemes.specs.Triples.{triple_of}
 use Rattle.vx_schemes.specs.Widths.{best_width_of}
 use Rattle.vx_schemes.specs.ZigZag.Meaning.{zig_zag_meaning}
 use Rattle.vx_schemes.specs.declared.integer.bit_packing.BitPackingScheme.{BitPackingScheme}
 use Rattle.vx_schemes.specs.declared.integer.dictionary.IntDictScheme.{IntDictScheme}
 use Rattle.vx_schemes.specs.declared.integer.frame_of_reference.FoRScheme.{FoRScheme}
-use Rattle.vx_schemes.specs.declared.integer.run_end.RunEndScheme.{RunEndScheme}
-use Rattle.vx_schemes.specs.declared.integer.run_length.IntRLEScheme.{IntRLEScheme}
 use Rattle.vx_schemes.specs.declared.integer.zig_zag.ZigZagScheme.{ZigZagScheme}
 
 -- ---- any scheme of integers
@@ -110,23 +102,3 @@ dictionaries-produced s = record {
     by_pair : (c : Column) (pair : Option (Tree × Tree)) → is_integer c.dtype ≡ true → IsProduced (int_dict_meaning s) (dictionary_or_plain c pair)
     by_pair c None i = plain-produced (int_dict_meaning s) c i
     by_pair c (Some pair) i = inr refl
-
-pub run_ends-produced : (s : RunEndScheme) → MakesProduced (run_end_meaning s)
-run_ends-produced s = record {
-  by_finishing = λ c site tree e. absurd (never_finished (run_values c ∷ narrowed_ends c ∷ []) tree e);
-  by_joining = λ c site trees taken. by_pair c (pair_of trees) taken;
-}
-  where
-    by_pair : (c : Column) (pair : Option (Tree × Tree)) → is_integer c.dtype ≡ true → IsProduced (run_end_meaning s) (runs_or_plain c pair)
-    by_pair c None i = plain-produced (run_end_meaning s) c i
-    by_pair c (Some pair) i = inr refl
-
-pub blocks-produced : (s : IntRLEScheme) → MakesProduced (int_rle_meaning s)
-blocks-produced s = record {
-  by_finishing = λ c site tree e. absurd (never_finished (head_values c ∷ narrowed_run_numbers c ∷ narrowed_offsets c ∷ []) tree e);
-  by_joining = λ c site trees taken. by_three c (triple_of trees) taken;
-}
-  where
-    by_three : (c : Column) (three : Option (Tree × Tree × Tree)) → is_integer c.dtype ≡ true → IsProduced (int_rle_meaning s) (blocks_or_plain c three)
-    by_three c None i = plain-produced (int_rle_meaning s) c i
-    by_three c (Some three) i = inr refl

@@ -1,5 +1,4 @@
 pub mod BitPacking
-pub mod Delta
 pub mod Dictionary
 pub mod Exclusions
 pub mod Finishing
@@ -10,17 +9,8 @@ pub mod NarrowedLaws
 pub mod Pairs
 pub mod OnePart
 pub mod OnePartLaws
-pub mod PartsLaws
 pub mod Patches
 pub mod Produced
-pub mod RowsAt
-pub mod RowsAtLaws
-pub mod RunEnd
-pub mod RunLength
-pub mod Sparse
 pub mod StandsFor
-pub mod Triples
-pub mod Sequence
-pub mod Thresholds
 pub mod Widths
 pub mod ZigZag

@@ -12,7 +12,7 @@ use vx_base::VortexResult;
 use vx_scheme::{AncestorExclusion, AncestorRules, ChildSelection, SchemeId};
 
 /// Not below the codes of a dictionary: they are dense numbers from 0 on, which are narrowed already.
-pub(crate) fn not_in_codes(alloc: Global) -> VortexResult<AncestorRules>
+pub fn not_in_codes(alloc: Global) -> VortexResult<AncestorRules>
     ensures { OrMemory result (λ rules. ancestors_of rules ≡ not_in_codes) }
 {
     let rules = vec![in alloc;
@@ -35,7 +35,7 @@ fn below_codes(dictionary: &'static str) -> AncestorExclusion
 }
 
 /// Not below the distinct values of a dictionary: no two of them are equal, so none makes a run with another.
-pub(crate) fn not_in_values(alloc: Global) -> VortexResult<AncestorRules>
+pub fn not_in_values(alloc: Global) -> VortexResult<AncestorRules>
     ensures { OrMemory result (λ rules. ancestors_of rules ≡ not_in_values) }
 {
     let rules = vec![in alloc;

@@ -8,7 +8,7 @@ use vx_array::ArrayRef;
 use vx_scheme::Split;
 
 /// The tree as the whole answer, where there is one; else the column stays plain.
-pub(crate) fn finished_or_kept(made: Option<ArrayRef>) -> Split
+pub fn finished_or_kept(made: Option<ArrayRef>) -> Split
     ensures { result ≡ split_of (finished_or_kept made) }
 {
     match made {

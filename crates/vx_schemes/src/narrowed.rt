@@ -15,7 +15,7 @@ use vx_blocks::narrow_type;
 use vx_values::Ints;
 
 /// Numbers as a plain tree of the narrowest unsigned type that holds each, U8 where there are none.
-pub(crate) fn narrowed_numbers(alloc: Global, numbers: Words) -> VortexResult<ArrayRef>
+pub fn narrowed_numbers(alloc: Global, numbers: Words) -> VortexResult<ArrayRef>
     ensures { Answers result (plain (narrowed_numbers numbers)) }
 {
     let greatest = greatest(numbers.as_slice());
@@ -23,7 +23,7 @@ pub(crate) fn narrowed_numbers(alloc: Global, numbers: Words) -> VortexResult<Ar
 }
 
 /// The same of numbers that rise: the last of them decides.
-pub(crate) fn narrowed_rising(alloc: Global, numbers: Words) -> VortexResult<ArrayRef>
+pub fn narrowed_rising(alloc: Global, numbers: Words) -> VortexResult<ArrayRef>
     requires { IsTrue (ascend 0 (2 ^ 64) (number_rows numbers)) }
     ensures { Answers result (plain (narrowed_numbers numbers)) }
 {

@@ -11,7 +11,7 @@ use vx_base::VortexResult;
 use vx_scheme::Split;
 
 /// Two parts, child 0 first.
-pub(crate) fn two_parts(alloc: Global, first: ArrayRef, second: ArrayRef) -> VortexResult<Split>
+pub fn two_parts(alloc: Global, first: ArrayRef, second: ArrayRef) -> VortexResult<Split>
     ensures { Answers result (Parts (first ∷ second ∷ [])) }
 {
     let mut parts = Vec::with_capacity(alloc, 2)?;
@@ -21,7 +21,7 @@ pub(crate) fn two_parts(alloc: Global, first: ArrayRef, second: ArrayRef) -> Vor
 }
 
 /// The two trees, where there are no more and no fewer.
-pub(crate) fn pair_of(trees: Arrays) -> Option<(ArrayRef, ArrayRef)>
+pub fn pair_of(trees: Arrays) -> Option<(ArrayRef, ArrayRef)>
     ensures { result ≡ pair_of trees }
 {
     if trees.len() != 2 {

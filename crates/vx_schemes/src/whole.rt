@@ -9,7 +9,7 @@ use vx_base::{Nullability, VortexResult};
 use vx_values::Ints;
 
 /// A plain tree of integers without nulls. It takes no memory.
-pub(crate) fn whole_tree(values: Ints, nullability: Nullability) -> VortexResult<ArrayRef>
+pub fn whole_tree(values: Ints, nullability: Nullability) -> VortexResult<ArrayRef>
     ensures { result ≡ Ok (primitive (ptype_of values) (wholes_of values) None nullability) }
 {
     match ArrayRef::primitive(values, None, nullability) {

@@ -4,7 +4,7 @@ ghost use Rattle.std.specs.Prelude.{◌≡◌, ◌<◌, ◌≤◌, ◌-◌, ◌^
 ghost use Rattle.vx_base.specs.Digits.{digits};
 
 /// How many binary digits a number has.
-pub(crate) fn digits(number: u64) -> u32
+pub fn digits(number: u64) -> u32
     ensures digits { result ≡ digits number }
     ensures most { result ≤ 64 }
 {
@@ -12,7 +12,7 @@ pub(crate) fn digits(number: u64) -> u32
 }
 
 /// The greatest number of so many binary digits.
-pub(crate) fn greatest_of(digits: u32) -> u64
+pub fn greatest_of(digits: u32) -> u64
     requires some { 0 < digits }
     requires most { digits ≤ 64 }
     ensures { result ≡ 2 ^ digits - 1 }

@@ -17,7 +17,8 @@ mod tree;
 use crate::finishing::finished_or_kept;
 use std::alloc::Global;
 use std::sync::ledger::Ledger;
-pub(crate) use tree::{bit_packing_tree, counts_above, mask_of};
+pub use tree::mask_of;
+pub(crate) use tree::{bit_packing_tree, counts_above};
 use vx_array::{ArrayRef, Arrays};
 use vx_base::{ArrayId, DType, ExecutionCtx, Fraction, IdSet, Steps, VortexResult};
 use vx_scheme::{

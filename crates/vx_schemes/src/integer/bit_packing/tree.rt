@@ -48,7 +48,7 @@ pub(crate) fn bit_packing_tree(
 }
 
 /// The validity with a bit for each row.
-pub(crate) fn mask_of(alloc: Global, valid: &Option<Mask>, len: u64) -> VortexResult<Mask>
+pub fn mask_of(alloc: Global, valid: &Option<Mask>, len: u64) -> VortexResult<Mask>
     ensures { Answers result (unwrap_or valid.now (replicate len true)) }
 {
     match valid {

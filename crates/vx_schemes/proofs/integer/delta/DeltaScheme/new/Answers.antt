@@ -1,5 +1,0 @@
-use Rattle.vx_schemes.proofs.Delta.Produced.{deltas-produced}
-use Rattle.vx_schemes.proofs.integer.delta.DeltaScheme.new.Goals as goal
-
-pub returns-clause-produced : goal.returns-clause-produced
-returns-clause-produced c = deltas-produced (record { min_ratio = c.args.min_ratio })

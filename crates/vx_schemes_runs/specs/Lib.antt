@@ -1,0 +1,10 @@
+pub mod Delta
+pub mod PartsLaws
+pub mod RowsAt
+pub mod RowsAtLaws
+pub mod RunEnd
+pub mod RunLength
+pub mod Sequence
+pub mod Sparse
+pub mod Thresholds
+pub mod Triples
