@@ -1,11 +1,9 @@
 pub mod AtNode
 pub mod Blocks
 pub mod Canonicals
-pub mod ConstantExtents
 pub mod Decodings
 pub mod DefaultLemmas
 pub mod Falls
-pub mod FewWayLemmas
 pub mod FieldTrees
 pub mod Flat
 pub mod Holes
@@ -29,5 +27,3 @@ pub mod Truths
 pub mod Typing
 pub mod Unpacked
 pub mod ValueAt
-pub mod ValueWayLemmas
-pub mod WayLemmas

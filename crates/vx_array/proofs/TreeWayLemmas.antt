@@ -18,7 +18,7 @@ use Rattle.vx_model.proofs.SparseCountLemmas.{ascend-few}
 use Rattle.vx_model.proofs.SparseLemmas.{length-sparse}
 use Rattle.vx_model.proofs.StructLemmas.{length-structure}
 use Rattle.vx_array.specs.TreeWays.{by_ways, by_fields, extent_at}
-use Rattle.vx_array.specs.Ways.{PlainWay, here, field, inside, field_in, reached, count_at}
+use Rattle.vx_flat.specs.Ways.{PlainWay, here, field, inside, field_in, reached, count_at}
 
 -- ---- numbers for the columns within a type's
 

@@ -28,7 +28,7 @@ use Rattle.vx_model.proofs.VarBinLemmas.{length-var_bin}
 use Rattle.vx_model.proofs.ViewLemmas.{length-var_bin_view}
 use Rattle.vx_model.proofs.ZigZagLemmas.{length-zig_zag}
 use Rattle.vx_array.specs.TreeWays.{by_ways, by_fields, extent_at, extent_in}
-use Rattle.vx_array.specs.Ways.{PlainWay, here, field, inside, count_at}
+use Rattle.vx_flat.specs.Ways.{PlainWay, here, field, inside, count_at}
 use Rattle.vx_array.proofs.Flat.{dict_flat}
 use Rattle.vx_array.proofs.TreeWayLemmas.{both-ways, repeated-ways, of_flat, of_other}
 

@@ -9,4 +9,3 @@ pub mod Sums
 pub mod TreeFalls
 pub mod TreeOf
 pub mod TreeWays
-pub mod Ways

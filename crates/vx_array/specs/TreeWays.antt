@@ -4,7 +4,7 @@ use Rattle.vx_base.specs.PlainType.{PlainType, PlainFields}
 use Rattle.vx_base.specs.PlainType as types
 use Rattle.vx_model.specs.Rows.{rows}
 use Rattle.vx_model.specs.Tree.{Tree, Trees, constant, structure, list, fixed_size_list, sparse, none, more}
-use Rattle.vx_array.specs.Ways.{PlainWay, here, field, inside, count_at}
+use Rattle.vx_flat.specs.Ways.{PlainWay, here, field, inside, count_at}
 
 -- a number for each column within a type's, in their order
 abbrev mutual

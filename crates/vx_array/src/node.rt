@@ -28,9 +28,7 @@ mod zig_zag;
 use crate::array::ArrayRef;
 pub(crate) use bit_packed::{copied_packed, decoded_packed, packed_bytes, unpacked_at};
 pub(crate) use bool::{copied_bool, gathered_bool};
-pub(crate) use constant::{
-    constant_bytes, constant_extents_fit, constant_has_null, copied_constant, decoded_constant,
-};
+pub(crate) use constant::{copied_constant, decoded_constant};
 pub(crate) use delta::copied_delta;
 pub(crate) use delta_rows::summed_at;
 pub(crate) use dict::{boxed, copied_dict, picked_at};

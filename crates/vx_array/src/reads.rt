@@ -9,8 +9,8 @@ ghost use Rattle.vx_model.specs.TreeType.{tree_type};
 
 use crate::array::{ArrayRef, Node};
 use crate::beneath::{are_empty_beneath, has_words};
-use crate::node::{constant_has_null, sparse_has_null, sparse_is_null_at};
-use vx_flat::{is_empty_beneath, is_false_beneath, is_zero_beneath};
+use crate::node::{sparse_has_null, sparse_is_null_at};
+use vx_flat::{constant_has_null, is_empty_beneath, is_false_beneath, is_zero_beneath};
 use vx_values::is_valid;
 
 impl ArrayRef {

@@ -1,6 +1,6 @@
 //! The bytes and the extents of a tree.
 
-ghost use Rattle.std.specs.Prelude.{◌≡◌, ◌<◌, ◌-◌, ◌+◌, ◌^◌, min, nat_le};
+ghost use Rattle.std.specs.Prelude.{◌≡◌, ◌-◌, ◌+◌, ◌^◌, min, nat_le};
 ghost use Rattle.std.specs.List.{list_all};
 ghost use Rattle.vx_model.specs.Extents.{all_extents, extents_fit, row_limit};
 ghost use Rattle.vx_model.specs.Size.{nbytes, size, sizes};
@@ -8,15 +8,11 @@ ghost use Rattle.vx_model.specs.Tree.{of_list};
 
 use crate::array::{ArrayRef, Node, Patches};
 use crate::arrays::Arrays;
-use crate::node::{
-    constant_bytes, constant_extents_fit, packed_bytes, sparse_bytes, var_bin_extents_fit,
-};
+use crate::node::{packed_bytes, sparse_bytes, var_bin_extents_fit};
 use vx_flat::{
-    bool_bytes, masked_bytes, primitive_bytes, var_bin_bytes, view_bytes, with_validity,
+    bool_bytes, constant_bytes, constant_extents_fit, is_few, masked_bytes, primitive_bytes,
+    var_bin_bytes, view_bytes, with_validity,
 };
-
-/// The greatest number of rows that is compressed.
-pub(crate) const ROW_LIMIT: u64 = 1 << 31;
 
 impl ArrayRef {
     /// The bytes of the tree, the greatest number of 128 bits where there are more.
@@ -142,11 +138,4 @@ impl Patches {
         let indices = self.indices.nbytes();
         indices.saturating_add(self.values.nbytes())
     }
-}
-
-// Whether so many rows are compressed.
-pub(crate) fn is_few(rows: u64) -> bool
-    ensures { result ≡ nat_le rows row_limit }
-{
-    rows <= ROW_LIMIT
 }

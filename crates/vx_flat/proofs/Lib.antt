@@ -1,9 +1,13 @@
 pub mod ByteLists
+pub mod ConstantExtents
+pub mod FewWayLemmas
 pub mod PatchPlaces
 pub mod Payloads
 pub mod RunPlaces
 pub mod StandardFacts
 pub mod Steps
 pub mod ValueLemmas
+pub mod ValueWayLemmas
 pub mod Views
+pub mod WayLemmas
 pub mod WrapLemmas

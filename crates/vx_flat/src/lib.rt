@@ -3,9 +3,12 @@
 #![tactic(auto)]
 
 mod bool;
+mod constant;
+mod counting;
 mod delta;
 mod dict;
 mod elements;
+mod fixed_size_list;
 mod frame_of_reference;
 mod lists;
 mod longer;
@@ -17,15 +20,19 @@ mod primitive;
 mod sequence;
 mod sizes;
 mod texts;
+mod timestamp;
 mod var_bin;
 mod var_bin_view;
 mod within;
 mod zig_zag;
 
 pub use bool::{bool_bytes, decoded_bool, is_false_beneath, truth_at};
+pub use constant::{constant_bytes, constant_extents_fit, constant_has_null, validity_of_constant};
+pub use counting::{Way, counts_fit, rows_within};
 pub use delta::{decoded_delta, wrapped};
 pub use dict::{decoded_by_codes, is_place};
 pub use elements::{byte_elements, element_validity, values_of};
+pub use fixed_size_list::have_elements;
 pub use frame_of_reference::{decoded_moved, moved_at};
 pub use lists::{byte_rows, has_null, is_null, truths, validity_of, wholes};
 pub use longer::{bits_with, values_with};
@@ -37,8 +44,9 @@ pub use primitive::{
     decoded_primitive, flat_refusal, is_zero_beneath, primitive_at, primitive_bytes,
 };
 pub use sequence::{are_held, decoded_sequence, is_held, sequence_at};
-pub use sizes::{bit_bytes, validity_bytes, with_validity};
+pub use sizes::{ROW_LIMIT, bit_bytes, is_few, validity_bytes, with_validity};
 pub use texts::fits;
+pub use timestamp::is_storage;
 pub use var_bin::{decoded_var_bin, part, var_bin_bytes};
 pub use var_bin_view::{decoded_view, is_empty_beneath, view_at, view_bytes, view_refusal};
 pub use within::{field_columns, filled_lists, list_items};

@@ -1,9 +1,20 @@
-//! The bytes of bits and of validity.
+//! The bytes of bits and of validity, and how many rows are compressed.
 
-ghost use Rattle.std.specs.Prelude.{◌≡◌, ◌<◌, ◌-◌, ◌+◌, ◌^◌, min};
+ghost use Rattle.std.specs.Prelude.{◌≡◌, ◌<◌, ◌-◌, ◌+◌, ◌^◌, min, nat_le};
+ghost use Rattle.vx_model.specs.Extents.{row_limit};
 ghost use Rattle.vx_model.specs.Size.{bit_bytes, validity_size};
 
 use vx_base::Mask;
+
+/// The greatest number of rows that is compressed.
+pub const ROW_LIMIT: u64 = 1 << 31;
+
+/// Whether so many rows are compressed.
+pub fn is_few(rows: u64) -> bool
+    ensures { result ≡ nat_le rows row_limit }
+{
+    rows <= ROW_LIMIT
+}
 
 /// The bytes of children and those of validity, at most the greatest number of 128 bits.
 pub fn with_validity(inside: u128, valid: &Option<Mask>) -> u128

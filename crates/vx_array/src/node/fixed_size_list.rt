@@ -1,12 +1,11 @@
 //! Lists of one size.
 
-ghost use Rattle.std.specs.Prelude.{◌≡◌, ◌*◌, ◌==◌, length};
+ghost use Rattle.std.specs.Prelude.{◌≡◌};
 ghost use Rattle.vx_array.specs.TreeOf.{tree_of};
 ghost use Rattle.vx_base.specs.Answers.{Makes, OrMemory};
 ghost use Rattle.vx_base.specs.PlainType as types;
 ghost use Rattle.vx_base.specs.TypeOf.{type_of};
 ghost use Rattle.vx_model.specs.Refusals.{fixed_size_list_refusal, kept};
-ghost use Rattle.vx_model.specs.Rows.{rows};
 ghost use Rattle.vx_model.specs.Tree.{fixed_size_list};
 ghost use Rattle.vx_model.specs.TreeType.{tree_type};
 
@@ -14,6 +13,7 @@ use crate::array::{ArrayRef, Child, Node};
 use crate::node::Made;
 use std::alloc::Global;
 use vx_base::{DType, Mask, Nullability, Refused, VortexError, VortexResult};
+use vx_flat::have_elements;
 use vx_values::{copy_validity, has_length, is_allowed, keep};
 
 impl ArrayRef {
@@ -78,20 +78,13 @@ fn refusal(
 ) -> Option<VortexError>
     ensures { result ≡ fixed_size_list_refusal elements.now list_size len valid.now nullability }
 {
-    if !have_elements(elements, list_size, len) || !has_length(valid, len) {
+    if !have_elements(elements.len(), list_size, len) || !has_length(valid, len) {
         return Some(VortexError::LengthMismatch);
     }
     if !is_allowed(valid, nullability) {
         return Some(VortexError::MismatchedTypes);
     }
     None
-}
-
-// Whether there are as many elements as so many lists of one size have.
-fn have_elements(elements: &ArrayRef, list_size: u32, len: u64) -> bool
-    ensures { result ≡ (length (rows elements.now) == len * list_size) }
-{
-    u128::from(elements.len()) == u128::from(len) * u128::from(list_size)
 }
 
 // The type of lists of so many such elements.

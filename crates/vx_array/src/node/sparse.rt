@@ -14,9 +14,10 @@ ghost use Rattle.vx_model.specs.Size.{size, payload};
 ghost use Rattle.vx_model.specs.TreeType.{tree_type};
 
 use crate::array::{ArrayRef, Node, Patches};
-use crate::node::{Made, constant_bytes};
+use crate::node::Made;
 use std::alloc::Global;
 use vx_base::{Cell, Refused, Scalar, Value, VortexError, VortexResult};
+use vx_flat::constant_bytes;
 
 impl ArrayRef {
     /// The patches' values in their rows, and `fill` in every other row of the patched array. Child 0: the patches'

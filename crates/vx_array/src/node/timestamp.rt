@@ -5,16 +5,16 @@ ghost use Rattle.vx_array.specs.AsType.{as_type};
 ghost use Rattle.vx_array.specs.TreeOf.{tree_of};
 ghost use Rattle.vx_base.specs.Answers.{Makes, Answers, OrMemory};
 ghost use Rattle.vx_base.specs.PlainType as types;
-ghost use Rattle.vx_base.specs.PlainType.{is_timestamp, nullability_of, same_type};
+ghost use Rattle.vx_base.specs.PlainType.{is_timestamp};
 ghost use Rattle.vx_base.specs.TypeOf.{type_of};
-ghost use Rattle.vx_base.specs.declared.ptype.PType.TheVariants.{I64};
 ghost use Rattle.vx_model.specs.Refusals.{timestamp_refusal};
 ghost use Rattle.vx_model.specs.Tree.{timestamp};
 
 use crate::array::{ArrayRef, Child, Node};
 use crate::node::Made;
 use std::alloc::Global;
-use vx_base::{DType, PType, Refused, TimestampType, VortexError, VortexResult};
+use vx_base::{DType, Refused, TimestampType, VortexError, VortexResult};
+use vx_flat::is_storage;
 
 impl ArrayRef {
     /// The integers of `storage` as timestamps of a kind, null where `storage` is. Child 0: `storage`, as many rows.
@@ -57,13 +57,6 @@ impl ArrayRef {
             }),
         }
     }
-}
-
-// Whether timestamps may stand over the type.
-fn is_storage(dtype: &DType) -> bool
-    ensures { result ≡ same_type (type_of dtype.now) (types.primitive I64 (nullability_of (type_of dtype.now))) }
-{
-    *dtype == DType::primitive(PType::I64, dtype.nullability())
 }
 
 // Integers as a type has them: timestamps of its kind over them, or themselves.

@@ -21,10 +21,9 @@ ghost use Rattle.vx_model.specs.WellFormed.{are_offsets};
 use super::offsets::{are_integers, are_offsets, offset_at, row_count};
 use crate::array::{ArrayRef, Child, Node};
 use crate::node::Made;
-use crate::sizes::is_few;
 use std::alloc::Global;
 use vx_base::{Bytes, Cell, DType, Mask, Refused, VortexError, VortexResult, is_short};
-use vx_flat::{fits, part};
+use vx_flat::{fits, is_few, part};
 use vx_values::{copy_validity, has_length, is_allowed, is_valid, keep};
 
 impl ArrayRef {

@@ -1,8 +1,8 @@
 use Rattle.std.proofs.Common.{◌∙◌, sym}
 use Rattle.std.specs.List.{list_all}
 use Rattle.vx_array.specs.TreeWays.{by_ways, extent_at}
-use Rattle.vx_array.specs.Ways.{turned}
-use Rattle.vx_array.proofs.FewWayLemmas.{way_of-Here}
+use Rattle.vx_flat.specs.Ways.{turned}
+use Rattle.vx_flat.proofs.FewWayLemmas.{way_of-Here}
 use Rattle.vx_array.proofs.TreeWays.{few, few-ways}
 use Rattle.vx_array.proofs.array.ArrayRef.columns_fit.Goals as goal
 

@@ -6,10 +6,10 @@ use Rattle.vx_base.specs.TypeOf.{type_of}
 use Rattle.vx_base.specs.PlainType.{list, fixed_size_list, of_fields}
 use Rattle.vx_values.proofs.Types.{type_of-List}
 use Rattle.vx_array.specs.TreeWays.{by_ways, by_fields, extent_at}
-use Rattle.vx_array.specs.Ways.{PlainWay, way_of, here, field, inside, turned}
-use Rattle.vx_array.proofs.FewWayLemmas.{left_false, left_true, way_of-Here, way_of-Field, way_of-Items}
+use Rattle.vx_flat.specs.Ways.{PlainWay, way_of, here, field, inside, turned}
+use Rattle.vx_flat.proofs.FewWayLemmas.{left_false, left_true, way_of-Here, way_of-Field, way_of-Items}
 use Rattle.vx_array.proofs.TreeWays.{few, few-least, fields-next, items-few}
-use Rattle.vx_array.proofs.counting.trees.+columns_fit.Goals as goal
+use Rattle.vx_array.proofs.tree_counts.+columns_fit.Goals as goal
 
 pub fields_fit-field_fits-requires : goal.fields_fit-field_fits-requires
 fields_fit-field_fits-requires t c =

@@ -10,8 +10,8 @@ use Rattle.vx_base.specs.declared.value.Value.{Value}
 use Rattle.vx_model.specs.Column.{Column, column}
 use Rattle.vx_model.specs.Extents.{counts, field_counts, row_limit}
 use Rattle.vx_model.specs.Nested.{first_within, rest_within, struct_rows, elements, fixed_elements}
-use Rattle.vx_array.specs.declared.counting.Way.{Way, fold-Way}
-use Rattle.vx_array.specs.declared.counting.Way.TheOpen.{Way-F}
+use Rattle.vx_flat.specs.declared.counting.Way.{Way, fold-Way}
+use Rattle.vx_flat.specs.declared.counting.Way.TheOpen.{Way-F}
 
 -- to the column itself; or into a field of structs, or into the items of lists, and on from there
 pub data PlainWay : Type 0 where

@@ -5,9 +5,9 @@ use Rattle.vx_base.proofs.FallLemmas.{type_count, field_list_count}
 use Rattle.vx_model.specs.Column.{column}
 use Rattle.vx_model.specs.Extents.{field_counts}
 use Rattle.vx_model.specs.Nested.{struct_rows}
-use Rattle.vx_array.specs.Ways.{way_of, column_at, are_few}
-use Rattle.vx_array.proofs.FewWayLemmas.{behind}
-use Rattle.vx_array.proofs.counting.+inner.Given as goal
+use Rattle.vx_flat.specs.Ways.{way_of, column_at, are_few}
+use Rattle.vx_flat.proofs.FewWayLemmas.{behind}
+use Rattle.vx_flat.proofs.counting.+inner.Given as goal
 
 -- two for each type and each field, and one more where a call of the same comes first
 abbrev pub decreases-inner_fit : goal.decreases-inner_fit

@@ -4,15 +4,15 @@ ghost use Rattle.std.specs.Prelude.{◌≡◌, ◌^◌, ◌-◌, ◌∷◌, [], 
 ghost use Rattle.vx_base.specs.PlainValue.{is_null, items_or_empty};
 ghost use Rattle.vx_base.specs.TypeOf.{type_of, value_of};
 ghost use Rattle.vx_model.specs.Rows.{row_at};
-ghost use Rattle.vx_array.specs.Ways.{way_of, field_type, items_type, items_of_null, field, inside, value_in, count_at};
+ghost use Rattle.vx_flat.specs.Ways.{way_of, field_type, items_type, items_of_null, field, inside, value_in, count_at};
 
 use super::Way;
+use crate::elements::values_of;
 use vx_base::{DType, Value};
-use vx_flat::values_of;
 
-// The rows that values have in the column that a way leads to.
+/// The rows that values have in the column that a way leads to. At most the greatest number of 64 bits.
 #[cycle(rows_within)]
-pub(super) fn rows_within(way: &Way<'_>, dtype: &DType, values: &[Value]) -> u64
+pub fn rows_within(way: &Way<'_>, dtype: &DType, values: &[Value]) -> u64
     ensures { result ≡ min (count_at (way_of way.now) (type_of dtype.now) (map value_of values.now)) (2 ^ 64 - 1) }
 {
     let mut sum: u64 = 0;

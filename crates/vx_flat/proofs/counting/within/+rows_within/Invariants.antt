@@ -1,7 +1,7 @@
 use Rattle.std.proofs.Common.{◌≡◌, ◌+◌, ◌*◌, ◌^◌, ◌-◌, min, map, take}
 use Rattle.vx_base.specs.TypeOf.{type_of, value_of}
-use Rattle.vx_array.specs.Ways.{way_of, way_length, count_at}
-use Rattle.vx_array.proofs.counting.within.+rows_within.Given as goal
+use Rattle.vx_flat.specs.Ways.{way_of, way_length, count_at}
+use Rattle.vx_flat.proofs.counting.within.+rows_within.Given as goal
 
 -- four for each step, and more where a call of the same way comes first
 abbrev pub decreases-rows_of : goal.decreases-rows_of

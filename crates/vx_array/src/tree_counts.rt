@@ -7,17 +7,15 @@ ghost use Rattle.vx_base.specs.TypeOf.{type_of, fields_of};
 ghost use Rattle.vx_model.specs.Extents.{extents_fit, row_limit};
 ghost use Rattle.vx_model.specs.Rows.{rows};
 ghost use Rattle.vx_model.specs.Tree.{of_list};
-ghost use Rattle.vx_array.specs.Ways.{way_of, field, turned, count_at};
+ghost use Rattle.vx_flat.specs.Ways.{way_of, field, turned, count_at};
 ghost use Rattle.vx_array.specs.TreeWays.{by_ways, by_fields, extent_at, fields_extent, items_extent, own_extent};
 
-use super::Way;
-use super::within::rows_within;
 use crate::array::{ArrayRef, Node, Patches};
 use crate::arrays::Arrays;
 use crate::node::row_count;
-use crate::sizes::is_few;
 use std::slice;
 use vx_base::{DType, Fields, Scalar, Text};
+use vx_flat::{Way, is_few, rows_within};
 
 impl ArrayRef {
     // Whether the rows of it, and of each nested column as the tree is given, are few: column by column of its type.

@@ -7,21 +7,22 @@ ghost use Rattle.vx_base.specs.TypeOf.{type_of, value_of, fields_of};
 ghost use Rattle.vx_model.specs.Column.{column};
 ghost use Rattle.vx_model.specs.Extents.{counts, field_counts, row_limit};
 ghost use Rattle.vx_model.specs.Nested.{struct_rows};
-ghost use Rattle.vx_array.specs.Ways.{way_of, field, turned, column_at, count_at, inner_counts, are_few};
+ghost use Rattle.vx_flat.specs.Ways.{way_of, field, turned, column_at, count_at, inner_counts, are_few};
 
-mod trees;
 mod within;
 
 use crate::sizes::ROW_LIMIT;
 use vx_base::{DType, Fields, Text, Value};
-use within::rows_within;
+pub use within::rows_within;
 
-// The way from a column to one within: to the column itself; or into a field of structs, or into the items of lists, and
-// on from there. It stands on the stack.
+/// The way from a column to one within. It stands on the stack.
 #[derive(Clone, Copy)]
-enum Way<'a> {
+pub enum Way<'a> {
+    /// To the column itself.
     Here,
+    /// Into the field of structs at a place, and on from there.
     Field(u64, &'a Way<'a>),
+    /// Into the items of lists, and on from there.
     Items(&'a Way<'a>),
 }
 

@@ -4,9 +4,9 @@ use Rattle.vx_base.specs.TypeOf.{type_of, value_of, fields_of}
 use Rattle.vx_base.proofs.FallLemmas.{field_falls, field_list_count}
 use Rattle.vx_model.specs.Column.{column}
 use Rattle.vx_model.specs.Extents.{row_limit}
-use Rattle.vx_array.specs.Ways.{way_of, column_at, are_few, inner_counts}
-use Rattle.vx_array.proofs.FewWayLemmas.{type-field, few-field, fields-step, counts-few, few_least, left_false, left_true}
-use Rattle.vx_array.proofs.counting.+inner.Goals as goal
+use Rattle.vx_flat.specs.Ways.{way_of, column_at, are_few, inner_counts}
+use Rattle.vx_flat.proofs.FewWayLemmas.{type-field, few-field, fields-step, counts-few, few_least, left_false, left_true}
+use Rattle.vx_flat.proofs.counting.+inner.Goals as goal
 
 pub fields_fit-field_fits-requires : goal.fields_fit-field_fits-requires
 fields_fit-field_fits-requires t c =

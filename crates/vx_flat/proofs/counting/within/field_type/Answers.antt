@@ -2,9 +2,9 @@ use Rattle.std.proofs.Common.{ap, sym, ◌∙◌, option_map, List, ℕ}
 use Rattle.vx_base.specs.PlainType.{PlainType}
 use Rattle.vx_base.specs.TypeOf.{type_of, fields_of}
 use Rattle.vx_base.proofs.FieldLemmas.{type_of-Struct}
-use Rattle.vx_array.specs.Ways.{field_type}
-use Rattle.vx_array.proofs.ValueWayLemmas.{type_in-get}
-use Rattle.vx_array.proofs.counting.within.field_type.Goals as goal
+use Rattle.vx_flat.specs.Ways.{field_type}
+use Rattle.vx_flat.proofs.ValueWayLemmas.{type_in-get}
+use Rattle.vx_flat.proofs.counting.within.field_type.Goals as goal
 
 pub returns-in-Some : goal.returns-in-Some
 returns-in-Some c =

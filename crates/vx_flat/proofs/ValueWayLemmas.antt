@@ -16,8 +16,8 @@ use Rattle.vx_base.proofs.WithinLemmas.{list_of-of_list}
 use Rattle.vx_model.specs.Column.{column}
 use Rattle.vx_model.specs.Nested.{first_within, rest_within, struct_rows, elements}
 use Rattle.vx_model.specs.Rows.{row_at}
-use Rattle.vx_array.specs.Ways.{PlainWay, field, inside, nowhere, field_in, reached, count_at, type_in, field_type, items_type, items_of_null}
-use Rattle.vx_array.proofs.WayLemmas.{none_there, count_at-append, count_at-none, count_at-copies, count_at-null}
+use Rattle.vx_flat.specs.Ways.{PlainWay, field, inside, nowhere, field_in, reached, count_at, type_in, field_type, items_type, items_of_null}
+use Rattle.vx_flat.proofs.WayLemmas.{none_there, count_at-append, count_at-none, count_at-copies, count_at-null}
 
 -- ---- of one value
 

@@ -11,7 +11,7 @@ use Rattle.vx_base.specs.PlainValue.{PlainValue, PlainValues, null, items}
 use Rattle.vx_model.specs.Column.{Column}
 use Rattle.vx_model.specs.Nested.{within, first_within, rest_within, struct_rows, elements, fixed_rows, fixed_elements}
 use Rattle.vx_model.proofs.CountLemmas.{elements-append}
-use Rattle.vx_array.specs.Ways.{PlainWay, here, field, inside, nowhere, field_in, field_column, items_column, reached, count_at, turned, column_at}
+use Rattle.vx_flat.specs.Ways.{PlainWay, here, field, inside, nowhere, field_in, field_column, items_column, reached, count_at, turned, column_at}
 
 pub reached-turned : (a w : PlainWay) (c : Column) → reached (turned a w) c ≡ reached w (column_at a c)
 reached-turned here w c = refl

@@ -1,9 +1,9 @@
 use Rattle.std.proofs.Common.{arith, ap, sym, ◌∙◌, ◌≡◌, ◌^◌, ◌-◌, min, ◌∷◌, [], true, false, ◌*◌}
 use Rattle.vx_base.specs.PlainValue.{is_null}
 use Rattle.vx_base.specs.TypeOf.{type_of}
-use Rattle.vx_array.specs.Ways.{way_of, count_at, value_in}
-use Rattle.vx_array.proofs.ValueWayLemmas.{count_at-next, count_at-first, count_at-field, count_at-no_field, count_at-no_items, count_at-items_of_null, count_at-items}
-use Rattle.vx_array.proofs.counting.within.+rows_within.Goals as goal
+use Rattle.vx_flat.specs.Ways.{way_of, count_at, value_in}
+use Rattle.vx_flat.proofs.ValueWayLemmas.{count_at-next, count_at-first, count_at-field, count_at-no_field, count_at-no_items, count_at-items_of_null, count_at-items}
+use Rattle.vx_flat.proofs.counting.within.+rows_within.Goals as goal
 
 pub rows_within-loop-value-init : goal.rows_within-loop-value-init
 rows_within-loop-value-init t c = count_at-first (way_of c.args.way.now) (type_of c.args.dtype.now) (2 ^ 64 - 1)

@@ -14,15 +14,15 @@ use Rattle.vx_base.specs.declared.dtype.DType.{DType}
 use Rattle.vx_model.specs.Column.{Column, column}
 use Rattle.vx_model.specs.Extents.{counts, field_counts, row_limit}
 use Rattle.vx_model.specs.Nested.{first_within, rest_within, struct_rows}
-use Rattle.vx_array.specs.declared.counting.Way.{Way}
-use Rattle.vx_array.specs.declared.counting.Way.TheVariants.{Here}
+use Rattle.vx_flat.specs.declared.counting.Way.{Way}
+use Rattle.vx_flat.specs.declared.counting.Way.TheVariants.{Here}
 use denote.Bor.{Bor}
-use Rattle.vx_array.specs.declared.counting.Way.TheViews.{rolls-Here, Field, rolls-Field, Items, rolls-Items}
-use Rattle.vx_array.specs.declared.counting.Way.TheOpen.{Way-F}
-use Rattle.vx_array.specs.declared.counting.Way.TheFolds.{fold-roll-Way}
-use Rattle.vx_array.specs.Ways.{PlainWay, way_of, way_step, here, field, inside, field_in, field_column, count_at, turned, column_at, inner_counts, are_few, type_in}
-use Rattle.vx_array.proofs.WayLemmas.{reached-turned}
-use Rattle.vx_array.proofs.ValueWayLemmas.{type_in-get}
+use Rattle.vx_flat.specs.declared.counting.Way.TheViews.{rolls-Here, Field, rolls-Field, Items, rolls-Items}
+use Rattle.vx_flat.specs.declared.counting.Way.TheOpen.{Way-F}
+use Rattle.vx_flat.specs.declared.counting.Way.TheFolds.{fold-roll-Way}
+use Rattle.vx_flat.specs.Ways.{PlainWay, way_of, way_step, here, field, inside, field_in, field_column, count_at, turned, column_at, inner_counts, are_few, type_in}
+use Rattle.vx_flat.proofs.WayLemmas.{reached-turned}
+use Rattle.vx_flat.proofs.ValueWayLemmas.{type_in-get}
 
 pub counts-inner : (t : PlainType) (vs : List PlainValue) → counts t vs ≡ length vs ∷ inner_counts t vs
 counts-inner null_type vs = refl

@@ -4,9 +4,9 @@ use Rattle.vx_base.specs.PlainType.{of_fields}
 use Rattle.vx_base.specs.TypeOf.{type_of, field_of, fields_of}
 use Rattle.vx_base.proofs.FallLemmas.{type_count, field_list_count}
 use Rattle.vx_array.specs.TreeWays.{by_fields, extent_at}
-use Rattle.vx_array.specs.Ways.{way_of, field, turned}
+use Rattle.vx_flat.specs.Ways.{way_of, field, turned}
 use Rattle.vx_array.proofs.TreeWays.{few}
-use Rattle.vx_array.proofs.counting.trees.+columns_fit.Given as goal
+use Rattle.vx_array.proofs.tree_counts.+columns_fit.Given as goal
 
 -- two for each type and each field, and one more where a call of the same comes first
 abbrev pub decreases-columns_fit : goal.decreases-columns_fit
