@@ -41,8 +41,8 @@ class Size(NamedTuple):
 
 
 SIZES = (Size(MILLION, 20, 4, ('proved', 'plain', 'unrolled')),
-         Size(10 * MILLION, 5, 3, ('proved', 'plain', 'unrolled')),
-         Size(40 * MILLION, 5, 3, ('proved',)))
+         Size(10 * MILLION, 3, 2, ('proved', 'plain', 'unrolled')),
+         Size(40 * MILLION, 3, 2, ('proved',)))
 ROUNDS = max(size.rounds for size in SIZES)
 
 
@@ -74,7 +74,7 @@ def built(name, directory):
 class Times:
     """The times of each body of a kernel, in microseconds, and the digests of what they answered.
 
-    Each run tells the least of its repeats; what counts is the median of the runs, of growth the least of all.
+    Each run tells the least of its repeats; what counts is the median of the runs.
     """
 
     def __init__(self):
@@ -86,9 +86,6 @@ class Times:
 
     def micros(self, body):
         return statistics.median(self.told[body])
-
-    def least(self, body):
-        return min(self.told[body])
 
     def ratio(self, other):
         """The proved body's time over another's."""
@@ -150,10 +147,9 @@ def is_told(name, type_, width):
 
 
 def growth(table, kernel, place):
-    """How many times the time ten times the rows take, by this size and the next smaller one. What else the machine does
-    makes a run longer and never shorter, and long runs more often, so the least time of each counts."""
+    """How many times the time ten times the rows take, by this size and the next smaller one."""
     rows, before = SIZES[place].rows, SIZES[place - 1].rows
-    more = table[kernel, rows].least('proved') / table[kernel, before].least('proved')
+    more = table[kernel, rows].micros('proved') / table[kernel, before].micros('proved')
     return 10 * more * before / rows
 
 
