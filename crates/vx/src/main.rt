@@ -8,13 +8,13 @@ use std::process::ExitCode;
 use std::{env, io};
 use vx_program::{NO_MEMORY, StdSink, StdSource, run};
 
-/// The words after the program's name; none where some are no text.
-fn words_of(rt: &(impl Env + AllocGlobal)) -> Result<Vec<String>, AllocError> {
-    let mut words = Vec::new(rt.alloc());
+/// The arguments behind the program's name; none where one is not UTF-8, which is no supported command line either.
+fn args_of(rt: &(impl Env + AllocGlobal)) -> Result<Vec<String>, AllocError> {
+    let mut texts = Vec::new(rt.alloc());
     match env::args(rt) {
         Ok(args) => {
-            for word in args.skip(1) {
-                words.push(word)?;
+            for arg in args.skip(1) {
+                texts.push(arg)?;
             }
         }
         Err(e) => {
@@ -23,16 +23,16 @@ fn words_of(rt: &(impl Env + AllocGlobal)) -> Result<Vec<String>, AllocError> {
             }
         }
     }
-    Ok(words)
+    Ok(texts)
 }
 
 /// Runs over standard input and standard output, and ends with the status of the run.
 fn main(rt: HostRuntime) -> ExitCode {
-    let Ok(words) = words_of(&rt) else {
+    let Ok(args) = args_of(&rt) else {
         return ExitCode::from(NO_MEMORY);
     };
     let mut source = StdSource::new(rt.reader());
     let mut sink = StdSink::new(io::writer(&rt));
-    let status = run(rt.alloc(), words.as_slice(), &mut source, &mut sink);
+    let status = run(rt.alloc(), args.as_slice(), &mut source, &mut sink);
     ExitCode::from(status)
 }

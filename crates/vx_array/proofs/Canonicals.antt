@@ -108,8 +108,8 @@ pub record IsViewOf (t : Tree) (vs : List (List ℕ)) (valid : Validity) (s : Pl
   pub admitted : var_bin_view_refusal vs valid s ≡ None
   pub made : var_bin_view vs (kept valid) s ≡ plain (column_of t)
 
-pub view_of : (t : Tree) (d : Decoded) (vs : List (List ℕ)) (valid : Validity) (s : PlainType) → WellFormed t → lists.Bytes vs ≡ d.values → valid ≡ d.valid → s ≡ tree_type t → IsDecoded t d → IsViewOf t vs valid s
-view_of t d vs valid s w e v m h =
+pub var_bin_view_of : (t : Tree) (d : Decoded) (vs : List (List ℕ)) (valid : Validity) (s : PlainType) → WellFormed t → lists.Bytes vs ≡ d.values → valid ≡ d.valid → s ≡ tree_type t → IsDecoded t d → IsViewOf t vs valid s
+var_bin_view_of t d vs valid s w e v m h =
     let typed = bytes_type (tree_type t) (ap kind_in e ∙ h.0) in
     let values : map bytes vs ≡ map (or_default (bytes [])) (rows t) = ap values_of e ∙ h.1 ∙ ap (λ default. map (or_default default) (rows t)) (bytes_kind (tree_type t) typed).1 in
     let items : vs ≡ map bytes_or_empty (rows t) = items_of bytes_or_empty bytes (λ b. refl) (bytes []) refl vs (rows t) values in

@@ -8,6 +8,7 @@ pub mod FieldTrees
 pub mod Flat
 pub mod Holes
 pub mod Looks
+pub mod MadePlain
 pub mod Making
 pub mod PatchPlaces
 pub mod PlacedRows

@@ -25,7 +25,7 @@ use Rattle.vx_values.specs.Codes.{validity_by_codes}
 use Rattle.vx_values.specs.IntsOf.{ptype_of, wholes_of}
 use Rattle.vx_values.specs.ValuesOf.{kind_of, kind_in, values_of, default_in, AreRows}
 use Rattle.vx_array.specs.IsDecoded.{IsDecoded}
-use Rattle.vx_flat.specs.Places.{place_in, places_in, bits_in_rows}
+use Rattle.vx_flat.specs.Places.{patch_place, patch_places, bits_in_rows}
 use Rattle.vx_array.specs.TreeOf.{sparse_of}
 use Rattle.vx_array.proofs.Decodings.{default_of_kind}
 use Rattle.vx_array.proofs.PlacedRows.{kept-bits, items-placed, validity-placed}
@@ -43,14 +43,14 @@ behind [] v (suc j) e = absurd (omega arith)
 behind (w ∷ vs) v zero e = absurd (omega arith)
 behind (w ∷ vs) v (suc j) e = behind vs v j (omega arith)
 
-pub place-within : (is : List PlainValue) (n : ℕ) → place_in is n ≤ length is
+pub place-within : (is : List PlainValue) (n : ℕ) → patch_place is n ≤ length is
 place-within is n = pick (place_of is n) refl
   where
     pick : (o : Option ℕ) → place_of is n ≡ o → unwrap_or o (length is) ≤ length is
     pick (Some j) e = let p = position-Some (λ v. is_index v n) is j null e in let l = p.0 in omega arith
     pick None e = omega arith
 
-pub row-placed : (is vs : List PlainValue) (fill : PlainValue) (n : ℕ) → length is ≡ length vs → patched is vs fill n ≡ row_at (vs ++ fill ∷ []) (place_in is n)
+pub row-placed : (is vs : List PlainValue) (fill : PlainValue) (n : ℕ) → length is ≡ length vs → patched is vs fill n ≡ row_at (vs ++ fill ∷ []) (patch_place is n)
 row-placed is vs fill n same = pick (place_of is n) refl
   where
     pick : (o : Option ℕ) → place_of is n ≡ o → patched is vs fill n ≡ row_at (vs ++ fill ∷ []) (unwrap_or o (length is))
@@ -87,7 +87,7 @@ module _ (p : PlainPatches) (fill : PlainScalar) (w : WellFormedPatches p) (type
   row_of i = patched (rows p.indices) (rows p.values) fill.value (p.offset + i)
 
   abbrev place_at : ℕ → ℕ
-  place_at i = place_in (rows p.indices) (p.offset + i)
+  place_at i = patch_place (rows p.indices) (p.offset + i)
 
   same : (i : ℕ) → i < p.array_len → row_of i ≡ row_at all_values (place_at i)
   same i l = row-placed (rows p.indices) (rows p.values) fill.value (p.offset + i) w.2.lengths
@@ -100,7 +100,7 @@ module _ (p : PlainPatches) (fill : PlainScalar) (w : WellFormedPatches p) (type
       omega arith
 
   pub sparse_rows : (v d : Decoded) (codes : Ints) (all : Values) (n : ℕ) → IsDecoded p.values v → n ≡ length (rows p.indices) → kind_in all ≡ kind_in v.values → values_of all ≡ values_of v.values ++ own_or_default fill.value ∷ []
-      → ptype_of codes ≡ U64 → wholes_of codes ≡ places_in (rows p.indices) p.offset p.array_len
+      → ptype_of codes ≡ U64 → wholes_of codes ≡ patch_places (rows p.indices) p.offset p.array_len
       → AreRows (kind_in all) (map (λ code. picked (ptype_of codes) (values_of all) (default_in (kind_in all)) code) (wholes_of codes)) (validity_by_codes (ptype_of codes) (wholes_of codes) None (kept (Some (bits_in_rows v.valid n ++ not (is_null fill.value) ∷ [])))) d
       → IsDecoded (sparse_of p fill) d
   sparse_rows v d codes all n h count kind values ptype wholes r =

@@ -14,7 +14,7 @@ use Rattle.vx_base.specs.PlainValue.{PlainValue, items_or_empty}
 use Rattle.vx_base.proofs.WithinLemmas.{list_of-of_list}
 use Rattle.vx_model.specs.Column.{column_of}
 use Rattle.vx_model.specs.Decoded.{zeroed_by, zero_beneath, zero_beneath_by}
-use Rattle.vx_model.specs.Nested.{joined}
+use Rattle.vx_model.specs.Nested.{concatenated}
 use Rattle.vx_model.specs.Plain.{IsPlain, plain, plain_of}
 use Rattle.vx_model.specs.Rows.{rows, parts_of}
 use Rattle.vx_model.specs.Tree.{Tree, Validity, fixed_size_list}
@@ -23,8 +23,8 @@ use Rattle.vx_model.specs.WellFormed.{WellFormed}
 use Rattle.vx_model.proofs.FixedSizeListLemmas.{length-fixed_size_list, validity-fixed_size_list, items-fixed_size_list}
 use Rattle.vx_model.proofs.FlatLemmas.{same_beneath}
 use Rattle.vx_model.proofs.MadeLemmas.{rows_fit}
-use Rattle.vx_model.proofs.NestedLemmas.{fixed_elements-fit, fixed_rows-sized, length-fixed_rows, parts_of-joined}
-use Rattle.vx_model.proofs.PartLemmas.{joined-parts_of, parts_of-sized}
+use Rattle.vx_model.proofs.NestedLemmas.{fixed_elements-fit, fixed_rows-sized, length-fixed_rows, parts_of-concatenated}
+use Rattle.vx_model.proofs.PartLemmas.{concatenated-parts_of, parts_of-sized}
 use Rattle.vx_model.proofs.PlainLemmas.{rows-plain_of}
 use Rattle.vx_array.specs.Beneath.{is_default, defaults_within}
 use Rattle.vx_array.proofs.PlainNested.{default_found, default_is}
@@ -86,24 +86,24 @@ module _ (inside : Tree) (size len : ℕ) (valid : Validity) (n : Nullability) (
   test : defaults_within t valid parts ≡ zero_beneath_by (are_defaults t size) valid parts
   test = same_test_by t size valid parts (parts_of-sized size len (rows inside) w.1.lengths)
 
-  plain_by : plain (column_of (fixed_size_list inside size len valid n)) ≡ fixed_size_list (plain_of t (joined own_lists)) size len valid n
+  plain_by : plain (column_of (fixed_size_list inside size len valid n)) ≡ fixed_size_list (plain_of t (concatenated own_lists)) size len valid n
   plain_by =
-      λ i. fixed_size_list (plain_of t (joined (items-fixed_size_list inside size len valid n w t i))) size (length-fixed_size_list inside size len valid n w i) (validity-fixed_size_list inside size len valid n w i) n
+      λ i. fixed_size_list (plain_of t (concatenated (items-fixed_size_list inside size len valid n w t i))) size (length-fixed_size_list inside size len valid n w i) (validity-fixed_size_list inside size len valid n w i) n
 
   pub fixed-plain : IsPlain inside → IsTrue (defaults_within t valid parts) → IsPlain (fixed_size_list inside size len valid n)
   fixed-plain p e =
-      let elements : joined own_lists ≡ rows inside = ap joined (unchanged.0 (sym test ∙ e)) ∙ joined-parts_of size len (rows inside) w.1.lengths in
+      let elements : concatenated own_lists ≡ rows inside = ap concatenated (unchanged.0 (sym test ∙ e)) ∙ concatenated-parts_of size len (rows inside) w.1.lengths in
       ap (λ es. fixed_size_list es size len valid n) (p ∙ ap (plain_of t) (sym elements)) ∙ sym plain_by
 
   pub plain-fixed : IsPlain (fixed_size_list inside size len valid n) → IsPlain inside × IsTrue (defaults_within t valid parts)
   plain-fixed q =
       let tree = fixed_size_list inside size len valid n in
-      let same : tree ≡ fixed_size_list (plain_of t (joined own_lists)) size len valid n = q ∙ plain_by in
-      let first : inside ≡ plain_of t (joined own_lists) = cc in
+      let same : tree ≡ fixed_size_list (plain_of t (concatenated own_lists)) size len valid n = q ∙ plain_by in
+      let first : inside ≡ plain_of t (concatenated own_lists) = cc in
       let lists = items-fixed_size_list inside size len valid n w t in
-      let fit : list_all (fits t) (joined own_lists) ≡ true = ap (λ ls. list_all (fits t) (joined ls)) (sym lists) ∙ fixed_elements-fit t size n (rows tree) (rows_fit tree w) in
-      let values : rows inside ≡ joined own_lists = ap rows first ∙ rows-plain_of t (joined own_lists) fit in
+      let fit : list_all (fits t) (concatenated own_lists) ≡ true = ap (λ ls. list_all (fits t) (concatenated ls)) (sym lists) ∙ fixed_elements-fit t size n (rows tree) (rows_fit tree w) in
+      let values : rows inside ≡ concatenated own_lists = ap rows first ∙ rows-plain_of t (concatenated own_lists) fit in
       let sized = ap (list_all (λ part. length part == size)) (sym lists) ∙ fixed_rows-sized t size n (rows tree) (rows_fit tree w) in
       let count : length own_lists ≡ len = ap length (sym lists) ∙ length-fixed_rows t size (rows tree) ∙ length-fixed_size_list inside size len valid n w in
-      let cut : parts ≡ own_lists = ap (parts_of size len) values ∙ ap (λ k. parts_of size k (joined own_lists)) (sym count) ∙ parts_of-joined size own_lists sized in
+      let cut : parts ≡ own_lists = ap (parts_of size len) values ∙ ap (λ k. parts_of size k (concatenated own_lists)) (sym count) ∙ parts_of-concatenated size own_lists sized in
       (first ∙ ap (plain_of t) (sym values), test ∙ unchanged.1 (sym cut))

@@ -15,7 +15,7 @@ use Rattle.vx_base.specs.PlainType.{is_nullable, allows_null}
 use Rattle.vx_base.specs.PlainValue.{PlainValue, null, int}
 use Rattle.vx_model.specs.Column.{column_of}
 use Rattle.vx_model.specs.Decoded.{zeroed_by}
-use Rattle.vx_model.specs.Nested.{joined}
+use Rattle.vx_model.specs.Nested.{concatenated}
 use Rattle.vx_model.specs.Offsets.{offsets_from, offsets_of, offset_values}
 use Rattle.vx_model.specs.Plain.{IsPlain, plain, plain_of, plain_offsets}
 use Rattle.vx_model.specs.Rows.{rows, offset_at, cut_at}
@@ -29,7 +29,7 @@ use Rattle.vx_model.proofs.ListLemmas.{validity-list, items-list}
 use Rattle.vx_model.proofs.MadeLemmas.{rows_fit}
 use Rattle.vx_model.proofs.NestedLemmas.{elements-fit}
 use Rattle.vx_model.proofs.OffsetLemmas.{offset_step, ends_of, all_between}
-use Rattle.vx_model.proofs.PartLemmas.{joined-cut_at}
+use Rattle.vx_model.proofs.PartLemmas.{concatenated-cut_at}
 use Rattle.vx_model.proofs.PlainLemmas.{rows-plain_of}
 use Rattle.vx_model.proofs.VarBinLemmas.{piece}
 use Rattle.vx_array.specs.Beneath.{empty_beneath, is_u64, has_words}
@@ -109,10 +109,10 @@ module _ (inside offsets : Tree) (valid : Validity) (n : Nullability) (w : WellF
   unchanged : (IsTrue (empty_beneath valid parts)) ↔ (own_lists ≡ parts)
   unchanged = same_beneath [] (λ part. length part == 0) no_items refl valid parts
 
-  plain_by : plain (column_of (list inside offsets valid n)) ≡ list (plain_of (tree_type inside) (joined own_lists)) (plain_offsets own_lists) valid n
+  plain_by : plain (column_of (list inside offsets valid n)) ≡ list (plain_of (tree_type inside) (concatenated own_lists)) (plain_offsets own_lists) valid n
   plain_by =
       let lists = items-list inside offsets valid n w in
-      λ i. list (plain_of (tree_type inside) (joined (lists i))) (plain_offsets (lists i)) (validity-list inside offsets valid n w i) n
+      λ i. list (plain_of (tree_type inside) (concatenated (lists i))) (plain_offsets (lists i)) (validity-list inside offsets valid n w i) n
 
   some : 1 ≤ length (rows offsets)
   some = leb-true 1 (length (rows offsets)) w.2.some
@@ -120,19 +120,19 @@ module _ (inside offsets : Tree) (valid : Validity) (n : Nullability) (w : WellF
   pub list-plain : IsPlain inside → has_words offsets ≡ true → IsTrue (empty_beneath valid parts) → IsPlain (list inside offsets valid n)
   list-plain p words e =
       let back = unchanged.0 e in
-      let elements : joined own_lists ≡ rows inside = ap joined back ∙ joined-cut_at (rows offsets) (rows inside) w.2.ends some in
+      let elements : concatenated own_lists ≡ rows inside = ap concatenated back ∙ concatenated-cut_at (rows offsets) (rows inside) w.2.ends some in
       let places : rows offsets ≡ offset_values own_lists = sym (cut-back (rows offsets) (rows inside) w.2.ends some) ∙ ap offset_values (sym back) in
       let words = words_are offsets w.1 words w.2.not_null (offsets_of own_lists) places in
       (λ i. list ((p ∙ ap (plain_of (tree_type inside)) (sym elements)) i) (words i) valid n) ∙ sym plain_by
 
   pub plain-list : IsPlain (list inside offsets valid n) → IsPlain inside × (has_words offsets ≡ true) × IsTrue (empty_beneath valid parts)
   plain-list q =
-      let same : list inside offsets valid n ≡ list (plain_of (tree_type inside) (joined own_lists)) (plain_offsets own_lists) valid n = q ∙ plain_by in
-      let first : inside ≡ plain_of (tree_type inside) (joined own_lists) = cc in
+      let same : list inside offsets valid n ≡ list (plain_of (tree_type inside) (concatenated own_lists)) (plain_offsets own_lists) valid n = q ∙ plain_by in
+      let first : inside ≡ plain_of (tree_type inside) (concatenated own_lists) = cc in
       let second : offsets ≡ plain_offsets own_lists = cc in
-      let fit : list_all (fits (tree_type inside)) (joined own_lists) ≡ true =
-      ap (λ ls. list_all (fits (tree_type inside)) (joined ls)) (sym (items-list inside offsets valid n w))
+      let fit : list_all (fits (tree_type inside)) (concatenated own_lists) ≡ true =
+      ap (λ ls. list_all (fits (tree_type inside)) (concatenated ls)) (sym (items-list inside offsets valid n w))
       ∙ elements-fit (tree_type inside) n (rows (list inside offsets valid n)) (rows_fit (list inside offsets valid n) w) in
-      let values : rows inside ≡ joined own_lists = ap rows first ∙ rows-plain_of (tree_type inside) (joined own_lists) fit in
+      let values : rows inside ≡ concatenated own_lists = ap rows first ∙ rows-plain_of (tree_type inside) (concatenated own_lists) fit in
       let cut : parts ≡ own_lists = (λ i. cut_at (rows (second i)) (values i)) ∙ cut_joined own_lists in
       (first ∙ ap (plain_of (tree_type inside)) (sym values), ap has_words second, unchanged.1 (sym cut))

@@ -32,7 +32,7 @@ use Rattle.vx_values.specs.Codes.{validity_by_codes}
 use Rattle.vx_values.specs.IntsOf.{ptype_of, wholes_of}
 use Rattle.vx_values.specs.ValuesOf.{kind_of, kind_in, values_of, default_in, AreRows}
 use Rattle.vx_array.specs.IsDecoded.{IsDecoded}
-use Rattle.vx_flat.specs.RunPlaces.{run_number, block_place, IsWord}
+use Rattle.vx_flat.specs.RunPlaces.{run_of_row, block_place, IsWord}
 use Rattle.vx_array.proofs.Decodings.{AreIntegers, dict_rows, kind_of-dict, wholes-rows}
 use Rattle.vx_array.proofs.Flat.{integer_flat}
 use Rattle.vx_array.proofs.SumLemmas.{whole_row}
@@ -74,25 +74,25 @@ end-far low high (int (pos n) ∷ ends) (suc k) e l = let p = ascend_parts low h
 end-far low high (v ∷ ends) k e l = absurd cc
 
 pub run_end_rows : (ends values : Tree) (es places : Ints) (ev : Validity) (v d : Decoded) → WellFormed (run_end ends values) → AreIntegers ends es ev → ptype_of places ≡ U64
-    → wholes_of places ≡ map pos (below (run_number (map int (wholes_of es))) (last_end (map int (wholes_of es)))) → IsDecoded values v
+    → wholes_of places ≡ map pos (below (run_of_row (map int (wholes_of es))) (last_end (map int (wholes_of es)))) → IsDecoded values v
     → AreRows (kind_in v.values) (zeroed_by (default_in (kind_in v.values)) None (map (λ code. picked (ptype_of places) (values_of v.values) (default_in (kind_in v.values)) code) (wholes_of places))) (validity_by_codes (ptype_of places) (wholes_of places) None v.valid) d
     → IsDecoded (run_end ends values) d
 run_end_rows ends values es places ev v d w h kind wholes hv r =
     let own = w.2 in
     let read : map int (wholes_of es) ≡ rows ends = wholes-rows ends es ev w.0 own.ends_type own.not_null h in
-    let f : ℕ → ℤ = λ i. pos (run_number (rows ends) i) in
+    let f : ℕ → ℤ = λ i. pos (run_of_row (rows ends) i) in
     let n = last_end (rows ends) in
     let found = λ (i : ℕ) (l : i < n). run_value-number (rows ends) (rows values) i own.lengths l in
     let held = λ (i : ℕ) (l : i < n). (
     let p = (found i l).0 in
-    let far = end-far 1 (2 ^ 64) (rows ends) (run_number (rows ends) i) own.rising p in
-    let few = (end-between 1 (2 ^ 64) (rows ends) (run_number (rows ends) i) own.rising p).1 in
-    lt-ltb (run_number (rows ends) i) (2 ^ 64) (omega arith)
+    let far = end-far 1 (2 ^ 64) (rows ends) (run_of_row (rows ends) i) own.rising p in
+    let few = (end-between 1 (2 ^ 64) (rows ends) (run_of_row (rows ends) i) own.rising p).1 in
+    lt-ltb (run_of_row (rows ends) i) (2 ^ 64) (omega arith)
     ) in
     placed_rows values f n (run_end ends values) places v d w.1 (integer_flat (tree_type values) own.values_type) refl kind
-    (wholes ∙ (λ j. map pos (below (run_number (read j)) (last_end (read j)))) ∙ map-map pos (run_number (rows ends)) (range_with_len 0 n)) held
-    (λ i l. lt-ltb (run_number (rows ends) i) (length (rows values)) (let p = (found i l).0 in let same = own.lengths in omega arith))
-    (below-same (run_value (rows ends) (rows values)) (λ i. row_at (rows values) (run_number (rows ends) i)) n (λ i l. (found i l).1)) hv r
+    (wholes ∙ (λ j. map pos (below (run_of_row (read j)) (last_end (read j)))) ∙ map-map pos (run_of_row (rows ends)) (range_with_len 0 n)) held
+    (λ i l. lt-ltb (run_of_row (rows ends) i) (length (rows values)) (let p = (found i l).0 in let same = own.lengths in omega arith))
+    (below-same (run_value (rows ends) (rows values)) (λ i. row_at (rows values) (run_of_row (rows ends) i)) n (λ i l. (found i l).1)) hv r
 
 -- ---- the places of blocks of runs
 

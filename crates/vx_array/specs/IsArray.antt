@@ -6,7 +6,7 @@ use Rattle.vx_model.specs.Rows.{rows}
 use Rattle.vx_model.specs.TreeType.{tree_type}
 use Rattle.vx_model.specs.WellFormed.{WellFormed}
 
--- the root has the tree's type: a constant's scalar does and a fill, and texts and binaries do
+-- whether the root holds the tree's type: in a constant's scalar, in a fill, and of texts and binaries
 abbrev pub has_type : Tree → Bool
 has_type (constant s len) = true
 has_type (var_bin_view vs valid t) = true

@@ -1,4 +1,4 @@
--- What the rows of a tree are decoded to.
+-- What a tree decodes to.
 use Rattle.std.specs.Prelude.{map}
 use Rattle.vx_base.specs.Defaults.{default_of, or_default}
 use Rattle.vx_model.specs.Plain.{validity}

@@ -1,4 +1,4 @@
--- A tree inside has fewer nodes.
+-- A child has fewer nodes than the tree.
 use Rattle.std.specs.Prelude.{◌≤◌, ◌+◌, max, List, [], ◌∷◌, None, Some}
 use Rattle.std.proofs.Common.{arith}
 use Rattle.vx_array.specs.declared.array.Node.{Node}

@@ -17,7 +17,7 @@ unboxed (Some p) = Some p.value
 abbrev pub sparse_of : PlainPatches → PlainScalar → Tree
 sparse_of p fill = sparse p.array_len p.offset p.indices p.values fill
 
--- the tree whose root a node is; its children are seen as their trees already
+-- the tree whose root a node is, one level: its children are seen as trees already
 abbrev pub tree_of : Node → Tree
 tree_of (Bool bs valid n) = bool bs valid n
 tree_of (Primitive xs valid n) = primitive (ptype_of xs) (wholes_of xs) valid n

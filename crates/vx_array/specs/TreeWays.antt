@@ -1,4 +1,5 @@
--- The columns within a tree, each by the way there, and their rows as the tree is given.
+-- The columns nested in a tree, each by the way there, and their extents. Words of this crate's walk alone: what the walk
+-- finds is said by `extents` of vx_model.
 use Rattle.std.specs.Prelude.{ℕ, zero, suc, ◌+◌, ◌-◌, ◌*◌, List, [], ◌∷◌, ◌++◌, length}
 use Rattle.vx_base.specs.PlainType.{PlainType, PlainFields}
 use Rattle.vx_base.specs.PlainType as types
@@ -6,7 +7,7 @@ use Rattle.vx_model.specs.Rows.{rows}
 use Rattle.vx_model.specs.Tree.{Tree, Trees, constant, structure, list, fixed_size_list, sparse, none, more}
 use Rattle.vx_flat.specs.Ways.{PlainWay, here, field, inside, count_at}
 
--- a number for each column within a type's, in their order
+-- f at the way to each column of a type, in their order
 abbrev mutual
   pub by_ways : PlainType → (PlainWay → ℕ) → List ℕ
   by_ways (types.structure fs n) f = f here ∷ by_fields fs (λ i w. f (field i w))
@@ -14,17 +15,17 @@ abbrev mutual
   by_ways (types.fixed_size_list t size n) f = f here ∷ by_ways t (λ w. f (inside w))
   by_ways _ f = f here ∷ []
 
-  -- for those of each field
+  -- those of each field
   pub by_fields : PlainFields → (ℕ → PlainWay → ℕ) → List ℕ
   by_fields types.none f = []
   by_fields (types.more name t fs) f = by_ways t (f 0) ++ by_fields fs (λ i. f (suc i))
 
--- of a tree's own column
+-- the extent of a column with no nested ones
 abbrev pub own_extent : PlainWay → ℕ → ℕ
 own_extent here len = len
 own_extent _ len = 0
 
--- the rows of the column that a way leads to, a constant's value and a fill counted once a row
+-- the extent of the column at the end of a way; a constant's value and a fill count once a row
 abbrev mutual
   pub extent_at : PlainWay → Tree → ℕ
   extent_at w (constant s len) = len * count_at w s.dtype (s.value ∷ [])
@@ -46,13 +47,13 @@ abbrev mutual
   extent_in zero w (more t ts) = extent_at w t
   extent_in (suc i) w (more t ts) = extent_in i w ts
 
--- of so many structs
+-- the extent at the end of a way of `len` structs
 abbrev pub fields_extent : PlainWay → ℕ → Trees → ℕ
 fields_extent here len ts = len
 fields_extent (field i w) len ts = extent_in i w ts
 fields_extent (inside w) len ts = 0
 
--- of so many lists
+-- the extent at the end of a way of `len` lists
 abbrev pub items_extent : PlainWay → ℕ → Tree → ℕ
 items_extent here len t = len
 items_extent (field i w) len t = 0

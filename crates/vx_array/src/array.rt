@@ -1,4 +1,4 @@
-//! A tree of encodings and its root.
+//! A tree of encodings, and the node at its root.
 
 ghost use Rattle.std.specs.Prelude.{◌≡◌, length, slice_get, option_copied};
 ghost use Rattle.vx_model.specs.Rows.{rows};
@@ -10,7 +10,7 @@ use vx_base::{
 };
 use vx_values::Ints;
 
-/// The root of a tree with its own fields.
+/// The node at the root of a tree. Children stand inside, numbered from 0.
 #[cycle(tree)]
 #[derive(Drop)]
 pub enum Node {
@@ -20,59 +20,58 @@ pub enum Node {
     Primitive(Ints, Option<Mask>, Nullability),
     /// Texts or binaries, their validity and type. No children.
     VarBinView(ByteRows, Option<Mask>, DType),
-    /// Texts or binaries, each the bytes from child 0's offset in its row to the next one; their validity and type.
+    /// Texts or binaries, in each row the bytes from child 0's offset to its next one; their validity and type.
     VarBin(Child, Bytes, Option<Mask>, DType),
-    /// Timestamps of a kind, which child 0 has as whole numbers.
+    /// Timestamps of a kind, over child 0's `i64` storage.
     Timestamp(Child, TimestampType),
     /// One scalar in every row, and the number of rows. No children.
     Constant(Scalar, u64),
     /// Child 0's rows, null where the mask is false.
     Masked(Child, Mask),
-    /// Integers of a type, `width` bits each: type, width, bytes, rows, validity, patches and nullability. The children
-    /// are the patches' indices and values, where there are patches.
+    /// Bit-packed integers: type, bit width, packed bytes, number of rows, validity, patches and nullability. Children 0
+    /// and 1 are the patches' indices and values, where there are patches.
     BitPacked(PType, u32, Bytes, u64, Option<Mask>, Option<Box<Patches>>, Nullability),
-    /// Child 0's integers, each summed with the reference in the reference's type.
+    /// Child 0's integers, each plus the reference, wrapping in the reference's type.
     FoR(Child, Scalar),
-    /// The integers whose zigzag child 0's are.
+    /// The integers whose zigzags child 0 holds.
     ZigZag(Child),
-    /// Child 1's values by their places, which child 0 has row by row.
+    /// Child 1's value at the place that child 0's code in the row is.
     Dict(Child, Child),
-    /// So many nulls. No children.
+    /// Nulls alone, and how many. No children.
     Null(u64),
-    /// The names of fields, the fields, the number of rows, their validity and nullability. A child for each field, with
-    /// as many rows.
+    /// Structs: the fields' names, the fields, the number of rows, validity and nullability. A child for each field, of as
+    /// many rows.
     Struct(Names, Arrays, u64, Option<Mask>, Nullability),
-    /// Child 0's rows from child 1's offset in a row to the next one; the lists' validity and nullability.
+    /// Lists, in each row child 0's rows from child 1's offset to its next one; their validity and nullability.
     List(Child, Child, Option<Mask>, Nullability),
-    /// Child 0's rows, so many (the second) in each of so many lists (the third); their validity and nullability.
+    /// Fixed-size lists of child 0's rows: the size of each list, the number of lists, validity and nullability.
     FixedSizeList(Child, u32, u64, Option<Mask>, Nullability),
-    /// The patches' values in their rows and the scalar in every other one. The children are the patches' indices and
+    /// The patches' values in their rows and the scalar in every other one. Children 0 and 1 are the patches' indices and
     /// values.
     Sparse(Box<Patches>, Scalar),
-    /// Runs of integers: child 1's values, each up to before the row where child 0 ends it.
+    /// Runs of integers: child 1's values, each up to the end, exclusive, that child 0 holds for it.
     RunEnd(Child, Child),
-    /// Child 0's values by their places, and the number of rows: the sum of child 1's number in the row and child 2's in
-    /// the row's block of 1,024.
+    /// Runs in blocks of 1,024 rows, and the number of rows: child 0's value at the place
+    /// `child 2 [row / 1024] + child 1 [row]`.
     Rle(Child, Child, Child, u64),
-    /// Integers of a type: type, nullability, the first one, the step from each to the next, and the number of rows. No
-    /// children.
+    /// An arithmetic sequence of integers: type, nullability, the first one, the step, and the number of rows. No children.
     Sequence(PType, Nullability, i128, i128, u64),
-    /// Integers by the differences between them, child 1's, which are summed from child 0's number for the row's block of
-    /// 1,024 on; the number of rows, their validity and nullability.
+    /// Integers by their differences: in each block of 1,024 rows the prefix sums of child 1's differences from child 0's
+    /// base on; the number of rows, validity and nullability.
     Delta(Child, Child, u64, Option<Mask>, Nullability),
 }
 
-/// A tree within another one, in a box. A type of its own, so that a check of a function over trees follows the way back to
-/// the root's type once, and not at each child of each node.
+/// A child tree, in a box. A type of its own, so that a proof over trees goes through the box once and not at each child of
+/// each node.
 #[cycle(tree)]
 #[derive(Drop)]
 pub struct Child {
-    /// The tree.
+    /// The child.
     pub array: Box<ArrayRef>,
 }
 
-/// Values, and the rows of an array where they stand in place of its own: the value whose index is x stands at row
-/// x less the offset. Contracts see them as plain data.
+/// Values that stand in place of an array's own in some rows: the one with index `i` in row `i - offset`. Contracts see
+/// them as plain data.
 #[cycle(tree)]
 pub struct Patches {
     pub(crate) array_len: u64,
@@ -85,7 +84,7 @@ pub struct Patches {
 #[cycle(tree)]
 pub struct ArrayRef {
     pub(crate) node: Node,
-    // The type, but where the root has it: a Constant's scalar, a VarBinView, a VarBin and a Sparse's fill.
+    // The type, None where the root holds it already: Constant, VarBinView, VarBin and Sparse.
     pub(crate) own_type: Option<DType>,
     pub(crate) len: u64,
 }
@@ -114,7 +113,8 @@ impl Model for ArrayRef {
     ghost size_decreases = { λ a h. depth_le-node_count a.node };
 }
 
-// Letting go of a tree is one call. Derived, it would be written out at each way out of each function that owns one.
+// By hand, so that dropping a tree is one call to prove. Derived, it would be written out at each exit of each function that
+// owns one.
 impl Drop for ArrayRef {
     #[cycle(letting_go)]
     fn drop(self) {
@@ -126,7 +126,7 @@ impl Drop for ArrayRef {
     }
 }
 
-// Likewise of patches.
+// By hand for the same reason.
 impl Drop for Patches {
     #[cycle(letting_go)]
     fn drop(self) {
@@ -167,7 +167,7 @@ impl ArrayRef {
     ghost use Rattle.vx_model.specs.WellFormed.{WellFormed};
     ghost use Rattle.vx_array.specs.TreeOf.{tree_of};
 
-    /// The root.
+    /// The root, borrowed.
     pub fn node(&self) -> &Node
         ensures tree { tree_of result.now ≡ self.now }
         ensures well_formed { WellFormed self.now }
@@ -175,7 +175,7 @@ impl ArrayRef {
         &self.node
     }
 
-    /// The root, by itself.
+    /// The root, moved out.
     pub fn into_node(self) -> Node
         ensures tree { tree_of result ≡ self }
         ensures well_formed { WellFormed self }
@@ -246,7 +246,7 @@ impl ArrayRef {
         }
     }
 
-    /// How many trees stand inside the root.
+    /// The number of children.
     #[tactic(auto, using(vx_model::proofs::TreesLemmas::trees))]
     pub fn num_children(&self) -> usize
         ensures { result ≡ length (children self.now) }
@@ -267,7 +267,7 @@ impl ArrayRef {
         }
     }
 
-    /// The tree inside at a place.
+    /// The child at a place, None where there is none.
     #[tactic(auto, using(vx_model::proofs::TreesLemmas::trees))]
     pub fn child(&self, place: usize) -> Option<&ArrayRef>
         ensures { option_copied result ≡ slice_get (children self.now) place }
@@ -303,7 +303,7 @@ impl ArrayRef {
 }
 
 impl Patches {
-    /// The indices and the values. They are moved.
+    /// The indices and the values, moved out.
     pub fn into_parts(self) -> (ArrayRef, ArrayRef)
         ensures { result ≡ (self.indices, self.values) }
     {

@@ -95,7 +95,7 @@ impl Arrays {
         items
     }
 
-    /// Adds a tree last. Only want of memory hands it back.
+    /// Adds a tree last. Want of memory hands it back and leaves the list as it was.
     #[tactic(auto, using(vx_model::proofs::TreesLemmas::growing))]
     pub fn push(&mut self, item: ArrayRef) -> Result<(), ArrayRef>
         ensures { MatchResult result (λ _. self.new ≡ self.old ++ item ∷ []) (λ back. (back ≡ item) × (self.new ≡ self.old)) }
@@ -107,7 +107,7 @@ impl Arrays {
         }
     }
 
-    /// The same trees.
+    /// A deep copy.
     #[cycle(copy)]
     pub fn copy(&self, alloc: Global) -> VortexResult<Arrays>
         ensures { Answers result self.now }

@@ -1,4 +1,4 @@
-//! What stands beneath nulls in trees of nested columns, whose children are plain.
+//! Whether a nested node is plain: what stands beneath its nulls. Its children are plain already.
 
 ghost use Rattle.std.specs.List.{list_all};
 ghost use Rattle.std.specs.Prelude.{◌≡◌, ◌↔◌, ◌<◌, ◌≤◌, ◌+◌, ◌*◌, ◌-◌, ◌==◌, IsTrue, None, length, nat_le, nat_lt, true};
@@ -20,7 +20,7 @@ use vx_base::{Cell, Mask};
 use vx_values::Ints;
 
 impl ArrayRef {
-    // Whether a row of a plain tree is what stands in a column of its type where nothing is known.
+    // Whether a row of a plain tree is the default of the tree's type, null where that is nullable.
     #[cycle(is_default)]
     fn is_default_at(&self, row: u64) -> bool
         requires plain { IsPlain self.now }
@@ -46,7 +46,7 @@ impl ArrayRef {
         }
     }
 
-    // The same of each row of one part, of parts of one size.
+    // Whether each row of one part is the default, where the rows are cut into parts of one size.
     #[cycle(is_default)]
     fn part_is_default(&self, size: u32, part: u64) -> bool
         requires plain { IsPlain self.now }
@@ -63,7 +63,7 @@ impl ArrayRef {
         true
     }
 
-    // The same of each row where a validity is false.
+    // Whether each row where `valid` is false is the default.
     #[tactic(auto, using(vx_model::proofs::ZeroLemmas::zeroing))]
     fn is_default_beneath(&self, valid: &Option<Mask>) -> bool
         requires plain { IsPlain self.now }
@@ -81,7 +81,7 @@ impl ArrayRef {
         true
     }
 
-    // The same of each part where a validity is false.
+    // Whether each part where `valid` is false has defaults alone.
     #[tactic(auto, using(vx_model::proofs::ZeroLemmas::zeroing))]
     pub(crate) fn parts_are_default_beneath(
         &self,
@@ -107,7 +107,7 @@ impl ArrayRef {
 }
 
 impl Arrays {
-    // Whether each tree is plain, with the default in each row where a validity is false.
+    // Whether each tree is plain and has the default in each row where `valid` is false.
     #[cycle(is_plain)]
     pub(crate) fn are_plain(&self, valid: &Option<Mask>) -> bool
         requires { IsTrue (list_all (λ t. validity_length valid.now (length (rows t))) self.now) }
@@ -137,7 +137,7 @@ impl Arrays {
     }
 }
 
-// Whether what stands in a cell is false, 0 or empty.
+// Whether a cell is false, 0 or without bytes.
 fn is_zero(cell: Cell<'_>) -> bool
     ensures { result ≡ is_zero (cell_value cell.entry) }
 {
@@ -161,7 +161,7 @@ fn is_empty_at(elements: &ArrayRef, offsets: &ArrayRef, row: u64) -> bool
     offset_at(offsets, row) == offset_at(offsets, row + 1)
 }
 
-// Whether each list has none where a validity is false.
+// Whether each list where `valid` is false has no elements.
 #[tactic(auto, using(vx_model::proofs::ZeroLemmas::zeroing))]
 pub(crate) fn are_empty_beneath(
     elements: &ArrayRef,
@@ -185,7 +185,7 @@ pub(crate) fn are_empty_beneath(
     true
 }
 
-// Whether the root has integers of 64 unsigned bits.
+// Whether the root is a Primitive of `u64`, as the offsets of a plain list are.
 pub(crate) fn has_words(tree: &ArrayRef) -> bool
     ensures { result ≡ has_words tree.now }
 {

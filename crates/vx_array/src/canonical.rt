@@ -1,34 +1,47 @@
-//! The plain tree of a tree, decoded a column at a time.
+//! Decoding: the plain tree of a tree's column, made column by column and not row by row.
 
-ghost use Rattle.std.specs.Prelude.{IsTrue};
+ghost use Rattle.std.specs.Prelude.{◌≡◌, IsTrue};
 ghost use Rattle.vx_base.specs.Answers.{Answers, OrMemory};
 ghost use Rattle.vx_base.specs.PlainType.{is_flat};
 ghost use Rattle.vx_model.specs.Column.{column_of};
-ghost use Rattle.vx_model.specs.Plain.{plain};
+ghost use Rattle.vx_model.specs.Plain.{IsPlain, plain};
 ghost use Rattle.vx_model.specs.TreeType.{tree_type};
 ghost use Rattle.vx_array.specs.HasRuns.{has_runs};
 ghost use Rattle.vx_array.specs.IsDecoded.{IsDecoded};
 
 use crate::array::{ArrayRef, Node};
-use crate::node::{as_type, decoded_constant, decoded_packed, decoded_sparse};
+use crate::node::{as_type, decoded_packed, decoded_sparse};
 use std::alloc::Global;
 use vx_base::VortexResult;
 use vx_flat::{
-    block_places, decoded_bool, decoded_by_codes, decoded_delta, decoded_masked, decoded_moved,
-    decoded_primitive, decoded_sequence, decoded_var_bin, decoded_view, decoded_zig_zag,
-    run_places,
+    block_places, decoded_bool, decoded_by_codes, decoded_constant, decoded_delta, decoded_masked,
+    decoded_moved, decoded_primitive, decoded_sequence, decoded_var_bin, decoded_view,
+    decoded_zig_zag, run_places,
 };
 use vx_values::{Decoded, Values};
 
 impl ArrayRef {
-    /// The plain tree of the same type and rows.
+    /// The plain tree of the tree's column (`tree`): no encoding (`plain`), the same type and rows (`kept`). Refuses
+    /// nothing but want of memory.
     pub fn canonical(&self, alloc: Global) -> VortexResult<ArrayRef>
+        ensures tree { Answers result (plain (column_of self.now)) }
+        ensures kept { OrMemory result (λ tree. column_of tree ≡ column_of self.now) }
+        ensures plain { OrMemory result (λ tree. IsPlain tree) }
+    {
+        self.known();
+        if self.dtype().is_flat() {
+            self.canonical_flat(alloc)
+        } else {
+            self.canonical_nested(alloc)
+        }
+    }
+
+    // Of a leaf type or of timestamps: decodes whole columns.
+    fn canonical_flat(&self, alloc: Global) -> VortexResult<ArrayRef>
+        requires { IsTrue (is_flat (tree_type self.now)) }
         ensures { Answers result (plain (column_of self.now)) }
     {
         self.known();
-        if !self.dtype().is_flat() {
-            return self.canonical_nested(alloc);
-        }
         let Decoded { values, valid } = self.decoded(alloc)?;
         let dtype = self.dtype();
         match values {
@@ -37,11 +50,11 @@ impl ArrayRef {
                 let integers = ArrayRef::primitive_of(ints, valid, dtype.nullability());
                 as_type(alloc, integers, dtype)
             }
-            Values::Bytes(rows) => Ok(ArrayRef::view_of(rows, valid, dtype.copy(alloc)?)),
+            Values::Bytes(rows) => Ok(ArrayRef::var_bin_view_of(rows, valid, dtype.copy(alloc)?)),
         }
     }
 
-    // The same of any type, by the value in each row.
+    // Of any type, value by value: nested columns have no decoded form but that of their values.
     fn canonical_nested(&self, alloc: Global) -> VortexResult<ArrayRef>
         ensures { Answers result (plain (column_of self.now)) }
     {
@@ -50,7 +63,8 @@ impl ArrayRef {
         ArrayRef::of_values(alloc, self.dtype(), values)
     }
 
-    // The rows of a leaf type or of timestamps. Each tree inside is decoded once.
+    // The values and validity of a tree of a leaf type or of timestamps. Decodes each child once, and then combines whole
+    // columns.
     #[cycle(decoded)]
     pub(crate) fn decoded(&self, alloc: Global) -> VortexResult<Decoded>
         requires { IsTrue (is_flat (tree_type self.now)) }
@@ -92,7 +106,7 @@ impl ArrayRef {
         }
     }
 
-    // The same where the root is a fill and patches, runs, differences or a sequence.
+    // `decoded` where the root is Sparse, RunEnd, Rle, Delta or Sequence.
     #[cycle(decoded)]
     fn decoded_runs(&self, alloc: Global) -> VortexResult<Decoded>
         requires flat { IsTrue (is_flat (tree_type self.now)) }

@@ -1,4 +1,4 @@
-//! Copies of trees.
+//! Deep copies of trees.
 
 ghost use Rattle.std.specs.Prelude.{◌≡◌, option_map};
 ghost use Rattle.vx_base.specs.Answers.{Answers, OrMemory};
@@ -14,7 +14,7 @@ use std::alloc::Global;
 use vx_base::{DType, VortexResult};
 
 impl ArrayRef {
-    /// The same tree.
+    /// A deep copy.
     #[cycle(copy)]
     pub fn copy(&self, alloc: Global) -> VortexResult<ArrayRef>
         ensures { Answers result self.now }
@@ -121,7 +121,7 @@ impl Node {
 }
 
 impl Patches {
-    // The same patches.
+    // A deep copy.
     #[cycle(copy)]
     pub(crate) fn copy(&self, alloc: Global) -> VortexResult<Patches>
         ensures { Answers result self.now }

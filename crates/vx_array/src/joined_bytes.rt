@@ -1,11 +1,11 @@
-//! The rows of a plain tree of texts or binaries one after the other, and the offsets between them.
+//! From views to offsets: the rows of a plain tree of texts or binaries, concatenated, and the offsets between them.
 
 ghost use Rattle.std.specs.Prelude.{◌≡◌, IsTrue, None};
 ghost use Rattle.vx_base.specs.Answers.{Answers};
 ghost use Rattle.vx_base.specs.PlainType.{is_bytes};
 ghost use Rattle.vx_base.specs.TypeOf.{type_of};
 ghost use Rattle.vx_model.specs.Column.{column_of};
-ghost use Rattle.vx_model.specs.Nested.{joined};
+ghost use Rattle.vx_model.specs.Nested.{concatenated};
 ghost use Rattle.vx_model.specs.Offsets.{byte_rows_of, offsets_column};
 ghost use Rattle.vx_model.specs.Plain.{IsPlain, plain, validity};
 ghost use Rattle.vx_model.specs.Refusals.{kept, var_bin_refusal};
@@ -19,8 +19,8 @@ use vx_base::{ByteRows, Bytes, DType, Mask, Nullability, VortexResult};
 use vx_values::{Ints, byte_rows, copy_validity, keep};
 
 impl ArrayRef {
-    /// The offsets between the rows of a plain tree of texts or binaries, as a plain tree of `u64`: 0, and where each
-    /// row ends if they stand one after the other.
+    /// The offsets between the rows of a plain tree of texts or binaries, concatenated: a plain tree of `u64`, 0 and then
+    /// the end of each row, so one more than there are rows. A null row has no bytes.
     pub fn row_offsets(&self, alloc: Global) -> VortexResult<ArrayRef>
         requires plain { IsPlain self.now }
         requires bytes { IsTrue (is_bytes (tree_type self.now)) }
@@ -31,17 +31,18 @@ impl ArrayRef {
         Ok(ArrayRef::primitive_of(offsets, None, Nullability::NonNullable))
     }
 
-    /// The rows of a plain tree of texts or binaries, one after the other over any tree of the offsets between them.
+    /// The VarBin node of a plain tree of texts or binaries, over any tree of the offsets that `row_offsets` gives. Want of
+    /// memory, the only refusal, drops the offsets.
     pub fn joined_over(&self, alloc: Global, offsets: ArrayRef) -> VortexResult<ArrayRef>
         requires plain { IsPlain self.now }
         requires bytes { IsTrue (is_bytes (tree_type self.now)) }
         requires offsets { column_of offsets ≡ offsets_column (byte_rows_of (column_of self.now)) }
-        ensures { Answers result (var_bin offsets (joined (byte_rows_of (column_of self.now))) (validity (rows self.now)) (tree_type self.now)) }
+        ensures { Answers result (var_bin offsets (concatenated (byte_rows_of (column_of self.now))) (validity (rows self.now)) (tree_type self.now)) }
     {
         self.known();
         let (rows, valid, dtype) = self.as_views();
-        let bytes = byte_rows::joined(alloc, rows)?;
-        let valid = copy_validity(valid, alloc)?;
+        let bytes = byte_rows::concatenated(alloc, rows)?;
+        let valid = copy_validity(alloc, valid)?;
         ArrayRef::var_bin_of(alloc, offsets, bytes, valid, dtype.copy(alloc)?)
     }
 
@@ -59,7 +60,7 @@ impl ArrayRef {
         }
     }
 
-    // Texts or binaries over offsets that are known to be admitted. It looks at no offset and no value.
+    // `var_bin` of inputs that are known to be admitted. Reads no offset and no value.
     fn var_bin_of(
         alloc: Global,
         offsets: ArrayRef,

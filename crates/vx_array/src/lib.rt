@@ -1,4 +1,5 @@
-//! Trees of encodings, well formed at each node: constructors, look-ups, sizes, decoding and copies.
+//! Trees of encodings, well formed at each node: constructors, look-ups, sizes, decoding and copies. Whatever recurses into
+//! child trees stands here; what a node makes of flat columns, in vx_flat.
 #![tactic(auto)]
 
 mod array;

@@ -1,4 +1,4 @@
-//! What stands in a row of a tree.
+//! Random access: what stands in a row of a tree.
 
 ghost use Rattle.std.specs.Prelude.{◌≡◌, ◌<◌, length, IsTrue, option_map, unwrap_or};
 ghost use Rattle.vx_base.specs.CellValue.{cell_value};
@@ -16,7 +16,7 @@ use vx_base::Cell;
 use vx_flat::{moved_at, primitive_at, sequence_at, truth_at, unzigzagged_at, view_at};
 
 impl ArrayRef {
-    /// What stands in a row of a leaf type or of timestamps.
+    /// The value in a row of a leaf type or of timestamps, without decoding the others. Texts and binaries are borrowed.
     #[cycle(cell_at)]
     #[tactic(auto, using(crate::proofs::Flat::flats))]
     pub fn cell_at(&self, row: u64) -> Cell<'_>
@@ -60,7 +60,7 @@ impl ArrayRef {
         }
     }
 
-    /// The integer in a row, None at a null.
+    /// The integer in a row, None of null.
     #[tactic(auto, using(crate::proofs::Flat::flat_integers))]
     pub fn integer_at(&self, row: u64) -> Option<i128>
         requires integer { IsTrue (is_integer (tree_type self.now)) }
@@ -71,7 +71,7 @@ impl ArrayRef {
         self.cell_at(row).integer()
     }
 
-    /// The truth value in a row, None at a null.
+    /// The truth value in a row, None of null.
     #[tactic(auto, using(crate::proofs::Truths::truths))]
     pub fn bool_at(&self, row: u64) -> Option<bool>
         requires bool { tree_type self.now ≡ boolean (nullability_of (tree_type self.now)) }

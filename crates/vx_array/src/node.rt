@@ -28,7 +28,7 @@ mod zig_zag;
 use crate::array::ArrayRef;
 pub(crate) use bit_packed::{copied_packed, decoded_packed, packed_bytes, unpacked_at};
 pub(crate) use bool::{copied_bool, gathered_bool};
-pub(crate) use constant::{copied_constant, decoded_constant};
+pub(crate) use constant::copied_constant;
 pub(crate) use delta::copied_delta;
 pub(crate) use delta_rows::summed_at;
 pub(crate) use dict::{boxed, copied_dict, picked_at};
@@ -52,5 +52,5 @@ pub(crate) use var_bin_view::{copied_view, gathered_view};
 use vx_base::Refused;
 pub(crate) use zig_zag::copied_zig_zag;
 
-/// A tree, or why it isn't made and what it was to be made of.
+/// What a constructor answers: the tree, or the refusal with the inputs handed back.
 pub type Made<T> = Result<ArrayRef, Refused<T>>;

@@ -7,9 +7,10 @@ ghost use Rattle.vx_base.specs.PlainScalar.{fits, fields_fit};
 ghost use Rattle.vx_base.specs.PlainType.{of_fields};
 ghost use Rattle.vx_base.specs.PlainType as types;
 ghost use Rattle.vx_base.specs.TypeOf.{type_of, value_of, fields_of};
+ghost use Rattle.vx_model.specs.Column.{column, column_of};
 ghost use Rattle.vx_model.specs.Nested.{names_of, struct_rows, list_rows, elements};
 ghost use Rattle.vx_model.specs.Offsets.{offsets_of};
-ghost use Rattle.vx_model.specs.Plain.{plain_fields, plain_of};
+ghost use Rattle.vx_model.specs.Plain.{IsPlain, plain_fields, plain_of};
 ghost use Rattle.vx_model.specs.Tree.{of_list};
 
 mod byte_lists;
@@ -25,34 +26,44 @@ use vx_flat::{field_columns, filled_lists, list_items, validity_of};
 use vx_values::Ints;
 
 impl ArrayRef {
-    /// The plain tree of the column of a type with these values, each of which is one of the type. They are moved into
-    /// it: of a null struct the fields have their defaults, a null list has no elements, and a null list of fixed size as
-    /// many defaults as it has elements.
-    #[cycle(of_values)]
+    /// The plain tree (`tree`, `plain`) of a column of this type and these values, which each fit the type (`kept`).
+    /// Beneath a null struct the fields hold their defaults, beneath a null fixed-size list its elements do, and a null
+    /// list is empty. The values are moved into the tree, and want of memory, the only refusal, drops them.
     pub fn of_values(alloc: Global, dtype: &DType, values: Vec<Value>) -> VortexResult<ArrayRef>
         requires { IsTrue (list_all (fits (type_of dtype.now)) (map value_of values.items)) }
-        ensures { Answers result (plain_of (type_of dtype.now) (map value_of values.items)) }
+        ensures tree { Answers result (plain_of (type_of dtype.now) (map value_of values.items)) }
+        ensures kept { OrMemory result (λ tree. column_of tree ≡ column (type_of dtype.now) (map value_of values.items)) }
+        ensures plain { OrMemory result (λ tree. IsPlain tree) }
     {
-        match dtype {
-            DType::Null => Ok(ArrayRef::null(values.len() as u64)),
-            DType::Bool(nullability) => of_truths(alloc, values.as_slice(), *nullability),
-            DType::Primitive(ptype, nullability) => {
-                of_wholes(alloc, values.as_slice(), *ptype, *nullability)
-            }
-            DType::Utf8(_) | DType::Binary(_) => of_bytes(alloc, values, dtype),
-            DType::Timestamp(kind, nullability) => {
-                of_stamps(alloc, values.as_slice(), kind, *nullability)
-            }
-            DType::Struct(fields, nullability) => of_structs(alloc, fields, values, *nullability),
-            DType::List(items, nullability) => of_lists(alloc, items, values, *nullability),
-            DType::FixedSizeList(items, size, nullability) => {
-                of_fixed_lists(alloc, items, *size, values, *nullability)
-            }
+        plain_tree(alloc, dtype, values)
+    }
+}
+
+// The plain tree, by the kind of the type.
+#[cycle(of_values)]
+fn plain_tree(alloc: Global, dtype: &DType, values: Vec<Value>) -> VortexResult<ArrayRef>
+    requires { IsTrue (list_all (fits (type_of dtype.now)) (map value_of values.items)) }
+    ensures { Answers result (plain_of (type_of dtype.now) (map value_of values.items)) }
+{
+    match dtype {
+        DType::Null => Ok(ArrayRef::null(values.len() as u64)),
+        DType::Bool(nullability) => of_truths(alloc, values.as_slice(), *nullability),
+        DType::Primitive(ptype, nullability) => {
+            of_wholes(alloc, values.as_slice(), *ptype, *nullability)
+        }
+        DType::Utf8(_) | DType::Binary(_) => of_bytes(alloc, values, dtype),
+        DType::Timestamp(kind, nullability) => {
+            of_stamps(alloc, values.as_slice(), kind, *nullability)
+        }
+        DType::Struct(fields, nullability) => of_structs(alloc, fields, values, *nullability),
+        DType::List(items, nullability) => of_lists(alloc, items, values, *nullability),
+        DType::FixedSizeList(items, size, nullability) => {
+            of_fixed_lists(alloc, items, *size, values, *nullability)
         }
     }
 }
 
-// Structs, over a tree for each field.
+// A struct node over one plain tree per field.
 #[cycle(of_values)]
 fn of_structs(
     alloc: Global,
@@ -73,7 +84,7 @@ fn of_structs(
     }
 }
 
-// The plain tree of each field's values.
+// The plain tree of each field's column.
 #[cycle(of_values)]
 fn field_trees(alloc: Global, fields: &Fields, values: Vec<Value>) -> VortexResult<Arrays>
     requires { IsTrue (list_all (fields_fit (of_fields (fields_of fields.now))) (struct_rows (of_fields (fields_of fields.now)) (map value_of values.items))) }
@@ -84,12 +95,12 @@ fn field_trees(alloc: Global, fields: &Fields, values: Vec<Value>) -> VortexResu
     let mut trees = Vec::with_capacity(alloc, columns.len())?;
     for column in columns {
         let field = &parts[trees.len()];
-        trees.push(ArrayRef::of_values(alloc, &field.1, column)?)?;
+        trees.push(plain_tree(alloc, &field.1, column)?)?;
     }
     Ok(Arrays::from_vec(trees))
 }
 
-// The names of the fields.
+// Copies of the fields' names.
 fn field_names(alloc: Global, fields: &Fields) -> VortexResult<Names>
     ensures { Answers result (names_of (of_fields (fields_of fields.now))) }
 {
@@ -100,7 +111,7 @@ fn field_names(alloc: Global, fields: &Fields) -> VortexResult<Names>
     Ok(Names::from_vec(names))
 }
 
-// Lists, over the tree of their elements and offsets of 64 unsigned bits.
+// A list node over its elements and `u64` offsets, the type of a plain tree's.
 #[cycle(of_values)]
 fn of_lists(
     alloc: Global,
@@ -121,8 +132,8 @@ fn of_lists(
     }
 }
 
-// The tree of the elements of all lists, one list after the other, and the offsets between them. The bytes of texts and
-// binaries move straight into their rows.
+// The plain tree of all lists' elements, concatenated, and the offsets between the lists. The bytes of texts and binaries
+// move straight into rows, without a vector of values in between.
 #[cycle(of_values)]
 fn list_elements(
     alloc: Global,
@@ -136,11 +147,11 @@ fn list_elements(
         return of_byte_lists(alloc, dtype, values);
     }
     let (items, offsets) = list_items(alloc, values)?;
-    let tree = ArrayRef::of_values(alloc, dtype, items)?;
+    let tree = plain_tree(alloc, dtype, items)?;
     Ok((tree, offsets))
 }
 
-// Lists of one size, over the tree of their elements.
+// A fixed-size list node over its elements.
 #[cycle(of_values)]
 fn of_fixed_lists(
     alloc: Global,

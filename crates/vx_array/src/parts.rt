@@ -1,4 +1,4 @@
-//! The parts of a tree whose root is a Primitive, and trees of other integers.
+//! The parts of a Primitive, and the node with other integers in their place.
 
 ghost use Rattle.std.specs.Prelude.{◌≡◌, length};
 ghost use Rattle.vx_base.specs.Answers.{Answers};
@@ -18,8 +18,8 @@ use vx_base::{Mask, Nullability, VortexResult};
 use vx_values::{Ints, copy_validity};
 
 impl ArrayRef {
-    /// The integers, the validity and the nullability of a tree whose root is a Primitive, as that of a plain tree of
-    /// integers is.
+    /// The integers, validity and nullability of a tree whose root is a Primitive, as the root of a plain tree of integers
+    /// is.
     pub fn as_primitive(&self) -> (&Ints, &Option<Mask>, Nullability)
         requires { encoding self.now ≡ ids.Primitive }
         ensures tree { primitive (ptype_of result.0.now) (wholes_of result.0.now) result.1.now result.2 ≡ self.now }
@@ -31,17 +31,15 @@ impl ArrayRef {
         }
     }
 
-    /// Other integers, as many, with the validity and the nullability of a tree whose root is a Primitive.
+    /// A Primitive of other integers, as many, with the validity and nullability of this Primitive. Want of memory, the only
+    /// refusal, drops the integers.
     pub fn with_integers(&self, alloc: Global, values: Ints) -> VortexResult<ArrayRef>
         requires primitive { encoding self.now ≡ ids.Primitive }
         requires rows { length (wholes_of values) ≡ length (rows self.now) }
         ensures { Answers result (primitive (ptype_of values) (wholes_of values) (validity (rows self.now)) (nullability_of (tree_type self.now))) }
     {
         let (_, valid, nullability) = self.as_primitive();
-        let valid = copy_validity(valid, alloc)?;
-        match ArrayRef::primitive(values, valid, nullability) {
-            Ok(tree) => Ok(tree),
-            Err(refused) => Err(refused.error),
-        }
+        let valid = copy_validity(alloc, valid)?;
+        Ok(ArrayRef::primitive_of(values, valid, nullability))
     }
 }

@@ -1,4 +1,4 @@
-//! Patches: how they are made, and written into integers.
+//! Patches: construction, and writing them into integers.
 
 ghost use Rattle.std.specs.Prelude.{◌≡◌, ◌+◌, ℕ, ℤ, None, length, IsTrue};
 ghost use Rattle.vx_base.specs.Answers.{MakesSurely};
@@ -20,9 +20,11 @@ use vx_base::{Refused, VortexError};
 use vx_values::Ints;
 
 impl Patches {
-    /// Patches of an array of `array_len` rows. Refuses MismatchedTypes where the indices are no non-nullable integers,
-    /// then LengthMismatch where there aren't as many values, then IndicesNotAscending where the indices don't rise or
-    /// one lies outside `offset` to `offset + array_len - 1`, a sum that is taken exactly.
+    /// Patches of an array of `array_len` rows: `values[k]` stands in row `indices[k] - offset`.
+    ///
+    /// Refuses MismatchedTypes where the indices aren't non-nullable integers; then LengthMismatch where there aren't as
+    /// many values as indices; then IndicesNotAscending where the indices don't rise strictly or one lies outside
+    /// `offset .. offset + array_len`, a sum that is taken exactly. Takes no memory; a refusal hands both back.
     pub fn new(
         array_len: u64,
         offset: u64,
@@ -52,7 +54,7 @@ impl Patches {
         Ok(Patches::of_rising(array_len, offset, indices, values))
     }
 
-    /// The same of indices that are known to rise within those rows, as many as there are values. It looks at no row.
+    /// `new` of indices and values that are known to be admitted. Reads no row.
     pub fn of_rising(array_len: u64, offset: u64, indices: ArrayRef, values: ArrayRef) -> Patches
         requires { patches_refusal (patches array_len offset indices values) ≡ None }
         ensures { result ≡ patches array_len offset indices values }
@@ -81,7 +83,7 @@ impl Patches {
         self.array_len
     }
 
-    /// How much an index lies above its row.
+    /// What an index is above its row: index = offset + row.
     pub fn offset(&self) -> u64
         ensures { result ≡ self.now.offset }
     {
@@ -106,7 +108,7 @@ impl Patches {
         &self.values
     }
 
-    // The integers with each patch in its row.
+    // The integers, each patched row with its patch's value.
     pub(crate) fn written(&self, values: Ints) -> Ints
         requires integers { tree_type self.now.values ≡ types.primitive (ptype_of values) NonNullable }
         requires rows { length (wholes_of values) ≡ self.now.array_len }
@@ -128,7 +130,7 @@ impl Patches {
     }
 }
 
-// An integer as an index, where it is one.
+// An integer as an index, None of null and of a negative one.
 pub(crate) fn as_index(integer: Option<i128>) -> Option<u128>
     ensures { result ≡ index_of (cell integer) }
 {
@@ -139,7 +141,7 @@ pub(crate) fn as_index(integer: Option<i128>) -> Option<u128>
 }
 
 impl ArrayRef {
-    // Whether the rows rise from the offset, within the length.
+    // Whether the rows rise strictly and lie in `offset .. offset + len`.
     #[tactic(auto, using(vx_model::proofs::PatchLemmas::ascend_steps))]
     pub(crate) fn is_ascending(&self, offset: u64, len: u64) -> bool
         requires { IsTrue (is_integer (tree_type self.now)) }

@@ -1,4 +1,4 @@
-//! The rows of plain trees: which are null, whether the others share one value, and those of ranges.
+//! The rows of plain trees: which are null, whether the others share one value, and gathering.
 
 ghost use Rattle.std.specs.Prelude.{◌≡◌, ◌<◌, length, not, position, false, IsTrue};
 ghost use Rattle.vx_array.specs.Kept.{keeps_validity};
@@ -22,8 +22,8 @@ use vx_base::{Mask, TimestampType, VortexResult};
 use vx_values::{bits, byte_rows};
 
 impl ArrayRef {
-    /// The validity of a plain tree: a bit a row, true where the row isn't null, or none where no row is. Nulls alone keep
-    /// no validity.
+    /// The validity bitmap of a plain tree: a bit a row, true where the row isn't null; None where no row is null. Not of
+    /// the type of nulls alone, whose node has no validity.
     #[cycle(validity)]
     #[tactic(auto, using(crate::proofs::PlainRows::validities))]
     pub fn validity(&self) -> &Option<Mask>
@@ -43,7 +43,7 @@ impl ArrayRef {
         }
     }
 
-    /// The first row of a plain tree that isn't null.
+    /// The first row of a plain tree that isn't null, None where each is.
     pub fn first_valid(&self) -> Option<u64>
         requires { IsPlain self.now }
         ensures { result ≡ position (λ v. not (is_null v)) (rows self.now) }
@@ -54,7 +54,7 @@ impl ArrayRef {
         }
     }
 
-    // The same by the validity.
+    // `first_valid` by the validity bitmap.
     fn first_kept(&self) -> Option<u64>
         requires plain { IsPlain self.now }
         requires kept { IsTrue (keeps_validity (tree_type self.now)) }
@@ -67,8 +67,7 @@ impl ArrayRef {
         }
     }
 
-    /// Whether each row of a plain tree of a leaf type or of timestamps is null or has the value of this row, which isn't
-    /// null.
+    /// Whether each row of a plain tree of a leaf type or of timestamps is null or equal to this row, which isn't null.
     #[cycle(repeats)]
     #[tactic(auto, using(crate::proofs::PlainRows::repeating))]
     pub fn repeats(&self, row: u64) -> bool
@@ -89,7 +88,7 @@ impl ArrayRef {
         }
     }
 
-    /// The rows of ranges of a plain tree of a leaf type or of timestamps, one range after the other, as a plain tree.
+    /// The rows of half-open ranges of a plain tree of a leaf type or of timestamps, concatenated, as a plain tree.
     #[cycle(gather)]
     #[tactic(auto, using(crate::proofs::PlainRows::gathering))]
     pub fn gather(&self, alloc: Global, ranges: &[(u64, u64)]) -> VortexResult<ArrayRef>
@@ -115,7 +114,7 @@ impl ArrayRef {
         }
     }
 
-    /// The whole numbers of a tree whose root is a Timestamp, and the kind. They are moved.
+    /// The storage of a tree whose root is a Timestamp, and the kind, moved out.
     pub fn into_storage(self) -> (ArrayRef, TimestampType)
         requires { encoding self ≡ ids.Timestamp }
         ensures { timestamp result.0 result.1 ≡ self }

@@ -48,7 +48,7 @@ impl ArrayRef {
         }
     }
 
-    // The same, row by row.
+    // `has_null` row by row, where null codes and null values don't settle it.
     fn has_null_row(&self) -> bool
         requires { IsTrue (is_flat (tree_type self.now)) }
         ensures { result ≡ list_any is_null (rows self.now) }
@@ -79,8 +79,8 @@ impl ArrayRef {
         }
     }
 
-    /// Whether the tree is the plain one of its column: no encoding, the type's default beneath nulls, which is an empty
-    /// list in columns of lists, and list offsets of 64 unsigned bits.
+    /// Whether the tree is the plain tree of its column: no encoding, the type's default beneath nulls (an empty list in
+    /// columns of lists), and `u64` list offsets.
     #[cycle(is_plain)]
     #[tactic(auto, using(vx_model::proofs::NullLemmas::plains))]
     pub fn is_plain(&self) -> bool

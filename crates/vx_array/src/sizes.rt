@@ -1,4 +1,4 @@
-//! The bytes and the extents of a tree.
+//! The bytes of a tree, and whether its extents fit the row limit.
 
 ghost use Rattle.std.specs.Prelude.{◌≡◌, ◌-◌, ◌+◌, ◌^◌, min, nat_le};
 ghost use Rattle.std.specs.List.{list_all};
@@ -15,7 +15,7 @@ use vx_flat::{
 };
 
 impl ArrayRef {
-    /// The bytes of the tree, the greatest number of 128 bits where there are more.
+    /// The size of the tree in bytes. Saturates at 2^128 - 1.
     #[cycle(nbytes)]
     pub fn nbytes(&self) -> u128
         ensures { result ≡ nbytes self.now }
@@ -68,7 +68,8 @@ impl ArrayRef {
         }
     }
 
-    /// Whether the rows of the tree, and of each nested column as the tree is given, are at most 2^31.
+    /// Whether each extent of the tree, its own rows and those of each nested column, is at most 2^31. Extents are counted
+    /// as the tree is given: those of a constant are the counts of its value times its rows.
     #[cycle(extents_fit)]
     #[tactic(auto, using(vx_model::proofs::TreesLemmas::lists, vx_model::proofs::TreesLemmas::falls))]
     pub fn extents_fit(&self) -> bool
@@ -101,7 +102,7 @@ impl ArrayRef {
 }
 
 impl Arrays {
-    // The bytes of the trees together.
+    // The bytes of the trees together. Saturates at 2^128 - 1.
     #[cycle(nbytes)]
     #[tactic(auto, using(vx_model::proofs::TreesLemmas::lists, vx_model::proofs::TreesLemmas::falls))]
     pub(crate) fn nbytes(&self) -> u128
@@ -114,7 +115,7 @@ impl Arrays {
         sum
     }
 
-    // Whether the rows of each tree are few.
+    // Whether each extent of each tree is at most 2^31.
     #[cycle(extents_fit)]
     #[tactic(auto, using(vx_model::proofs::TreesLemmas::lists, vx_model::proofs::TreesLemmas::falls))]
     fn extents_fit(&self) -> bool
@@ -130,7 +131,7 @@ impl Arrays {
 }
 
 impl Patches {
-    // The bytes of the indices and the values.
+    // The bytes of the indices and the values. Saturates at 2^128 - 1.
     #[cycle(nbytes)]
     pub(crate) fn nbytes(&self) -> u128
         ensures { result ≡ min (size self.now.indices + size self.now.values) (2 ^ 128 - 1) }

@@ -1,4 +1,4 @@
-//! The rows of the columns within a tree, as the tree is given, and whether they are few.
+//! The extents of a Sparse tree, column by column: its patches' and its fill's add up in each nested column.
 
 ghost use Rattle.std.specs.List.{list_all};
 ghost use Rattle.std.specs.Prelude.{◌≡◌, ◌*◌, ◌^◌, ◌-◌, ◌∷◌, [], length, min, nat_le};
@@ -18,7 +18,7 @@ use vx_base::{DType, Fields, Scalar, Text};
 use vx_flat::{Way, is_few, rows_within};
 
 impl ArrayRef {
-    // Whether the rows of it, and of each nested column as the tree is given, are few: column by column of its type.
+    // Whether each extent is at most 2^31: walks the columns of the type, and for each the tree.
     pub(crate) fn columns_fit(&self) -> bool
         ensures { result ≡ extents_fit self.now }
     {
@@ -26,7 +26,7 @@ impl ArrayRef {
         columns_fit(self.dtype(), &Way::Here, self)
     }
 
-    // The rows of the column that a way leads to. At most the greatest number of 64 bits.
+    // The extent of the column at the end of a way. Saturates at 2^64 - 1.
     #[cycle(extent_at)]
     fn extent_at(&self, way: &Way<'_>) -> u64
         ensures { result ≡ min (extent_at (way_of way.now) self.now) (2 ^ 64 - 1) }
@@ -49,7 +49,7 @@ impl ArrayRef {
     }
 }
 
-// The same of structs, by their fields.
+// `extent_at` of structs, by their fields.
 #[cycle(extent_at)]
 fn fields_extent(fields: &Arrays, len: u64, way: &Way<'_>) -> u64
     ensures { result ≡ min (fields_extent (way_of way.now) len (of_list fields.now)) (2 ^ 64 - 1) }
@@ -64,7 +64,7 @@ fn fields_extent(fields: &Arrays, len: u64, way: &Way<'_>) -> u64
     }
 }
 
-// The same of lists, by their elements.
+// `extent_at` of lists, by their elements.
 #[cycle(extent_at)]
 fn items_extent(elements: &ArrayRef, len: u64, way: &Way<'_>) -> u64
     ensures { result ≡ min (items_extent (way_of way.now) len elements.now) (2 ^ 64 - 1) }
@@ -76,7 +76,7 @@ fn items_extent(elements: &ArrayRef, len: u64, way: &Way<'_>) -> u64
     }
 }
 
-// The same of a column that has none within.
+// `extent_at` of a column with no nested ones.
 fn own_extent(way: &Way<'_>, len: u64) -> u64
     ensures { result ≡ own_extent (way_of way.now) len }
 {
@@ -87,7 +87,7 @@ fn own_extent(way: &Way<'_>, len: u64) -> u64
 }
 
 impl Patches {
-    // The rows that have no patch.
+    // How many rows have no patch.
     pub(crate) fn unpatched(&self) -> u64
         ensures { result ≡ self.now.array_len - length (rows self.now.values) }
     {
@@ -95,15 +95,15 @@ impl Patches {
     }
 }
 
-// The rows that so many equal values have in the column that a way leads to. At most the greatest number of 64 bits.
+// The extent of `times` equal values in the column at the end of a way. Saturates at 2^64 - 1.
 fn filled_rows(way: &Way<'_>, value: &Scalar, times: u64) -> u64
     ensures { result ≡ min (times * count_at (way_of way.now) value.now.dtype (value.now.value ∷ [])) (2 ^ 64 - 1) }
 {
     rows_within(way, value.dtype(), slice::from_ref(value.value())).saturating_mul(times)
 }
 
-// Whether a tree has few rows in the column of a type that a way leads to, which is told from its end, and in each one
-// within.
+// Whether the extents of the column at the end of a reversed way, of type `inner`, and of each one nested in it are at most
+// 2^31.
 #[cycle(columns_fit)]
 fn columns_fit(inner: &DType, way: &Way<'_>, tree: &ArrayRef) -> bool
     ensures { result ≡ list_all (λ extent. nat_le extent row_limit) (by_ways (type_of inner.now) (λ w. extent_at (turned (way_of way.now) w) tree.now)) }
@@ -120,7 +120,7 @@ fn columns_fit(inner: &DType, way: &Way<'_>, tree: &ArrayRef) -> bool
     }
 }
 
-// The same of the fields of structs.
+// `columns_fit` of the fields of structs.
 #[cycle(columns_fit)]
 fn fields_fit(fields: &Fields, way: &Way<'_>, tree: &ArrayRef) -> bool
     ensures { result ≡ list_all (λ extent. nat_le extent row_limit) (by_fields (of_fields (fields_of fields.now)) (λ i w. extent_at (turned (way_of way.now) (field i w)) tree.now)) }
@@ -134,7 +134,7 @@ fn fields_fit(fields: &Fields, way: &Way<'_>, tree: &ArrayRef) -> bool
     true
 }
 
-// The same of the field at a place.
+// `columns_fit` of the field at a place.
 #[cycle(columns_fit)]
 fn field_fits(inner: &(Text, DType), place: u64, way: &Way<'_>, tree: &ArrayRef) -> bool
     ensures { result ≡ list_all (λ extent. nat_le extent row_limit) (by_ways (type_of inner.now.1) (λ w. extent_at (turned (way_of way.now) (field place w)) tree.now)) }
@@ -142,8 +142,7 @@ fn field_fits(inner: &(Text, DType), place: u64, way: &Way<'_>, tree: &ArrayRef)
     columns_fit(&inner.1, &Way::Field(place, &*way), tree)
 }
 
-// The rows of the column that two ways lead to: one that is told from its end, and one from there on. At most the greatest
-// number of 64 bits.
+// The extent of the column at the end of two ways: the reversed one, `before`, then `way`. Saturates at 2^64 - 1.
 fn turned_extent(before: &Way<'_>, way: &Way<'_>, tree: &ArrayRef) -> u64
     ensures { result ≡ min (extent_at (turned (way_of before.now) (way_of way.now)) tree.now) (2 ^ 64 - 1) }
 {

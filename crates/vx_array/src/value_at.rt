@@ -1,4 +1,4 @@
-//! The value in a row of any type.
+//! Random access to rows of any type, as values.
 
 ghost use Rattle.std.specs.List.{list_all};
 ghost use Rattle.std.specs.Prelude.{◌≡◌, ◌<◌, ◌≤◌, ◌+◌, ◌*◌, ◌^◌, IsTrue, None, if◌then◌else◌, length, map, nat_lt};
@@ -21,7 +21,7 @@ use vx_base::{Mask, Scalar, Value, Values, VortexError, VortexResult};
 use vx_values::is_valid;
 
 impl ArrayRef {
-    /// The value in a row as a scalar of the tree's type. Refuses OutOfBounds where there is no such row.
+    /// The value in a row, as a scalar of the tree's type. Refuses OutOfBounds where there is no such row.
     pub fn scalar_at(&self, alloc: Global, row: u64) -> VortexResult<Scalar>
         ensures { Decided (unless (nat_lt row (length (rows self.now))) OutOfBounds None) (λ s. s ≡ scalar (tree_type self.now) (row_at (rows self.now) row)) result }
     {
@@ -54,7 +54,7 @@ impl ArrayRef {
         Ok(values)
     }
 
-    /// The value in a row. Lists and structs are taken apart down to the rows of the trees within.
+    /// The value in a row. Lists and structs are read from the rows of their children.
     #[cycle(value_at)]
     pub fn value_at(&self, alloc: Global, row: u64) -> VortexResult<Value>
         requires in_range { row < length (rows self.now) }
@@ -80,7 +80,7 @@ impl ArrayRef {
     }
 }
 
-// The values of the fields in a row, null where the row isn't valid.
+// A struct's value: those of the fields in the row, null where the row isn't valid.
 #[cycle(value_at)]
 fn struct_at(alloc: Global, fields: &Arrays, valid: &Option<Mask>, row: u64) -> VortexResult<Value>
     requires { IsTrue (list_all (λ t. nat_lt row (length (rows t))) fields.now) }
@@ -96,7 +96,7 @@ fn struct_at(alloc: Global, fields: &Arrays, valid: &Option<Mask>, row: u64) -> 
     Ok(Value::List(Values::from_vec(values)))
 }
 
-// The elements from a row's offset to the next one, null where the row isn't valid.
+// A list's value: the elements from the row's offset to the next one, null where the row isn't valid.
 #[cycle(value_at)]
 fn list_at(
     alloc: Global,
@@ -120,7 +120,7 @@ fn list_at(
     elements_between(alloc, elements, start as u64, end as u64)
 }
 
-// So many elements, those of a row, null where the row isn't valid.
+// A fixed-size list's value: elements `row * size .. (row + 1) * size`, null where the row isn't valid.
 #[cycle(value_at)]
 fn fixed_at(
     alloc: Global,
@@ -140,7 +140,7 @@ fn fixed_at(
     elements_between(alloc, elements, start, start + u64::from(size))
 }
 
-// The elements of rows one behind the other, as a list.
+// The elements `start .. end`, as a list.
 #[cycle(value_at)]
 fn elements_between(alloc: Global, elements: &ArrayRef, start: u64, end: u64) -> VortexResult<Value>
     requires order { start ≤ end }

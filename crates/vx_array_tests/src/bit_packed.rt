@@ -1,4 +1,4 @@
-//! Packed columns: their rows, sizes, plain trees and copies.
+//! Bit-packed columns: rows, sizes, plain trees and copies.
 
 use std::alloc::Global;
 use std::test::Fail;
@@ -18,7 +18,7 @@ fn three_rows_at_two_bits(rt: HostRuntime) -> Result<(), Fail> {
     Ok(())
 }
 
-// At rows 1 to 3 of five.
+// Patches in rows 1 to 3 of five.
 fn three_patches(alloc: Global) -> VortexResult<Patches> {
     let indices = flat(alloc, U8, NonNullable, &[11, 12, 13])?;
     let values = flat(alloc, I16, NonNullable, &[300, -7, 77])?;
@@ -37,7 +37,7 @@ fn patched(alloc: Global) -> VortexResult<ArrayRef> {
 fn patches_stand_in_place_of_rows_that_are_not_null(rt: HostRuntime) -> Result<(), Fail> {
     let tree = patched(rt.alloc())?;
     let rows = [Some(5), Some(300), Some(-7), None, Some(9)];
-    // The bytes, two trees of patches and a bit a row.
+    // The packed bytes, the patches' indices and values, and validity.
     assert!(rt; is_made_plain(rt.alloc(), &tree, (512 + 3 + 6 + 1, 11), &rows)?);
     Ok(())
 }

@@ -1,4 +1,4 @@
-//! Integers less a reference: wrapping sums in each type, and the nulls of the child.
+//! Frames of reference: sums that wrap in each type, and nulls of the child.
 
 use std::alloc::Global;
 use std::test::Fail;
@@ -8,7 +8,7 @@ use vx_base::PType::{self, I8, I16, I32, I64, U8, U16, U32, U64};
 use vx_base::{Scalar, VortexResult};
 use vx_fixtures::{accepted, bits, flat, has_wholes, is_made_plain, packed};
 
-// Whether differences from a reference of a type have these sums, and whether their plain tree has.
+// Whether differences from a reference of a type have these sums, and so has their plain tree.
 fn are_sums(
     alloc: Global,
     (ptype, reference): (PType, i128),

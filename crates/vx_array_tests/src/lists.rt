@@ -8,7 +8,7 @@ use vx_base::PType::{U8, U16};
 use vx_base::{VortexError, VortexResult};
 use vx_fixtures::{flat, has_wholes};
 
-// A tree of 5 and one of 300.
+// A tree with the one row 5, and one with the one row 300.
 fn two(alloc: Global) -> VortexResult<Arrays> {
     let mut trees = Arrays::new_in(alloc);
     for (ptype, whole) in [(U8, 5), (U16, 300)] {
@@ -18,7 +18,7 @@ fn two(alloc: Global) -> VortexResult<Arrays> {
     Ok(trees)
 }
 
-// Whether the tree at a place has one row, this one.
+// Whether the tree at a place has this one row.
 fn is_at(trees: &Arrays, place: u64, whole: i128) -> bool {
     match trees.get(place) {
         Some(tree) => has_wholes(tree, &[whole]),

@@ -1,4 +1,4 @@
-//! Structs, lists, fixed-size lists and nulls alone: their rows, their plain trees and their sizes.
+//! Structs, lists, fixed-size lists and nulls alone: rows, plain trees and sizes.
 
 use crate::printed::prints;
 use std::alloc::Global;
@@ -14,7 +14,7 @@ fn is_plain_of(alloc: Global, tree: &ArrayRef, bytes: u128, rows: &[&str]) -> Vo
     Ok(tree.is_plain() && tree.nbytes() == bytes && prints(alloc, tree, rows)?)
 }
 
-// A tree with these rows that isn't plain and takes the first of these bytes, and whose copy made plain takes the second.
+// A tree with these rows that isn't plain: its bytes, and those of its copy's plain tree.
 fn becomes_plain(
     alloc: Global,
     tree: &ArrayRef,
@@ -42,7 +42,7 @@ fn lists_are_made_plain(rt: HostRuntime) -> Result<(), Fail> {
     Ok(())
 }
 
-// Structs of a number and a list each, of which the second is null over 8 and a list.
+// Structs of a number and a list each; the second is null over 8 and a list.
 fn structs(alloc: Global) -> VortexResult<ArrayRef> {
     let mut names = Names::new_in(alloc);
     let mut fields = Arrays::new_in(alloc);

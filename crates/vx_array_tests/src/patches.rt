@@ -1,4 +1,4 @@
-//! The patch of a row.
+//! The search for the patch of a row.
 
 ghost use Rattle.std.specs.Prelude.{◌≡◌, ◌<◌};
 
@@ -22,7 +22,7 @@ fn found<L: Ledger>(patches: &Patches, row: u64, blank: Blank) -> Option<u64>
     patches.search(row, &mut steps)
 }
 
-// The same where there is such a row.
+// `found` where there is such a row, else None.
 fn place_of(patches: &Patches, row: u64) -> Option<u64> {
     if row < patches.array_len() {
         found::<Brand>(patches, row, Blank::new(1))
@@ -35,7 +35,7 @@ fn place_of(patches: &Patches, row: u64) -> Option<u64> {
 fn a_patch_is_found_by_its_row(rt: HostRuntime) -> Result<(), Fail> {
     let indices = flat(rt.alloc(), U8, NonNullable, &[3, 5, 9])?;
     let values = flat(rt.alloc(), I16, NonNullable, &[9, 9, 9])?;
-    // Of eight rows from 2 on, at rows 1, 3 and 7.
+    // Of eight rows at offset 2: in rows 1, 3 and 7.
     let patches = accepted(Patches::new(8, 2, indices, values))?;
     assert!(rt;
         place_of(&patches, 1) == Some(0)

@@ -1,10 +1,10 @@
-//! The rows of a tree as they print.
+//! The rows of a tree as JSON.
 
 use std::alloc::Global;
 use vx_array::ArrayRef;
 use vx_base::VortexResult;
 
-// Whether the rows print so.
+// Whether the rows print as these texts.
 pub(crate) fn prints(alloc: Global, tree: &ArrayRef, rows: &[&str]) -> VortexResult<bool> {
     if tree.len() != rows.len() as u64 {
         return Ok(false);

@@ -1,4 +1,4 @@
-//! Runs by their ends and in blocks, sequences and differences: their rows, sizes, plain trees, copies and refusals.
+//! Runs by their ends and in blocks, sequences and differences: rows, sizes, plain trees, copies and refusals.
 
 use std::alloc::Global;
 use std::test::Fail;
@@ -16,12 +16,12 @@ fn runs_last_up_to_their_ends(rt: HostRuntime) -> Result<(), Fail> {
     let tree = accepted(ArrayRef::run_end(alloc, ends, values))?;
     let run = Some(-7);
     let rows = [Some(300), Some(300), None, run, run, run, run];
-    // Three ends, three values and a bit for each.
+    // Three ends, three values and the values' validity.
     assert!(rt; is_made_plain(alloc, &tree, (3 + 6 + 1, 15), &rows)?);
     Ok(())
 }
 
-// Why ends and as many values as are given make no runs.
+// The refusal of these ends over this many values.
 fn no_runs(alloc: Global, ends: &[i128], values: &[i128]) -> VortexResult<VortexError> {
     let ends = flat(alloc, U8, NonNullable, ends)?;
     match ArrayRef::run_end(alloc, ends, flat(alloc, I16, NonNullable, values)?) {
@@ -43,7 +43,7 @@ fn ends_rise_and_are_as_many_as_the_values(rt: HostRuntime) -> Result<(), Fail> 
     Ok(())
 }
 
-// 1,024 numbers for a block: these, and then zeros.
+// The 1,024 indices of a block: these, then zeros.
 fn block(alloc: Global, first: &[i128]) -> VortexResult<Vec<i128>> {
     let mut wholes = Vec::from_slice(alloc, first)?;
     wholes.resize(1024, 0)?;
@@ -54,7 +54,7 @@ fn block(alloc: Global, first: &[i128]) -> VortexResult<Vec<i128>> {
 fn blocks_of_runs_have_values_by_offset_and_index(rt: HostRuntime) -> Result<(), Fail> {
     let alloc = rt.alloc();
     let values = flat(alloc, U32, NonNullable, &[9, 500, 70000])?;
-    // The number behind the last row is no place of a value.
+    // The index behind the last row is out of bounds, and not tested.
     let indices = flat(
         alloc,
         I8,
@@ -68,7 +68,7 @@ fn blocks_of_runs_have_values_by_offset_and_index(rt: HostRuntime) -> Result<(),
     Ok(())
 }
 
-// Why two rows of 9 and 500 aren't runs in blocks by these indices and this offset.
+// The refusal of two rows of the values 9 and 500 by these indices and this offset.
 fn no_blocks(alloc: Global, indices: &[i128], offset: i128) -> VortexResult<VortexError> {
     let values = flat(alloc, U32, NonNullable, &[9, 500])?;
     let indices = flat(alloc, U8, NonNullable, indices)?;
@@ -124,7 +124,7 @@ fn differences_are_summed_and_wrap(rt: HostRuntime) -> Result<(), Fail> {
     Ok(())
 }
 
-// Why so many rows aren't sums from 120 by these differences of a type.
+// The refusal of `len` rows from base 120 by these differences of a type.
 fn no_sums(alloc: Global, ptype: PType, deltas: &[i128], len: u64) -> VortexResult<VortexError> {
     let bases = flat(alloc, I8, NonNullable, &[120])?;
     let deltas = flat(alloc, ptype, NonNullable, deltas)?;

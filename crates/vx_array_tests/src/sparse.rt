@@ -1,4 +1,4 @@
-//! A fill and patches: their rows, their plain trees, their extents and what is refused.
+//! A fill and patches: rows, plain trees, extents and refusals.
 
 use crate::printed::prints;
 use std::alloc::Global;
@@ -9,7 +9,7 @@ use vx_base::PType::{I32, U8, U32};
 use vx_base::{DType, Scalar, VortexError, VortexResult};
 use vx_fixtures::{accepted, flat, is_made_plain, list_scalar, with_nulls};
 
-// 10, 20 and 30 in rows 1, 3 and 5 of eight, and 1 in the others.
+// 10, 20 and 30 in rows 1, 3 and 5 of eight, 1 in the others.
 fn wholes(alloc: Global) -> VortexResult<ArrayRef> {
     let indices = flat(alloc, U8, NonNullable, &[1, 3, 5])?;
     let values = flat(alloc, I32, NonNullable, &[10, 20, 30])?;
@@ -29,7 +29,7 @@ fn patches_stand_between_the_fills(rt: HostRuntime) -> Result<(), Fail> {
     Ok(())
 }
 
-// Whether a row is none of a tree's.
+// Whether a row is out of bounds of a tree.
 fn is_behind(alloc: Global, tree: &ArrayRef, row: u64) -> bool {
     match tree.scalar_at(alloc, row) {
         Ok(_) => false,
@@ -48,7 +48,7 @@ fn each_row_of_patches_and_fills_is_a_scalar(rt: HostRuntime) -> Result<(), Fail
 #[test]
 fn a_fill_and_a_patch_may_be_null(rt: HostRuntime) -> Result<(), Fail> {
     let alloc = rt.alloc();
-    // Of four rows from 2 on, at rows 0 and 2.
+    // Of four rows at offset 2: in rows 0 and 2.
     let indices = flat(alloc, U8, NonNullable, &[2, 4])?;
     let values = with_nulls(alloc, I32, &[5, 9], &[true, false])?;
     let patches = accepted(Patches::new(4, 2, indices, values))?;
@@ -58,7 +58,7 @@ fn a_fill_and_a_patch_may_be_null(rt: HostRuntime) -> Result<(), Fail> {
     Ok(())
 }
 
-// The list of 9 in row 1, and another in each other row.
+// The list of 9 in row 1, and another list in each other row.
 fn lists(alloc: Global, len: u64, fill: &[i128]) -> VortexResult<ArrayRef> {
     let indices = flat(alloc, U32, NonNullable, &[1])?;
     let elements = flat(alloc, I32, NonNullable, &[9])?;
@@ -88,7 +88,7 @@ fn a_fill_counts_its_items_in_each_row(rt: HostRuntime) -> Result<(), Fail> {
     Ok(())
 }
 
-// Whether patches of eight rows at these indices, from an offset on, are refused.
+// Whether patches of eight rows with these indices and this offset are refused.
 fn are_refused(alloc: Global, offset: u64, indices: &[i128]) -> VortexResult<bool> {
     let values = flat(alloc, I32, NonNullable, indices)?;
     let indices = flat(alloc, U8, NonNullable, indices)?;

@@ -8,12 +8,12 @@ use vx_base::PType::{U8, U16};
 use vx_base::{ByteRows, Bytes, Cell, DType, Refused, VortexError, VortexResult};
 use vx_fixtures::{accepted, bits, flat, with_nulls};
 
-// Bytes of a slice.
+// The bytes of a slice.
 fn bytes(alloc: Global, items: &[u8]) -> VortexResult<Bytes> {
     Ok(Bytes::from_vec(Vec::from_slice(alloc, items)?))
 }
 
-// Rows of slices.
+// Rows of bytes, from slices.
 fn byte_rows(alloc: Global, rows: &[&[u8]]) -> VortexResult<ByteRows> {
     let mut items = Vec::new(alloc);
     for row in rows {
@@ -22,7 +22,7 @@ fn byte_rows(alloc: Global, rows: &[&[u8]]) -> VortexResult<ByteRows> {
     Ok(ByteRows::from_vec(items))
 }
 
-// Whether a row of texts or binaries has these bytes, None of a null.
+// Whether a row of texts or binaries has these bytes, or is null where there are none.
 fn is_row(array: &ArrayRef, row: u64, bytes: Option<&[u8]>) -> bool {
     if !array.dtype().is_flat() || row >= array.len() {
         return false;
@@ -34,7 +34,7 @@ fn is_row(array: &ArrayRef, row: u64, bytes: Option<&[u8]>) -> bool {
     }
 }
 
-// Whether these are all rows.
+// Whether these are the rows, all of them.
 fn are_rows(array: &ArrayRef, rows: &[Option<&[u8]>]) -> bool {
     for row in 0..rows.len() {
         if !is_row(array, row as u64, rows[row]) {
@@ -44,7 +44,7 @@ fn are_rows(array: &ArrayRef, rows: &[Option<&[u8]>]) -> bool {
     array.len() == rows.len() as u64
 }
 
-// Whether a tree has these rows and takes the first of these bytes, and its copy made plain has them and takes the second.
+// Whether a tree has these rows and takes the first number of bytes, and its copy's plain tree has them and takes the second.
 fn becomes_plain(
     alloc: Global,
     tree: &ArrayRef,
@@ -58,7 +58,7 @@ fn becomes_plain(
 
 #[test]
 fn values_of_more_than_12_bytes_stand_beside_their_16(rt: HostRuntime) -> Result<(), Fail> {
-    // What lies beneath the null is no text.
+    // What stands beneath the null isn't UTF-8.
     let rows = byte_rows(rt.alloc(), &[b"twelve bytes", b"\xff", b"thirteen byte"])?;
     let valid = Some(bits(rt.alloc(), &[true, false, true])?);
     let tree = accepted(ArrayRef::var_bin_view(rows, valid, DType::utf8(Nullable)))?;
@@ -102,7 +102,7 @@ fn values_by_their_offsets_are_made_plain(rt: HostRuntime) -> Result<(), Fail> {
     Ok(())
 }
 
-// Why such offsets are refused, if they are.
+// The refusal of these offsets, if there is one.
 fn refusal(alloc: Global, offsets: &[i128], whole: &[u8]) -> VortexResult<Option<VortexError>> {
     let offsets = flat(alloc, U8, NonNullable, offsets)?;
     let whole = bytes(alloc, whole)?;
@@ -141,7 +141,7 @@ fn offsets_rise_from_0_to_the_end(rt: HostRuntime) -> Result<(), Fail> {
             b"abcde".as_slice(),
             Some(VortexError::OutOfBounds),
         ),
-        // One letter of two bytes is cut in half.
+        // A letter of two bytes, cut in half.
         (
             [0, 1, 2].as_slice(),
             b"\xc3\xa9".as_slice(),

@@ -7,7 +7,7 @@ use vx_base::PType::{I64, U64};
 use vx_base::{Refused, Text, TimeUnit, TimestampType, VortexError, VortexResult};
 use vx_fixtures::{accepted, with_nulls};
 
-// Seconds, as a zone has them.
+// Seconds in a time zone.
 fn seconds(alloc: Global) -> VortexResult<TimestampType> {
     let zone = Text::from_string(String::from_str(alloc, "UTC")?);
     accepted(TimestampType::new(TimeUnit::Seconds, Some(zone)))

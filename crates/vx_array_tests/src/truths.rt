@@ -1,4 +1,4 @@
-//! Truth values: flat, constant and behind a mask.
+//! Truth values: plain, constant and masked.
 
 use std::test::Fail;
 use vx_array::ArrayRef;
@@ -6,7 +6,7 @@ use vx_base::Nullability::{NonNullable, Nullable};
 use vx_base::{DType, Mask, Scalar};
 use vx_fixtures::{accepted, bits};
 
-// Whether the tree has these truth values, None at a null.
+// Whether the tree has these truth values, None of null.
 fn has_truths(array: &ArrayRef, truths: &[Option<bool>]) -> bool {
     if !matches!(array.dtype(), DType::Bool(_)) || array.len() != truths.len() as u64 {
         return false;
@@ -44,7 +44,7 @@ fn a_masked_constant_is_made_plain(rt: HostRuntime) -> Result<(), Fail> {
     let tree = ArrayRef::constant(Scalar::bool(true, Nullable), 2);
     let tree = accepted(ArrayRef::masked(rt.alloc(), tree, bits(rt.alloc(), &[false, true])?))?;
     let plain = tree.canonical(rt.alloc())?;
-    // A byte and one for the type, and a byte of validity.
+    // The constant's 2 bytes, and one of validity.
     assert!(rt; tree.nbytes() == 3 && plain.is_plain() && has_truths(&plain, &[None, Some(true)]));
     Ok(())
 }

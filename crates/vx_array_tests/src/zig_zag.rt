@@ -1,4 +1,4 @@
-//! Integers as their zigzag: each type, and the nulls of the child.
+//! Integers as their zigzag: each type, and nulls of the child.
 
 use std::alloc::Global;
 use std::test::Fail;
@@ -8,7 +8,7 @@ use vx_base::PType::{self, I8, I16, I32, I64, U8, U16, U32, U64};
 use vx_base::VortexResult;
 use vx_fixtures::{accepted, flat, has_rows, has_wholes, with_nulls};
 
-// Whether words of a type are the zigzags of these numbers of a signed type, and their plain tree has the numbers.
+// Whether these zigzags of an unsigned type stand for these numbers of a signed type, and so does their plain tree.
 fn are_zigzags(
     alloc: Global,
     (unsigned, signed): (PType, PType),

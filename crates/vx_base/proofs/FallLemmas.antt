@@ -1,4 +1,4 @@
--- What recursion over values, over types and over lists of them ends by: a part counts less than the whole.
+-- Measures by which recursion over values, types and lists of them ends: a part has a smaller one than the whole.
 use Rattle.std.proofs.Common.{◌≡◌, ◌<◌, ◌+◌, ℕ, zero, suc, List, [], ◌∷◌, length, map, get_or, arith}
 use Rattle.vx_base.specs.declared.dtype.DType.{DType}
 use Rattle.vx_base.specs.declared.dtype.Fields.{Fields}
@@ -10,7 +10,7 @@ use Rattle.vx_base.specs.PlainValue.{value_count, list_count}
 use Rattle.vx_base.specs.TypeOf.{type_of, value_of, field_of, fields_of}
 use Rattle.vx_base.proofs.FieldLemmas.{type_of-Struct}
 
--- how many types stand in a type, itself among them, and one more for each field
+-- the measure of a type: 1, and for each type inside its measure and 1 more for a field
 abbrev mutual
   pub type_count : PlainType → ℕ
   type_count null_type = 1
@@ -27,7 +27,7 @@ abbrev mutual
   fields_count none = 0
   fields_count (more name t fs) = suc (type_count t + fields_count fs)
 
--- how many types stand in a list of fields
+-- the measure of a list of fields
 abbrev pub field_list_count : List (List ℕ × PlainType) → ℕ
 field_list_count fs = fields_count (of_fields fs)
 

@@ -1,4 +1,4 @@
--- The equations of the plain data of types with fields.
+-- Types with fields as plain data.
 use Rattle.std.proofs.Common.{◌≡◌, ◌<◌, ℕ, List, [], ◌∷◌, map, length, get_or, refl, sym, ap, ◌∙◌, Option, Some, None, Bor, Box, Global, option_map, arith, false}
 use Rattle.std.proofs.lemmas.List.{get_or-map}
 use Rattle.std.specs.Option.{option_copied}
@@ -34,7 +34,7 @@ of_fields-list_of (more name t fs) = ap (more name t) (of_fields-list_of fs)
 pub of_fields_inj : (xs ys : List (List ℕ × PlainType)) → of_fields xs ≡ of_fields ys → xs ≡ ys
 of_fields_inj xs ys e = sym (list_of-of_fields xs) ∙ ap list_of_fields e ∙ list_of-of_fields ys
 
--- what stands at one place of two lists that f takes to one
+-- at each index, the items of two lists with equal images have equal images
 pub mapped_same : {A B : Type 0} (f : A → B) (xs ys : List A) (i : ℕ) (x y : A) → i < length xs → length xs ≡ length ys → x ≡ get_or xs i x → y ≡ get_or ys i y → map f xs ≡ map f ys → f x ≡ f y
 mapped_same f xs ys i x y h l ex ey e =
     ap f ex ∙ sym (get_or-map f xs i x (f x) h) ∙ ap (λ zs. get_or zs i (f x)) e ∙ get_or-map f ys i y (f x) (omega arith) ∙ sym (ap f ey)

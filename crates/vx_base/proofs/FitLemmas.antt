@@ -1,4 +1,4 @@
--- The default of a type fits it.
+-- The default of a type is of the type.
 use Rattle.std.proofs.Common.{◌≡◌, ◌∙◌, ap, ℕ, zero, suc, [], length, true, pos, refl, eq-eqb}
 use Rattle.std.specs.Prelude.{◌==◌, replicate}
 use Rattle.std.proofs.lemmas.Bool.{and_from, cond_both}
@@ -23,7 +23,7 @@ lies_in-zero I16 = refl
 lies_in-zero I32 = refl
 lies_in-zero I64 = refl
 
--- as many equal values as a list of fixed size has items
+-- `size` equal values, for a list of fixed size
 items_fit-replicate : (t : PlainType) (v : PlainValue) (n : ℕ) → fits t v ≡ true → items_fit t (of_list (replicate n v)) ≡ true
 items_fit-replicate t v zero h = refl
 items_fit-replicate t v (suc n) h = and_from _ _ h (items_fit-replicate t v n h)

@@ -1,4 +1,4 @@
--- The rows of ranges under a function, and which ranges are parts.
+-- Gathering commutes with a function on rows, and which ranges are in bounds.
 use Rattle.std.proofs.Common.{◌≡◌, ℕ, List, [], ◌∷◌, ◌++◌, map, refl, ◌∙◌}
 use Rattle.std.proofs.lemmas.List.{map-append, take-map, drop-map}
 use Rattle.vx_base.specs.Masks.{rows_between}

@@ -31,12 +31,12 @@ cleared_bit_by n k i within inside false e = ap (λ b. b == 1) (bit_at_clear_oth
 pub cleared_bit : (n k i : ℕ) → k < 32 → i < 32 → (bit_at (bit_and n (4294967295 - 1 * 2 ^ k % 4294967296)) i == 1) ≡ (not (i == k) && (bit_at n i == 1))
 cleared_bit n k i within inside = cleared_bit_by n k i within inside (i == k) refl
 
--- the ids of a list have the places from this one on, one after another
+-- the ids of a list have consecutive numbers from this one on
 abbrev are_numbered : ℕ → List ArrayId → Bool
 are_numbered from [] = true
 are_numbered from (x ∷ xs) = (id_number x == from) && are_numbered (from + 1) xs
 
--- each place of the list has an id
+-- each number has an id in the list
 at_place : (from : ℕ) (xs : List ArrayId) → are_numbered from xs ≡ true → (i : ℕ) → i < length xs → (id : ArrayId) × (id_number id ≡ from + i)
 at_place from [] numbered i within = absurd (omega arith)
 at_place from (x ∷ xs) numbered zero within =
@@ -50,14 +50,14 @@ at_place from (x ∷ xs) numbered (suc i) within =
 same_bit : (a b : ℕ) → a < 2 → b < 2 → (a == 1) ≡ (b == 1) → a ≡ b
 same_bit a b p q e = grind (arith, nat_tests)
 
--- sets with the same ids have the same bit at each place
+-- sets with the same ids have the same bits
 same_at : (a b : IdSet) → ((id : ArrayId) → holds a id ≡ holds b id) → (i : ℕ) → i < 23 → bit_at a.bits i ≡ bit_at b.bits i
 same_at a b same i within =
     let found : (id : ArrayId) × (id_number id ≡ 0 + i) = at_place 0 every_id refl i within in
     let place : id_number found.0 ≡ i = found.1 ∙ zero-add i in
     same_bit (bit_at a.bits i) (bit_at b.bits i) (bit_at-lt a.bits i) (bit_at-lt b.bits i) (subst (λ n. (bit_at a.bits n == 1) ≡ (bit_at b.bits n == 1)) place (same found.0))
 
--- where an id stands among the members
+-- the member at an id's number
 member-at : (set : IdSet) (id : ArrayId) → slice_index_or (members set) (id_number id) false ≡ holds set id
 member-at set id = grind arith
 

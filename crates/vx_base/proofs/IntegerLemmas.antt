@@ -1,4 +1,4 @@
--- Integer types and their values: what such a type looks like, and that each value that fits it is null or an integer.
+-- Integer types and their values, each of which is null or an integer.
 use Rattle.std.proofs.Common.{◌≡◌, ◌≤◌, ℕ, zero, suc, ℤ, pos, List, [], ◌∷◌, map, length, true, false, refl, subst, arith, Some, None}
 use Rattle.std.specs.Prelude.{Option, not, slice_index_or, unwrap_or}
 use Rattle.std.specs.List.{list_all, cons_option}
@@ -25,7 +25,7 @@ pub integer-is_leaf : (t : PlainType) → is_integer t ≡ true → is_leaf t �
 integer-is_leaf (primitive p n) h = refl
 integer-is_leaf t h = absurd cc
 
--- a type that a whole number fits is an integer type, or one of timestamps
+-- a type with whole numbers is an integer or a timestamp type
 pub integer-fitted : (t : PlainType) (z : ℤ) → is_timestamp t ≡ false → fits t (int z) ≡ true → is_integer t ≡ true
 integer-fitted (primitive p n) z s h = refl
 integer-fitted t z s h = absurd cc
@@ -46,13 +46,13 @@ by_cells p n P each vs h =
     let Q : List PlainValue → Type 0 = λ ws. list_all (fits (primitive p n)) ws ≡ true → P ws in
     subst Q (cells-integer_in p n vs h) (each (map integer_in vs)) h
 
--- a row of values that fit is null or an integer
+-- each row of fitting values is null or an integer
 pub row-integer_in : (p : PType) (n : Nullability) (vs : List PlainValue) (i : ℕ) → list_all (fits (primitive p n)) vs ≡ true → cell (integer_in (slice_index_or vs i null)) ≡ slice_index_or vs i null
 row-integer_in p n [] i h = refl
 row-integer_in p n (v ∷ vs) zero h = cell-integer_in (primitive p n) v refl (and_parts (fits (primitive p n) v) (list_all (fits (primitive p n)) vs) h).0
 row-integer_in p n (v ∷ vs) (suc i) h = row-integer_in p n vs i (and_parts (fits (primitive p n) v) (list_all (fits (primitive p n)) vs) h).1
 
--- the whole number of a value is the integer that it is, and 0 where it is none
+-- `whole_or_zero` of a value is its integer, 0 where it has none
 pub whole-integer_in : (v : PlainValue) → whole_or_zero v ≡ unwrap_or (integer_in v) (pos 0)
 whole-integer_in (int z) = refl
 whole-integer_in v = refl
@@ -67,7 +67,7 @@ integers-few (v ∷ vs) = by_option (integer_in v) (integers-few vs)
     by_option None few = omega arith
     by_option (Some z) few = omega arith
 
--- those of values that fit lie in the type
+-- the integers among fitting values are in the range of the type
 pub integers-lie_in : (p : PType) (n : Nullability) (vs : List PlainValue) → list_all (fits (primitive p n)) vs ≡ true → list_all (lies_in p) (integers_in vs) ≡ true
 integers-lie_in p n = by_cells p n (λ ws. list_all (lies_in p) (integers_in ws) ≡ true) of_cells
   where
@@ -76,7 +76,7 @@ integers-lie_in p n = by_cells p n (λ ws. list_all (lies_in p) (integers_in ws)
     of_cells (None ∷ os) h = of_cells os (and_parts (fits (primitive p n) null) (list_all (fits (primitive p n)) (map cell os)) h).1
     of_cells (Some z ∷ os) h = let b = and_parts (lies_in p z) (list_all (fits (primitive p n)) (map cell os)) h in and_from _ _ b.0 (of_cells os b.1)
 
--- where not all that fit are null there is one
+-- fitting values that aren't all null have an integer among them
 pub integers-some : (p : PType) (n : Nullability) (vs : List PlainValue) → list_all (fits (primitive p n)) vs ≡ true → list_all is_null vs ≡ false → 1 ≤ length (integers_in vs)
 integers-some p n = by_cells p n (λ ws. list_all is_null ws ≡ false → 1 ≤ length (integers_in ws)) (λ os h. of_cells os)
   where

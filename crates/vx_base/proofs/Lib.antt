@@ -1,5 +1,6 @@
 pub mod BytesLemmas
 pub mod CellLemmas
+pub mod DigitsLemmas
 pub mod FallLemmas
 pub mod FieldLemmas
 pub mod FitLemmas

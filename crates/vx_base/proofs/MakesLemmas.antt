@@ -10,12 +10,12 @@ pub MakesSurely_ok : {T U : Type 0} (r : Option VortexError) (made : U) (inputs 
 MakesSurely_ok None made inputs a h = h
 MakesSurely_ok (Some e) made inputs a h = absurd h
 
--- where nothing is refused, a constructor that takes no memory makes its value
+-- without a refusal, a constructor that allocates nothing makes its value
 pub MakesSurely_err : {T U : Type 0} (r : Option VortexError) (made : U) (inputs : T) (f : Refused T) → r ≡ None → MakesSurely r made inputs (Err f) → ⊥
 MakesSurely_err None made inputs f e h = h
 MakesSurely_err (Some x) made inputs f e h = absurd cc
 
--- the same of a constructor that takes memory
+-- without a refusal, a constructor that allocates makes its value or answers NoMemory
 pub Makes_ok : {T U : Type 0} (r : Option VortexError) (made : U) (inputs : T) (a : U) → Makes r made inputs (Ok a) → a ≡ made
 Makes_ok None made inputs a h = h
 Makes_ok (Some e) made inputs a h = absurd h

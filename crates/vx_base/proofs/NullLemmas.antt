@@ -1,4 +1,4 @@
--- Which values are null, whatever the others are.
+-- Which values are null.
 use Rattle.std.proofs.Common.{◌≡◌, Bool, List, [], ◌∷◌, length, map, true, false, refl}
 use Rattle.std.specs.Prelude.{◌||◌, not, replicate}
 use Rattle.std.specs.List.{list_all, list_any}
@@ -7,7 +7,7 @@ use Rattle.vx_base.specs.PlainScalar.{fits}
 use Rattle.vx_base.specs.PlainType.{PlainType, is_nullable}
 use Rattle.vx_base.specs.PlainValue.{PlainValue, null, truth, int, bytes, items, is_null, same_value}
 
--- a value is null, or is none
+-- a value is null or not
 pub by_null : (P : PlainValue → Type 0) → P null → ((v : PlainValue) → is_null v ≡ false → P v) → (v : PlainValue) → P v
 by_null P at_null other null = at_null
 by_null P at_null other (truth b) = other (truth b) refl
@@ -18,7 +18,7 @@ by_null P at_null other (items vs) = other (items vs) refl
 pub null-is : (v : PlainValue) → is_null v ≡ true → null ≡ v
 null-is = by_null (λ v. is_null v ≡ true → null ≡ v) (λ e. refl) (λ v f e. absurd cc)
 
--- a value is the same as null where it is null
+-- a value equals null where it is null
 pub same-null : (v : PlainValue) → same_value v null ≡ is_null v
 same-null null = refl
 same-null (truth b) = refl
@@ -45,7 +45,7 @@ null-fitted t (v ∷ vs) h some = let b = and_parts (fits t v) (list_all (fits t
         by_null (λ w. fits t w ≡ true → (is_null w || list_any is_null vs) ≡ true → (list_any is_null vs ≡ true → is_nullable t ≡ true) → is_nullable t ≡ true)
         (λ k q later. k) (λ w e k q later. later (rw e at q))
 
--- truth values that tell which values aren't null are all true where none is
+-- the validity of values is all true where no value is null
 pub all-not_null : (vs : List PlainValue) → list_all (λ bit. bit) (map (λ v. not (is_null v)) vs) ≡ not (list_any is_null vs)
 all-not_null [] = refl
 all-not_null (v ∷ vs) = by_test (is_null v) (all-not_null vs)

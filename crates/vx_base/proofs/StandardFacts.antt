@@ -2,6 +2,7 @@
 use Rattle.std.proofs.Common.{ap}
 use Rattle.std.specs.Prelude.{◌≡◌, ◌∷◌, [], ◌++◌, ◌&&◌, ℕ, List, map, true, false, Some, None, pos, negsuc, codes, refl}
 use Rattle.std.specs.Fmt.{digits}
+use Rattle.std.specs.Hash as fed
 use Rattle.std.specs.Str.{is_utf8, chars}
 use Rattle.hex.proofs.OnLiterals.{hex_on_literals}
 use Rattle.json.proofs.OnLiterals.{json_on_literals}
@@ -11,11 +12,13 @@ use Rattle.vx_base.specs.declared.error.VortexError.TheVariants.{MismatchedTypes
 use Rattle.vx_base.specs.declared.timestamp.TimeUnit.TheVariants.{Nanoseconds, Microseconds, Milliseconds, Seconds, Days}
 use Rattle.vx_base.specs.Casts.{cast_refusal}
 use Rattle.vx_base.specs.Defaults.{null_or_default}
+use Rattle.vx_base.specs.Digits as binary
 use Rattle.vx_base.specs.PlainScalar.{fits}
 use Rattle.vx_base.specs.PlainType.{PlainType, null_type, boolean, primitive, utf8, binary, timestamp, structure, list, fixed_size_list, of_fields, is_leaf, is_flat, same_base}
-use Rattle.vx_base.specs.PlainValue.{null, truth, int, bytes, items, of_list, is_short, has_short}
+use Rattle.vx_base.specs.PlainValue.{PlainValue, null, truth, int, bytes, items, of_list, is_short, has_short}
 use Rattle.vx_base.specs.Timestamps.{PlainTimestamp, kind, divides}
 use Rattle.vx_base.specs.TypeText.{type_text, value_text}
+use Rattle.vx_base.specs.Writes.{value_writes}
 
 abbrev plain_seconds : PlainTimestamp
 plain_seconds = kind Seconds None
@@ -48,15 +51,15 @@ texts_of_types = refl
 pub units : map divides (Nanoseconds ∷ Microseconds ∷ Milliseconds ∷ Seconds ∷ Days ∷ []) ≡ true ∷ true ∷ true ∷ true ∷ false ∷ []
 units = refl
 
--- a timestamp's values hold no others, and its type is no leaf type
+-- timestamps are flat, and no leaf type
 pub leaves : (is_leaf (binary Nullable) ≡ true) × (is_leaf (timestamp zoned Nullable) ≡ false) × (is_flat (timestamp zoned Nullable) ≡ true)
 leaves = (refl, refl, refl)
 
--- the zone belongs to the base, nullability doesn't
+-- the base has the zone, and not the outermost nullability
 pub bases : (same_base (timestamp zoned Nullable) (timestamp zoned NonNullable) ≡ true) × (same_base (timestamp zoned Nullable) (timestamp (kind Microseconds None) Nullable) ≡ false) × (same_base (utf8 Nullable) (binary Nullable) ≡ false)
 bases = (refl, refl, refl)
 
--- names, sizes and the nullability of the types within belong to the base, nullability without doesn't
+-- the base has names, sizes and the nullability of types within, and not the outermost nullability
 pub nested_bases :
     (same_base pair (structure (of_fields ((codes "a", primitive U8 NonNullable) ∷ (codes "b", utf8 Nullable) ∷ [])) Nullable) ≡ true)
     × (same_base pair (structure (of_fields ((codes "a", primitive U8 NonNullable) ∷ (codes "c", utf8 Nullable) ∷ [])) NonNullable) ≡ false)
@@ -70,7 +73,7 @@ nested_leaves = refl
 
 -- ---- values
 
--- bool holds no number, a timestamp every number of 64 signed bits and no other
+-- a number is no bool; timestamps are exactly the numbers of 64 signed bits
 pub fits-numbers :
     (fits (boolean NonNullable) (int (pos 1)) ≡ false) × (fits (timestamp zoned NonNullable) (int (negsuc 9_223_372_036_854_775_807)) ≡ true)
     × (fits (timestamp zoned NonNullable) (int (pos 9_223_372_036_854_775_808)) ≡ false) × (fits (utf8 NonNullable) (int (pos 7)) ≡ false)
@@ -90,7 +93,7 @@ pub fits-texts :
 unfolding is_utf8 chars lib.Utf8.encode
 fits-texts = refl
 
--- a struct has a value for each field, none more or fewer; a list of three has three; each fits its type
+-- a struct has one value per field, a list of three three items, and each is of its type
 pub fits-nested :
     map (fits pair) (items (of_list (int (pos 7) ∷ null ∷ [])) ∷ items (of_list (int (pos 7) ∷ [])) ∷ items (of_list (int (pos 7) ∷ null ∷ null ∷ [])) ∷ items (of_list (null ∷ null ∷ [])) ∷ null ∷ [])
     ≡ true ∷ false ∷ false ∷ false ∷ false ∷ []
@@ -102,7 +105,7 @@ pub fits-lists :
     × (map (fits null_type) (null ∷ int (pos 0) ∷ items (of_list []) ∷ []) ≡ true ∷ false ∷ false ∷ [])
 fits-lists = (refl, refl, refl)
 
--- a long text within a list within a list is seen
+-- a text of 2^32 bytes two lists deep is found
 pub short_within : (bs : List ℕ) → is_short bs ≡ false → has_short (items (of_list (null ∷ items (of_list (bytes bs ∷ [])) ∷ []))) ≡ false
 short_within bs e = ap (λ b. (b && true) && true) e
 
@@ -134,6 +137,25 @@ pub defaults :
     map null_or_default (boolean NonNullable ∷ primitive I32 Nullable ∷ primitive I32 NonNullable ∷ utf8 NonNullable ∷ timestamp zoned NonNullable ∷ [])
     ≡ truth false ∷ null ∷ int (pos 0) ∷ bytes [] ∷ int (pos 0) ∷ []
 defaults = refl
+
+-- ---- binary digits
+
+-- 0 has none, and 2^k is the least number of k + 1
+pub binary_digits : map binary.digits (0 ∷ 1 ∷ 2 ∷ 3 ∷ 4 ∷ 255 ∷ 256 ∷ 18_446_744_073_709_551_615 ∷ 18_446_744_073_709_551_616 ∷ []) ≡ 0 ∷ 1 ∷ 2 ∷ 2 ∷ 3 ∷ 8 ∷ 9 ∷ 64 ∷ 65 ∷ []
+binary_digits = refl
+
+-- ---- hashes
+
+-- [[], null] and [[null]] hold the same kinds in the same order, and differ in the numbers of values
+abbrev empty_then_null : PlainValue
+empty_then_null = items (of_list (items (of_list []) ∷ null ∷ []))
+
+abbrev null_within : PlainValue
+null_within = items (of_list (items (of_list (null ∷ [])) ∷ []))
+
+pub nested_hashes :
+    (value_writes empty_then_null ≡ fed.u8 4 ++ fed.u64 2 ++ fed.u8 4 ++ fed.u64 0 ++ fed.u8 0) × (value_writes null_within ≡ fed.u8 4 ++ fed.u64 1 ++ fed.u8 4 ++ fed.u64 1 ++ fed.u8 0)
+nested_hashes = (refl, refl)
 
 -- ---- casts
 

@@ -1,4 +1,4 @@
--- What one more value or field does, in loops over values and fields of which the rest is left.
+-- One step of a loop over values or fields, of which the rest is still to come.
 use Rattle.std.proofs.Common.{◌≡◌, ◌∙◌, ◌<◌, ◌+◌, ◌++◌, ◌&&◌, ◌∷◌, ℕ, List, true, length, map, get_or, drop, sym, ap, append_assoc}
 use Rattle.std.specs.Prelude.{codes}
 use Rattle.std.proofs.lemmas.Bool.{and_parts}
@@ -44,7 +44,7 @@ field_values_text_more before fs vs i f v h k e =
     ∙ at_drop_more (λ ws. field_values_text before (of_fields (field_of (get_or fs i f) ∷ map field_of (drop (i + 1) fs))) (of_list (map value_of ws))) vs i v k
     ∙ ap (λ w. before ++ value_text (type_of (get_or fs i f).1) (value_of w) ++ field_values_text (codes ",") (of_fields (map field_of (drop (i + 1) fs))) (of_list (map value_of (drop (i + 1) vs)))) (sym e)
 
--- a text to which a part of what is left has been added
+-- a text to which the first part of the rest has been appended
 pub written_more : (new pushed text before part rest left total : List ℕ) → new ≡ pushed ++ part → pushed ≡ text ++ before → left ≡ before ++ part ++ rest → text ++ left ≡ total → new ++ rest ≡ total
 written_more new pushed text before part rest left total a b c d =
     let same : text ++ before ++ part ++ rest ≡ text ++ (before ++ part ++ rest) = simp append_assoc in

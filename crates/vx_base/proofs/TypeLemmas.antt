@@ -11,7 +11,7 @@ pub allows_null-is : (n : Nullability) → allows_null n ≡ true → n ≡ Null
 allows_null-is NonNullable h = absurd cc
 allows_null-is Nullable h = refl
 
--- of every type but that of nulls alone, so of the flat ones
+-- for every type but the null type, so for the flat ones
 pub nullability_of-with : (t : PlainType) (n : Nullability) → is_flat t ≡ true → nullability_of (with_nullability t n) ≡ n
 nullability_of-with (boolean m) n h = refl
 nullability_of-with (primitive p m) n h = refl
@@ -20,7 +20,7 @@ nullability_of-with (binary m) n h = refl
 nullability_of-with (timestamp k m) n h = refl
 nullability_of-with t n h = absurd cc
 
--- where nulls are to be allowed they are, of nulls alone too
+-- a type made nullable is nullable, the null type too
 pub is_nullable-with : (t : PlainType) (n : Nullability) → allows_null n ≡ true → is_nullable (with_nullability t n) ≡ true
 is_nullable-with null_type n h = refl
 is_nullable-with (boolean m) n h = h
@@ -43,7 +43,7 @@ default_of-with (structure fs m) n = refl
 default_of-with (list t m) n = refl
 default_of-with (fixed_size_list t size m) n = refl
 
--- a value that isn't null fits the one where it fits the other
+-- a value other than null is of both or of neither
 pub fits-with : (t : PlainType) (n : Nullability) (v : PlainValue) → is_null v ≡ false → fits (with_nullability t n) v ≡ fits t v
 fits-with t n null e = absurd cc
 fits-with (boolean m) n v e = refl

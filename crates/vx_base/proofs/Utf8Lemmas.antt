@@ -1,4 +1,4 @@
--- The test of UTF-8, and that a text is.
+-- The test of UTF-8, and that texts pass it.
 use Rattle.std.proofs.Common.{◌≡◌, ℕ, List, true, false, Bool, refl, sym}
 use Rattle.std.specs.Prelude.{IsUtf8, Result, Ok, Err, MatchResult, is_ok}
 use Rattle.std.specs.Str.{is_utf8}
@@ -16,16 +16,16 @@ is_utf8-false bs h = by_test (is_utf8 bs) (λ e. h (IsUtf8-from_is_utf8 bs e))
     by_test true f = absurd (f refl)
     by_test false f = refl
 
--- bytes that are UTF-8 where reading them as text goes well
+-- bytes that read as text are UTF-8
 pub is_ok-utf8 : {T E : Type 0} (bs : List ℕ) (P : T → Type 0) (Q : E → Type 0) (r : Result T E) → MatchResult r (λ s. P s × IsUtf8 bs) (λ e. (IsUtf8 bs → ⊥) × Q e) → is_ok r ≡ is_utf8 bs
 is_ok-utf8 bs P Q (Ok s) h = sym (is_utf8-from_IsUtf8 bs h.1)
 is_ok-utf8 bs P Q (Err e) h = sym (is_utf8-false bs h.0)
 
--- a short text fits its type
+-- a text of fewer than 2^32 bytes is of the text type
 pub fits-utf8 : (n : Nullability) (bs : List ℕ) → is_short bs ≡ true → IsUtf8 bs → fits (utf8 n) (bytes bs) ≡ true
 fits-utf8 n bs short text = and_from _ _ short (is_utf8-from_IsUtf8 bs text)
 
--- bytes that fit a text type are UTF-8
+-- the bytes of a text type are UTF-8
 pub utf8-fitted : (t : PlainType) (v : PlainValue) (n : Nullability) (bs : List ℕ) → fits t v ≡ true → t ≡ utf8 n → v ≡ bytes bs → IsUtf8 bs
 utf8-fitted t v n bs h e f =
     let held : fits (utf8 n) (bytes bs) ≡ true = rw (e, f) at h in

@@ -1,4 +1,4 @@
--- The values within a value and the fields within a type: as lists, and under the tests of specs.
+-- Values within values and fields within types, as lists.
 use Rattle.std.proofs.Common.{◌≡◌, ◌∙◌, ℕ, suc, ℤ, Bool, true, false, List, [], ◌∷◌, length, refl, sym, ap, eq-eqb}
 use Rattle.std.specs.Prelude.{◌&&◌, ◌==◌}
 use Rattle.std.proofs.lemmas.Bool.{and_parts, eqb-true}
@@ -62,7 +62,7 @@ fits-of_length t size n vs e = fits-fixed_size_list t size n vs ∙ ap (λ b. b 
 pub fits-other_length : (t : PlainType) (size : ℕ) (n : Nullability) (vs : List PlainValue) → (length vs ≡ size → ⊥) → fits (fixed_size_list t size n) (items (of_list vs)) ≡ false
 fits-other_length t size n vs h = fits-fixed_size_list t size n vs ∙ ap (λ b. b && list_fits t vs) (eqb_none (length vs) size h)
 
--- values that fit fields one by one are as many
+-- values that fit fields are as many as the fields
 pub fields_fit-length : (fs : List (List ℕ × PlainType)) (vs : List PlainValue) → field_list_fits fs vs ≡ true → length fs ≡ length vs
 fields_fit-length [] [] h = refl
 fields_fit-length [] (v ∷ vs) h = absurd cc
@@ -74,7 +74,7 @@ fields_fit-other_length fs vs h = none_of (field_list_fits fs vs) (λ e. h (fiel
 
 -- ---- values of flat types
 
--- a value that holds others fits no flat type
+-- no flat type has a value that holds others
 pub flat-no_items : (t : PlainType) (vs : PlainValues) → is_flat t ≡ true → fits t (items vs) ≡ false
 flat-no_items (boolean n) vs f = refl
 flat-no_items (primitive p n) vs f = refl
@@ -83,7 +83,7 @@ flat-no_items (binary n) vs f = refl
 flat-no_items (timestamp k n) vs f = refl
 flat-no_items t vs f = absurd cc
 
--- what holds of null, truth values, integers and bytes holds of every value that fits a flat type
+-- what holds of null, truth values, integers and bytes holds of every value of a flat type
 pub by_flat : (P : PlainValue → Type 0) → P null → ((b : Bool) → P (truth b)) → ((z : ℤ) → P (int z)) → ((bs : List ℕ) → P (bytes bs)) → (t : PlainType) (v : PlainValue) → is_flat t ≡ true → fits t v ≡ true → P v
 by_flat P at_null at_truth at_int at_bytes t null f h = at_null
 by_flat P at_null at_truth at_int at_bytes t (truth b) f h = at_truth b

@@ -1,4 +1,4 @@
--- A sum in a type by the low bits of a sum of words.
+-- Wrapping sums and differences, from the low bits of those of 64-bit words.
 use Rattle.std.proofs.Common.{◌≡◌, ◌<◌, ◌+◌, ◌-◌, ◌*◌, ◌/◌, ◌%◌, ◌^◌, ◌∙◌, ◌≤◌, ℕ, ℤ, pos, negsuc, true, refl, sym, ap, subst, arith}
 use Rattle.std.specs.Prelude.{◌+ℤ◌, ◌-ℤ◌, unsigned_abs}
 use Rattle.std.specs.Int.{int_rem_euclid}
@@ -16,12 +16,12 @@ use Rattle.vx_base.proofs.WrapSumLemmas.{low_bits-add, low_bits-back, low_bits-n
 below_all : (p : PType) (n : ℕ) → n < 2 ^ natural_bits p → n < 2 ^ bits_of p
 below_all p n h = let l = naturals-le (is_signed p) (2 ^ bits_of p) (2 ^ natural_bits p) (split_of p) in omega arith
 
--- the low bits of a number of the type are its bits
+-- the low bits of a value are its two's complement
 pub low_bits-bits : (p : PType) (z : ℤ) → lies_in p z ≡ true → low_bits p z ≡ bits_in p z
 low_bits-bits p (pos n) h = mod-eq_of_lt (below_all p n (ltb-true _ _ h))
 low_bits-bits p (negsuc n) h = ap (λ k. 2 ^ bits_of p - 1 - k) (mod-eq_of_lt (below_all p n (ltb-true _ _ (and_parts _ _ h).1)))
 
--- the rest by a divisor of a product, from the rest by the product
+-- n modulo a, from n modulo a * b
 pub mod-of-mod : (y m k : ℕ) → y % (m * k) % m ≡ y % m
 mod-of-mod y m k =
     let q = y / (m * k) in
@@ -52,7 +52,7 @@ wrap-bits p reference n h =
 
 pub ruleset wrap_words = (wrap-bits, low_bits-bits)
 
--- ---- the same of a difference
+-- ---- differences
 
 turned : (all k c r x z : ℕ) → all * c + z ≡ r + x → c ≤ k → r ≤ all * k → z + (all * k - r) ≡ all * (k - c) + x
 turned all k c r x z e h room = let parts : k ≡ c + (k - c) = omega arith in by_rest (k - c) (ap (λ n. all * n) parts)

@@ -1,4 +1,4 @@
--- A wrapped number lies in the type, and a number that lies there stays.
+-- Wrapping yields a value of the type, and leaves the values of the type as they are.
 use Rattle.std.proofs.Common.{◌≡◌, ◌<◌, ◌≤◌, ◌+◌, ◌-◌, ◌%◌, ◌^◌, ◌∙◌, ℕ, suc, ℤ, pos, negsuc, Bool, true, false, refl, ap, arith}
 use Rattle.std.specs.Prelude.{nat_lt, unsigned_abs}
 use Rattle.std.specs.Int.{int_rem_euclid}
@@ -10,7 +10,7 @@ use Rattle.vx_base.specs.declared.ptype.PType.TheVariants.{U8, U16, U32, U64, I8
 use Rattle.vx_base.specs.Integers.{bits_of, natural_bits, is_signed, lies_in, unsigned_of}
 use Rattle.vx_base.specs.Wrapping.{low_bits, from_bits, wrap}
 
--- an unsigned type has as many natural numbers as bit patterns, a signed one half as many
+-- 2^natural_bits is all bit patterns of an unsigned type, and half of those of a signed one
 abbrev pub IsSplit : Bool → ℕ → ℕ → Type 0
 IsSplit true all naturals = all ≡ naturals + naturals
 IsSplit false all naturals = all ≡ naturals
@@ -36,9 +36,9 @@ rem-lt (negsuc a) n h = omega arith
 pub low_bits-lt : (p : PType) (z : ℤ) → low_bits p z < 2 ^ bits_of p
 low_bits-lt p z = rem-lt z (2 ^ bits_of p) (pow_pos (bits_of p))
 
--- ---- the values are the type's
+-- ---- wrapping yields a value of the type
 
--- bits beyond the natural numbers stand in a signed type alone, and are those of its negative numbers
+-- only signed types have bit patterns of 2^natural_bits or more, and they are the negative values
 below_zero : (s : Bool) (all naturals n : ℕ) → IsSplit s all naturals → naturals ≤ n → n < all → (s ≡ true) × (all - suc n < naturals)
 below_zero true all naturals n h l m = (refl, omega arith)
 below_zero false all naturals n h l m = absurd (omega arith)
@@ -51,7 +51,7 @@ from_bits-held p n h =
 pub wrap-held : (p : PType) (z : ℤ) → lies_in p (wrap p z) ≡ true
 wrap-held p z = from_bits-held p (low_bits p z) (low_bits-lt p z)
 
--- ---- what lies in the type stays
+-- ---- values of the type stay as they are
 
 from_natural : (naturals all m n : ℕ) → n < naturals → naturals ≤ all → m ≡ n % all → (m ≡ n) × (nat_lt m naturals ≡ true)
 from_natural naturals all m n h l e =
@@ -75,7 +75,7 @@ wrap-same p (negsuc n) h =
     let f = from_negative (is_signed p) (2 ^ natural_bits p) (2 ^ bits_of p) n (split_of p) b.0 (ltb-true _ _ b.1) in
     cond-false _ _ _ f.1 ∙ ap negsuc f.0
 
--- ---- in an unsigned type it is the low bits
+-- ---- in an unsigned type wrapping takes the low bits
 
 pub wrap-unsigned : (p : PType) (z : ℤ) → wrap (unsigned_of p) z ≡ pos (low_bits p z)
 wrap-unsigned U8 z = cond-true _ _ _ (lt-ltb _ _ (low_bits-lt U8 z))

@@ -1,4 +1,4 @@
--- Sums and differences that wrap, by their bits; and that a difference and its reference give the number back.
+-- Wrapping sums and differences by their bits, and that reference plus difference is the number.
 use Rattle.std.proofs.Common.{◌≡◌, ◌<◌, ◌≤◌, ◌+◌, ◌-◌, ◌*◌, ◌%◌, ◌^◌, ◌∙◌, ℕ, suc, ℤ, pos, negsuc, true, refl, sym, ap, arith}
 use Rattle.std.specs.Prelude.{◌+ℤ◌, ◌-ℤ◌, unsigned_abs}
 use Rattle.std.specs.Int.{int_rem_euclid}
@@ -10,7 +10,7 @@ use Rattle.vx_base.specs.Integers.{bits_of, lies_in, unsigned_of}
 use Rattle.vx_base.specs.Wrapping.{low_bits, from_bits, wrap}
 use Rattle.vx_base.proofs.WrapLemmas.{low_bits-lt, wrap-same, wrap-unsigned}
 
--- a whole number and some times n are a natural number
+-- a whole number plus some multiple of n is a natural number
 record IsLifted (z : ℤ) (n : ℕ) : Type 0 where
   times : ℕ
   total : ℕ
@@ -40,7 +40,7 @@ low_bits-natural p n h = mod-eq_of_lt h
 pub low_bits-back : (p : PType) (a b : ℤ) → low_bits p (a +ℤ pos (low_bits p b)) ≡ low_bits p (a +ℤ b)
 low_bits-back p a b = low_bits-add p a (pos (low_bits p b)) ∙ ap (λ n. (low_bits p a + n) % 2 ^ bits_of p) (low_bits-natural p (low_bits p b) (low_bits-lt p b)) ∙ sym (low_bits-add p a b)
 
--- the wrapped difference from a reference, moved by it
+-- the wrapped sum of a reference and the wrapped difference from it
 pub wrap-back : (p : PType) (reference z : ℤ) → lies_in p z ≡ true → wrap p (reference +ℤ wrap (unsigned_of p) (z -ℤ reference)) ≡ z
 wrap-back p reference z h =
     let same : reference +ℤ (z -ℤ reference) ≡ z = omega (arith, ints) in

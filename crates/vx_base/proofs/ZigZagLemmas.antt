@@ -1,4 +1,4 @@
--- Zigzag and back, and where the numbers lie.
+-- Zigzag and its inverse, and their ranges.
 use Rattle.std.proofs.Common.{◌≡◌, ◌<◌, ◌+◌, ◌-◌, ◌*◌, ◌/◌, ◌%◌, ◌^◌, ◌∙◌, ℕ, ℤ, pos, negsuc, true, false, refl, sym, ap, subst, arith}
 use Rattle.std.specs.Prelude.{◌==◌, not, unsigned_abs}
 use Rattle.std.proofs.lemmas.Bool.{cond_both, cond-true, cond-false, and_parts, eq-eqb, ne_eqb, lt-ltb, ltb-true}
@@ -22,7 +22,7 @@ pub unzigzag-zigzag : (v : ℤ) → unzigzag (zigzag v) ≡ v
 unzigzag-zigzag (pos n) = cond-true _ _ _ (eq-eqb _ _ (even n).0) ∙ ap pos (even n).1
 unzigzag-zigzag (negsuc n) = cond-false _ _ _ (odd_is_not_even n) ∙ ap negsuc (odd n).1
 
--- the half of a number below all bits of a type is one of the natural numbers of its signed type
+-- half of a number below 2^bits is in the range of the signed type
 pub unzigzag-held : (p : PType) (n : ℕ) → n < 2 ^ bits_of p → lies_in (signed_of p) (unzigzag n) ≡ true
 unzigzag-held p n h = cond_both (n % 2 == 0) (pos (n / 2)) (negsuc (n / 2)) (λ z. lies_in (signed_of p) z ≡ true) (λ e. natural p h) (λ e. negative p h)
   where
@@ -46,7 +46,7 @@ unzigzag-held p n h = cond_both (n % 2 == 0) (pos (n / 2)) (negsuc (n / 2)) (λ 
     negative I32 h = lt-ltb _ _ (omega arith)
     negative I64 h = lt-ltb _ _ (omega arith)
 
--- the zigzag of a number of a signed type is one of the unsigned type of its width
+-- the zigzag of a value of a signed type is in the range of the unsigned type of its width
 pub zigzag-held : (p : PType) (z : ℤ) → is_signed p ≡ true → lies_in p z ≡ true → lies_in (unsigned_of p) (pos (zigzag z)) ≡ true
 zigzag-held I8 (pos n) s h = lt-ltb _ _ (omega (arith, ltb-true _ _ h))
 zigzag-held I16 (pos n) s h = lt-ltb _ _ (omega (arith, ltb-true _ _ h))
@@ -61,7 +61,7 @@ zigzag-held U16 z s h = absurd cc
 zigzag-held U32 z s h = absurd cc
 zigzag-held U64 z s h = absurd cc
 
--- ---- the low bits of a word are those of its number
+-- ---- the low bits of a word
 
 low_bits-word : (p : PType) (n : ℕ) → n < 2 ^ natural_bits p → (2 ^ 64 - 1 - n) % 2 ^ bits_of p ≡ low_bits p (negsuc n)
 low_bits-word U8 n h = omega arith
@@ -77,7 +77,7 @@ pub from_bits-word : (p : PType) (z : ℤ) → lies_in p z ≡ true → from_bit
 from_bits-word p (pos n) h = wrap-same p (pos n) h
 from_bits-word p (negsuc n) h = ap (from_bits p) (low_bits-word p n (ltb-true _ _ (and_parts _ _ h).1)) ∙ wrap-same p (negsuc n) h
 
--- a word of an unsigned type, by its bits
+-- a value of an unsigned type from the low bits of a word
 pub word_bits : (p : PType) (z : ℤ) → not (is_signed p) ≡ true → lies_in p z ≡ true → (bits_in p z ≡ unsigned_abs z) × (unsigned_abs z < 2 ^ bits_of p)
 word_bits U8 (pos n) e h = (refl, ltb-true _ _ h)
 word_bits U16 (pos n) e h = (refl, ltb-true _ _ h)
@@ -101,7 +101,7 @@ from_bits-unzigzag p z e h =
 pub from_bits-zigzag : (p q : PType) (z : ℤ) → q ≡ unsigned_of p → is_signed p ≡ true → lies_in p z ≡ true → from_bits q (zigzag z % 2 ^ bits_of q) ≡ pos (zigzag z)
 from_bits-zigzag p q z e s h = subst (λ k. from_bits k (zigzag z % 2 ^ bits_of k) ≡ pos (zigzag z)) (sym e) (wrap-same (unsigned_of p) (pos (zigzag z)) (zigzag-held p z s h))
 
--- a signed type holds no more than 64 bits do
+-- a signed type has at most 64 bits
 pub lies_in-wide : (p : PType) (z : ℤ) → is_signed p ≡ true → lies_in p z ≡ true → lies_in I64 z ≡ true
 lies_in-wide I8 (pos n) s h = lt-ltb _ _ (omega (arith, ltb-true _ _ h))
 lies_in-wide I16 (pos n) s h = lt-ltb _ _ (omega (arith, ltb-true _ _ h))

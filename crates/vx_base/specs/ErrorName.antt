@@ -1,9 +1,9 @@
--- The name of each refusal.
+-- The name of each error.
 use Rattle.std.specs.Prelude.{ℕ, List, codes}
 use Rattle.vx_base.specs.declared.error.VortexError.{VortexError}
 use Rattle.vx_base.specs.declared.error.VortexError.TheVariants.{NoMemory, TooManyRows, MismatchedTypes, LengthMismatch, OutOfBounds, IndicesNotAscending, DayUnit, DaysOutOfRange, TimestampOutOfRange, PartsNotCanonical, CastRefused, ValueTooLong, DuplicateScheme, BadMetadata}
 
--- the name of an error, as it is printed
+-- the name that `Display` prints
 abbrev pub error_name : VortexError → List ℕ
 error_name NoMemory = codes "NoMemory"
 error_name TooManyRows = codes "TooManyRows"

@@ -1,4 +1,4 @@
--- The order of fractions is total, agrees with their equality, and is 'less' by products.
+-- The order of fractions is total and agrees with their equality and with `is_less`: all three cross-multiply.
 use Rattle.std.specs.Prelude.{◌≡◌, ℕ, ◌*◌, ◌<◌, Bool, true, false, cond, refl}
 use Rattle.std.proofs.Common.{ap, sym, subst, ◌∙◌, mul_right_comm, mul-lt-mul_of_pos_right}
 use Rattle.std.proofs.lemmas.Cmp.{nat_cmp_total, ranked, eq_by_cmp_equiv}
@@ -20,7 +20,7 @@ nat_cmp-scaled m n k p =
     one_rank (λ (x y : ℕ). x < y) below_irrefl below_chain (m * k) (n * k) (nat_cmp m n) (nat_cmp (m * k) (n * k))
     (scaled m n k p (nat_cmp m n) (ranked m n (nat_cmp m n) refl)) (ranked (m * k) (n * k) (nat_cmp (m * k) (n * k)) refl)
 
--- x and z compare as each does with y, once both sides have the factors of all three
+-- how x and z compare, with the factors of all three on both sides
 through : (x y z : Fraction) → fraction_cmp x z ≡ nat_cmp (cross x y * z.den) (cross z y * x.den)
 through x y z =
     nat_cmp-scaled (cross x z) (cross z x) y.den y.positive ∙
@@ -43,7 +43,7 @@ fraction_cmp_total = record {
   congr = λ x y z p. through x y z ∙ nat_cmp_total.congr (cross x y * z.den) (cross y z * x.den) (cross z y * x.den) (sym (before x y z) ∙ p) ∙ sym (after x y z);
 }
 
--- equal are exactly those that the order doesn't tell apart
+-- fractions are equal exactly where the order answers Equal
 pub same_fraction-cmp : (x y : Fraction) → same_fraction x y ≡ eq_by_cmp fraction_cmp x y
 same_fraction-cmp x y = unsigned_ties (cross x y) (cross y x)
 
@@ -58,6 +58,6 @@ is_lt-tested true same = refl
 is_lt-tested false true = refl
 is_lt-tested false false = refl
 
--- what comes before in the order is less
+-- the order answers Less exactly where `is_less` holds
 pub is_lt-fraction_cmp : (x y : Fraction) → is_lt (fraction_cmp x y) ≡ is_less x y
 is_lt-fraction_cmp x y = is_lt-tested (is_less x y) (same_fraction x y)

@@ -3,7 +3,7 @@ use Rattle.std.specs.Prelude.{ℕ, List, codes}
 use Rattle.vx_base.specs.declared.array_id.ArrayId.{ArrayId}
 use Rattle.vx_base.specs.declared.array_id.ArrayId.TheVariants as ids
 
--- the name of an encoding, as the listing has it
+-- the name of an encoding, which listings print
 abbrev pub id_name : ArrayId → List ℕ
 id_name ids.Null = codes "vortex.null"
 id_name ids.Bool = codes "vortex.bool"

@@ -1,9 +1,9 @@
--- The place of each encoding among all of them, from 0 to 22.
+-- The number of each encoding, from 0 to 22: the bit that stands for it in a set.
 use Rattle.std.specs.Prelude.{ℕ, Bool, ◌==◌, List, [], ◌∷◌}
 use Rattle.vx_base.specs.declared.array_id.ArrayId.{ArrayId}
 use Rattle.vx_base.specs.declared.array_id.ArrayId.TheVariants as ids
 
--- the place of an id
+-- the number of an id, in the order of the declaration
 abbrev pub id_number : ArrayId → ℕ
 id_number ids.Null = 0
 id_number ids.Bool = 1
@@ -29,13 +29,13 @@ id_number ids.Rle = 20
 id_number ids.ZigZag = 21
 id_number ids.Sequence = 22
 
--- every id, in the order of their places
+-- every id, by number
 abbrev pub every_id : List ArrayId
 every_id =
     ids.Null ∷ ids.Bool ∷ ids.Primitive ∷ ids.VarBinView ∷ ids.Struct ∷ ids.List ∷ ids.FixedSizeList ∷ ids.Timestamp ∷
     ids.Constant ∷ ids.Masked ∷ ids.Dict ∷ ids.VarBin ∷ ids.Sparse ∷ ids.DateTimeParts ∷ ids.RunEnd ∷ ids.BitPacked ∷
     ids.BitPackedV2 ∷ ids.FoR ∷ ids.FoRV2 ∷ ids.Delta ∷ ids.Rle ∷ ids.ZigZag ∷ ids.Sequence ∷ []
 
--- the two ids are one
+-- whether two ids are equal
 abbrev pub same_id : ArrayId → ArrayId → Bool
 same_id a b = id_number a == id_number b

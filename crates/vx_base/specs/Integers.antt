@@ -1,9 +1,9 @@
--- The integer types: their widths, and which whole numbers they hold.
+-- The integer types: widths and ranges.
 use Rattle.std.specs.Prelude.{ℕ, ◌-◌, ◌^◌, nat_lt, Bool, true, false, ◌&&◌, ℤ, pos, negsuc}
 use Rattle.vx_base.specs.declared.ptype.PType.{PType}
 use Rattle.vx_base.specs.declared.ptype.PType.TheVariants.{U8, U16, U32, U64, I8, I16, I32, I64}
 
--- how many bits a value takes
+-- the width in bits
 abbrev pub bits_of : PType → ℕ
 bits_of U8 = 8
 bits_of U16 = 16
@@ -14,7 +14,7 @@ bits_of I16 = 16
 bits_of I32 = 32
 bits_of I64 = 64
 
--- how many bytes a value takes
+-- the width in bytes
 abbrev pub bytes_of : PType → ℕ
 bytes_of U8 = 1
 bytes_of U16 = 2
@@ -25,7 +25,7 @@ bytes_of I16 = 2
 bytes_of I32 = 4
 bytes_of I64 = 8
 
--- the type has negative numbers
+-- whether the type is signed
 abbrev pub is_signed : PType → Bool
 is_signed U8 = false
 is_signed U16 = false
@@ -58,7 +58,7 @@ signed_of I16 = I16
 signed_of I32 = I32
 signed_of I64 = I64
 
--- how many binary digits the numbers from 0 on have at most: one less in a signed type
+-- the bits of the greatest value: the width, less the sign bit of a signed type
 abbrev pub natural_bits : PType → ℕ
 natural_bits U8 = 8
 natural_bits U16 = 16
@@ -69,25 +69,25 @@ natural_bits I16 = 15
 natural_bits I32 = 31
 natural_bits I64 = 63
 
--- the type holds the whole number; negsuc n is -1 - n
+-- whether a whole number is in the range of the type; negsuc n is -1 - n
 abbrev pub lies_in : PType → ℤ → Bool
 lies_in p (pos n) = nat_lt n (2 ^ natural_bits p)
 lies_in p (negsuc n) = is_signed p && nat_lt n (2 ^ natural_bits p)
 
--- the least number with so many digits: -2^n with a sign, 0 without
+-- the least value with n bits besides the sign: -2^n if signed, 0 if not
 abbrev pub least_where : Bool → ℕ → ℤ
 least_where true n = negsuc (2 ^ n - 1)
 least_where false n = pos 0
 
--- the least and the greatest whole number of the type
+-- the least value of a type
 abbrev pub least : PType → ℤ
 least p = least_where (is_signed p) (natural_bits p)
 
--- the greatest number of a type
+-- the greatest value of a type
 abbrev pub greatest : PType → ℤ
 greatest p = pos (2 ^ natural_bits p - 1)
 
--- the bits of a whole number of the type, in two's complement, as a number from 0 on
+-- the two's complement of a value of the type, as a natural number
 abbrev pub bits_in : PType → ℤ → ℕ
 bits_in p (pos n) = n
 bits_in p (negsuc n) = 2 ^ bits_of p - 1 - n

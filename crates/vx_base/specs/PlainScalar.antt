@@ -1,4 +1,4 @@
--- A value with its type as plain data, and which value fits which type.
+-- Typed values as plain data, and which values are of a type.
 use Rattle.std.specs.Prelude.{Bool, true, false, ◌&&◌, ◌==◌, ℕ, List, length}
 use Rattle.std.specs.Coded.{Coded}
 use Rattle.std.specs.Str.{is_utf8}
@@ -15,9 +15,9 @@ pub record PlainScalar : Type 0 where
   pub dtype : PlainType
   pub value : PlainValue
 
--- null fits a nullable type, a truth value bool, a whole number an integer type that holds it and, where it has
--- 64 signed bits, a timestamp; fewer than 2^32 bytes fit binary, and text where they are UTF-8; values fit a struct one for
--- each field, a list as its items, and a list of fixed size where they are as many
+-- whether a value is one of a type: null of any nullable type; a truth value of bool; a whole number of an integer type
+-- with it in range, and of a timestamp within 64 signed bits; fewer than 2^32 bytes of binary, and of text if they are valid
+-- UTF-8; of a struct one fitting value per field, of a list any number of fitting items, of a list of fixed size `size`
 abbrev mutual
   pub fits : PlainType → PlainValue → Bool
   fits t null = is_nullable t
@@ -31,26 +31,26 @@ abbrev mutual
   fits (fixed_size_list t size n) (items vs) = length (list_of vs) == size && items_fit t vs
   fits _ _ = false
 
-  -- each value fits the type of its field, and there are as many
+  -- one value per field, and each fits its field's type
   pub fields_fit : PlainFields → PlainValues → Bool
   fields_fit types.none vals.none = true
   fields_fit (types.more name t fs) (vals.more v vs) = fits t v && fields_fit fs vs
   fields_fit _ _ = false
 
-  -- each value fits one type
+  -- each value fits the type
   pub items_fit : PlainType → PlainValues → Bool
   items_fit t vals.none = true
   items_fit t (vals.more v vs) = fits t v && items_fit t vs
 
--- the values in a list fit the fields in a list, one by one
+-- `fields_fit`, over lists
 abbrev pub field_list_fits : List (List ℕ × PlainType) → List PlainValue → Bool
 field_list_fits fs vs = fields_fit (of_fields fs) (of_list vs)
 
--- the values in a list fit the type
+-- `items_fit`, over a list
 abbrev pub list_fits : PlainType → List PlainValue → Bool
 list_fits t vs = items_fit t (of_list vs)
 
--- the value of this type
+-- a value with its type, from the two
 abbrev pub scalar : PlainType → PlainValue → PlainScalar
 scalar t v = record { dtype = t; value = v }
 
@@ -67,6 +67,6 @@ stored_scalar =
       back = λ s i. let p = stored_parts.back (s.dtype, s.value) i in scalar p.0 p.1;
     }
 
--- from this code equality of scalars is decided
+-- the code by which the logic decides equality of scalars
 abbrev pub scalar_code : Coded PlainScalar
 scalar_code = code_of stored_scalar

@@ -1,4 +1,4 @@
--- A type as plain data.
+-- Types as plain data.
 use Rattle.std.specs.Prelude.{◌≡◌, ℕ, Bool, true, false, not, ◌&&◌, ◌||◌, cond, ◌==◌, List, [], ◌∷◌, refl}
 use Rattle.std.proofs.Common.{ap}
 use Rattle.vx_base.specs.declared.ptype.PType.{PType}
@@ -11,8 +11,8 @@ use Rattle.vx_base.specs.Timestamps.{PlainTimestamp, stored_kind}
 use base.Stored.{Gv, gnil, gnum, gcons, num}
 
 mutual
-  -- a type of columns, with or without nulls: nulls alone; truth values, integers of a type, texts, binaries, timestamps of
-  -- a kind; structs of fields, lists of any length, and lists that have so many items each
+  -- a type of columns: only null; truth values, integers, texts, binaries and timestamps; structs, lists of any length, and
+  -- lists of `size` items each. All but the null type have a nullability.
   pub data PlainType : Type 0 where
     null_type : PlainType
     boolean : Nullability → PlainType
@@ -29,7 +29,7 @@ mutual
     none : PlainFields
     more : List ℕ → PlainType → PlainFields → PlainFields
 
--- fields as they stand inside a type, from a list of them
+-- fields in the form that types hold, from a list
 abbrev pub of_fields : List (List ℕ × PlainType) → PlainFields
 of_fields [] = none
 of_fields (f ∷ fs) = more f.0 f.1 (of_fields fs)
@@ -39,17 +39,17 @@ abbrev pub list_of_fields : PlainFields → List (List ℕ × PlainType)
 list_of_fields none = []
 list_of_fields (more name t fs) = (name, t) ∷ list_of_fields fs
 
--- nulls are allowed
+-- whether null is allowed
 abbrev pub allows_null : Nullability → Bool
 allows_null NonNullable = false
 allows_null Nullable = true
 
--- nullable where one of two is
+-- nullable where either is
 abbrev pub or_nullable : Nullability → Nullability → Nullability
 or_nullable NonNullable n = n
 or_nullable Nullable n = Nullable
 
--- whether a type allows nulls, as the code has it
+-- the outermost nullability; the null type is nullable
 abbrev pub nullability_of : PlainType → Nullability
 nullability_of null_type = Nullable
 nullability_of (boolean n) = n
@@ -61,11 +61,11 @@ nullability_of (structure fs n) = n
 nullability_of (list t n) = n
 nullability_of (fixed_size_list t size n) = n
 
--- a column of the type may have nulls
+-- whether null is a value of the type
 abbrev pub is_nullable : PlainType → Bool
 is_nullable t = allows_null (nullability_of t)
 
--- the same type but for the outermost nullability; the type of nulls alone has no other
+-- the type with another outermost nullability; the null type stays as it is
 abbrev pub with_nullability : PlainType → Nullability → PlainType
 with_nullability null_type n = null_type
 with_nullability (boolean m) n = boolean n
@@ -77,7 +77,7 @@ with_nullability (structure fs m) n = structure fs n
 with_nullability (list t m) n = list t n
 with_nullability (fixed_size_list t size m) n = fixed_size_list t size n
 
--- truth values, integers, texts and binaries
+-- whether it is a bool, integer, text or binary type
 abbrev pub is_leaf : PlainType → Bool
 is_leaf (boolean n) = true
 is_leaf (primitive p n) = true
@@ -85,37 +85,37 @@ is_leaf (utf8 n) = true
 is_leaf (binary n) = true
 is_leaf _ = false
 
--- points in time
+-- whether it is a timestamp type
 abbrev pub is_timestamp : PlainType → Bool
 is_timestamp (timestamp k n) = true
 is_timestamp _ = false
 
--- a type whose values hold no others
+-- whether the values hold no others: leaf types and timestamps
 abbrev pub is_flat : PlainType → Bool
 is_flat t = is_leaf t || is_timestamp t
 
--- the values of the type are integers
+-- whether it is an integer type
 abbrev pub is_integer : PlainType → Bool
 is_integer (primitive p n) = true
 is_integer _ = false
 
--- the values of the type are texts
+-- whether it is a text type
 abbrev pub is_text : PlainType → Bool
 is_text (utf8 n) = true
 is_text _ = false
 
--- types whose values are bytes: texts and binaries
+-- whether the values are bytes: texts and binaries
 abbrev pub is_bytes : PlainType → Bool
 is_bytes (utf8 n) = true
 is_bytes (binary n) = true
 is_bytes _ = false
 
--- the integer type of a column's values; of integer types alone, nothing asks it of others
+-- the integer type of a type of integers; U8, which nothing relies on, of any other
 abbrev pub integer_of : PlainType → PType
 integer_of (primitive p n) = p
 integer_of _ = kinds.U8
 
--- the values of the type are integers, and none is negative
+-- whether it is an unsigned integer type
 abbrev pub is_unsigned : PlainType → Bool
 is_unsigned t = is_integer t && not (is_signed (integer_of t))
 
@@ -130,7 +130,7 @@ ptype_number kinds.I16 = 5
 ptype_number kinds.I32 = 6
 ptype_number kinds.I64 = 7
 
--- the integer type that a number is stored for
+-- the integer type with a number
 abbrev pub ptype_at : ℕ → PType
 ptype_at n =
     cond (n == 0) kinds.U8 (cond (n == 1) kinds.U16 (cond (n == 2) kinds.U32 (cond (n == 3) kinds.U64
@@ -146,12 +146,12 @@ ptype_at-number kinds.I16 = refl
 ptype_at-number kinds.I32 = refl
 ptype_at-number kinds.I64 = refl
 
--- the number that nullability is stored as
+-- the number of a nullability
 abbrev pub nullability_number : Nullability → ℕ
 nullability_number NonNullable = 0
 nullability_number Nullable = 1
 
--- the nullability that a number is stored for
+-- the nullability with a number
 abbrev pub nullability_at : ℕ → Nullability
 nullability_at n = cond (n == 0) NonNullable Nullable
 
@@ -193,12 +193,12 @@ abbrev mutual
   to_all none = gnil
   to_all (more name t fs) = gcons (gcons (stored_bytes.to name) (to t)) (to_all fs)
 
--- the first type inside, and any where there is none
+-- the first type inside; the null type, which nothing relies on, where there is none
 abbrev pub first_type : PlainFields → PlainType
 first_type none = null_type
 first_type (more name t fs) = t
 
--- the type that a number, a label and the types inside are stored for
+-- the type with a number, a label and the types inside
 abbrev pub type_at : ℕ → Gv → PlainFields → PlainType
 type_at tag label inside =
     cond (tag == 0) null_type (cond (tag == 1) (boolean (stored_nullability.from label))
@@ -208,7 +208,7 @@ type_at tag label inside =
     (cond (tag == 6) (structure inside (stored_nullability.from label)) (cond (tag == 7) (list (first_type inside) (stored_nullability.from label))
     (let p = stored_fixed.from label in fixed_size_list (first_type inside) p.0 p.1))))))))
 
--- what is read back as a type, as fields, and as a type in the second half
+-- a stored tree read as a type and as fields, and its right part read as a type
 abbrev pub read : Gv → PlainType × PlainFields × PlainType
 read gnil = (null_type, none, null_type)
 read (gnum n) = (null_type, none, null_type)
@@ -237,10 +237,10 @@ mutual
 abbrev pub stored_type : Storable PlainType
 stored_type = record { to = to; from = from; back = from-to }
 
--- whether two types are one
+-- whether two types are equal
 abbrev pub same_type : PlainType → PlainType → Bool
 same_type = same stored_type
 
--- whether two types differ at most in the outermost nullability
+-- whether two types are equal up to outermost nullability
 abbrev pub same_base : PlainType → PlainType → Bool
 same_base s t = same_type (with_nullability s NonNullable) (with_nullability t NonNullable)

@@ -1,4 +1,4 @@
--- A value of a column as plain data.
+-- Values as plain data.
 use Rattle.std.specs.Prelude.{◌≡◌, ℕ, suc, ◌+◌, ◌^◌, nat_lt, ℤ, pos, Bool, true, false, ◌&&◌, List, [], ◌∷◌, length, Option, Some, None, cond, ◌==◌, refl}
 use Rattle.std.proofs.Common.{ap}
 use Rattle.std.specs.Coded.{Coded, coded_list}
@@ -20,7 +20,7 @@ mutual
     none : PlainValues
     more : PlainValue → PlainValues → PlainValues
 
--- values as they stand within a value, from a list of them
+-- values in the form that a value holds, from a list
 abbrev pub of_list : List PlainValue → PlainValues
 of_list [] = none
 of_list (v ∷ vs) = more v (of_list vs)
@@ -30,21 +30,21 @@ abbrev pub list_of : PlainValues → List PlainValue
 list_of none = []
 list_of (more v vs) = v ∷ list_of vs
 
--- the values within a value, none of any that holds no others
+-- the items of a list or the field values of a struct, none of any other value
 abbrev pub items_or_empty : PlainValue → List PlainValue
 items_or_empty (items vs) = list_of vs
 items_or_empty _ = []
 
--- the value is null
+-- whether the value is null
 abbrev pub is_null : PlainValue → Bool
 is_null null = true
 is_null _ = false
 
--- fewer than 2^32 bytes
+-- whether there are fewer than 2^32 bytes, the limit of a text or a binary
 abbrev pub is_short : List ℕ → Bool
 is_short bs = nat_lt (length bs) (2 ^ 32)
 
--- no text or binary of 2^32 bytes or more, however deep within
+-- whether each text and binary within, at any depth, has fewer than 2^32 bytes
 abbrev mutual
   pub has_short : PlainValue → Bool
   has_short null = true
@@ -57,11 +57,11 @@ abbrev mutual
   have_short none = true
   have_short (more v vs) = has_short v && have_short vs
 
--- the same of each value in a list
+-- `have_short`, over a list
 abbrev pub list_has_short : List PlainValue → Bool
 list_has_short vs = have_short (of_list vs)
 
--- how many values stand in a value, itself among them, and one more for each value within
+-- the measure by which recursion over values ends: 1, and for each value within its measure and 1 more
 abbrev mutual
   pub value_count : PlainValue → ℕ
   value_count null = 1
@@ -74,22 +74,22 @@ abbrev mutual
   values_count none = 0
   values_count (more v vs) = suc (value_count v + values_count vs)
 
--- an integer, or null
+-- an integer, or null in place of None
 abbrev pub cell : Option ℤ → PlainValue
 cell None = null
 cell (Some z) = int z
 
--- the whole number of a value, 0 of any other
+-- the integer of a value, 0 of any other kind
 abbrev pub whole_or_zero : PlainValue → ℤ
 whole_or_zero (int z) = z
 whole_or_zero _ = pos 0
 
--- the truth value that a value is, false of any other
+-- the truth value of a value, false of any other kind
 abbrev pub truth_or_false : PlainValue → Bool
 truth_or_false (truth b) = b
 truth_or_false _ = false
 
--- the bytes that a value is, none of any other
+-- the bytes of a value, none of any other kind
 abbrev pub bytes_or_empty : PlainValue → List ℕ
 bytes_or_empty (bytes bs) = bs
 bytes_or_empty _ = []
@@ -107,13 +107,13 @@ abbrev mutual
   to_all none = gnil
   to_all (more v vs) = gcons (to v) (to_all vs)
 
--- the value that a number, a label and the values within are stored for
+-- the value with a number, a label and the values within
 abbrev pub value_at : ℕ → Gv → PlainValues → PlainValue
 value_at tag label within =
     cond (tag == 0) null (cond (tag == 1) (truth (stored_bool.from label)) (cond (tag == 2) (int (stored_ℤ.from label))
     (cond (tag == 3) (bytes (stored_bytes.from label)) (items within))))
 
--- what is read back as a value, and as values
+-- a stored tree read as a value, and as values
 abbrev pub read : Gv → PlainValue × PlainValues
 read gnil = (null, none)
 read (gnum n) = (null, none)
@@ -138,14 +138,14 @@ mutual
 abbrev pub stored_value : Storable PlainValue
 stored_value = record { to = to; from = from; back = from-to }
 
--- whether two values are one
+-- whether two values are equal
 abbrev pub same_value : PlainValue → PlainValue → Bool
 same_value = same stored_value
 
--- from this code equality of lists of values is decided
+-- the code by which the logic decides equality of lists of values
 abbrev pub values_code : Coded (List PlainValue)
 values_code = coded_list (code_of stored_value)
 
--- how many values stand in a list of them
+-- `values_count`, over a list
 abbrev pub list_count : List PlainValue → ℕ
 list_count vs = values_count (of_list vs)

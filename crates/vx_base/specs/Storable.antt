@@ -1,4 +1,4 @@
--- How a type is stored as a tree of numbers, and read back. From it a code for a data type that holds itself is made.
+-- Values stored as trees of numbers and read back: of this the logic's code of a recursive data type is made.
 use Rattle.std.specs.Prelude.{◌≡◌, ℕ, ℤ, pos, negsuc, Bool, true, false, List, [], ◌∷◌, Option, None, Some, cond, ◌==◌, refl}
 use Rattle.std.proofs.Common.{ap, sym, subst, ◌∙◌, ◌&&◌, eq-eqb}
 use Rattle.std.proofs.lemmas.Bool.{eqb-true}
@@ -6,13 +6,13 @@ use Rattle.std.specs.Coded.{Coded, code_by}
 use base.Stored.{Gv, gnil, gnum, gcons, num}
 use denote.Struct.Codes.{itself}
 
--- a way to store what has the type A as a tree of numbers, and to read it back
+-- a way to store the values of A as trees of numbers, and its inverse
 pub record Storable (A : Type 0) : Type 0 where
   pub to : A → Gv
   pub from : Gv → A
   pub back : (x : A) → from (to x) ≡ x
 
--- from a way to store, the code by which equality is decided
+-- the code by which the logic decides equality, from a way to store
 abbrev pub code_of : {A : Type 0} → Storable A → Coded A
 code_of s = code_by Gv itself s.to s.from s.back
 
@@ -81,7 +81,7 @@ module _ {A : Type 0} (a : Storable A) where
   list_back [] = refl
   list_back (x ∷ xs) = λ i. a.back x i ∷ list_back xs i
 
-  -- a list is stored as its first item and the rest
+  -- a list is stored as its first item and its rest
   abbrev pub stored_list : Storable (List A)
   stored_list = record { to = list_to; from = list_from; back = list_back }
 
@@ -105,11 +105,11 @@ module _ {A : Type 0} (a : Storable A) where
 abbrev pub stored_bytes : Storable (List ℕ)
 stored_bytes = stored_list stored_ℕ
 
--- an enum with no fields, by its number
+-- an enum without fields is stored as its number
 abbrev pub stored_by : {A : Type 0} (number : A → ℕ) (back : ℕ → A) → ((x : A) → back (number x) ≡ x) → Storable A
 stored_by number back law = record { to = λ x. gnum (number x); from = λ g. back (num g); back = law }
 
--- ---- whether two values are one, by what they are stored as
+-- ---- equality of values, by the trees that store them
 abbrev pub same_tree : Gv → Gv → Bool
 same_tree gnil gnil = true
 same_tree (gnum m) (gnum n) = m == n
@@ -138,7 +138,7 @@ same_tree_path (gcons a b) gnil e = absurd cc
 same_tree_path (gcons a b) (gnum n) e = absurd cc
 
 module _ {A : Type 0} (s : Storable A) where
-  -- two items are stored alike
+  -- whether two values are stored as the same tree
   abbrev pub same : A → A → Bool
   same x y = same_tree (s.to x) (s.to y)
 

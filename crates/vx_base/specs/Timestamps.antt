@@ -1,20 +1,20 @@
--- Kinds of timestamps: in what unit they count, and the name of a time zone where there is one.
+-- Kinds of timestamps: a unit, and the name of a time zone if there is one.
 use Rattle.std.specs.Prelude.{◌≡◌, ℕ, ℤ, pos, List, Bool, Option, Some, None, is_some, cond, ◌==◌, refl}
 use Rattle.std.specs.Coded.{Coded}
 use Rattle.vx_base.specs.declared.timestamp.TimeUnit.{TimeUnit}
 use Rattle.vx_base.specs.declared.timestamp.TimeUnit.TheVariants.{Nanoseconds, Microseconds, Milliseconds, Seconds, Days}
 use Rattle.vx_base.specs.Storable.{Storable, code_of, stored_by, stored×, stored_option, stored_bytes}
 
--- a unit, and the name of a zone where there is one
+-- the unit in which timestamps count, and the name of a time zone if there is one
 pub record PlainTimestamp : Type 0 where
   pub unit : TimeUnit
   pub zone : Option (List ℕ)
 
--- the kind of this unit and zone
+-- a kind from its unit and zone
 abbrev pub kind : TimeUnit → Option (List ℕ) → PlainTimestamp
 kind u z = record { unit = u; zone = z }
 
--- how many of the unit are a second; days are none of one
+-- the number of units in a second, None of days
 abbrev pub divisor_of : TimeUnit → Option ℤ
 divisor_of Nanoseconds = Some (pos 1_000_000_000)
 divisor_of Microseconds = Some (pos 1_000_000)
@@ -22,12 +22,12 @@ divisor_of Milliseconds = Some (pos 1_000)
 divisor_of Seconds = Some (pos 1)
 divisor_of Days = None
 
--- a unit that divides a second
+-- whether a second is a whole number of units
 abbrev pub divides : TimeUnit → Bool
 divides u = is_some (divisor_of u)
 
 -- ---- how the logic stores a kind
--- the number that a unit is stored as
+-- the number of a unit
 abbrev pub unit_number : TimeUnit → ℕ
 unit_number Nanoseconds = 0
 unit_number Microseconds = 1
@@ -35,7 +35,7 @@ unit_number Milliseconds = 2
 unit_number Seconds = 3
 unit_number Days = 4
 
--- the unit that a number is stored for
+-- the unit with a number
 abbrev pub unit_at : ℕ → TimeUnit
 unit_at n = cond (n == 0) Nanoseconds (cond (n == 1) Microseconds (cond (n == 2) Milliseconds (cond (n == 3) Seconds Days)))
 
@@ -59,6 +59,6 @@ stored_kind =
       back = λ k i. let p = stored_parts.back (k.unit, k.zone) i in kind p.0 p.1;
     }
 
--- from this code equality of kinds is decided
+-- the code by which the logic decides equality of kinds
 abbrev pub kind_code : Coded PlainTimestamp
 kind_code = code_of stored_kind

@@ -1,4 +1,4 @@
--- The plain data of a type and of a value.
+-- Types and values of the code as plain data.
 use Rattle.std.specs.Prelude.{ℕ, List}
 use Rattle.vx_base.specs.declared.dtype.DType.{DType, fold-DType}
 use Rattle.vx_base.specs.declared.dtype.DType.TheOpen.{DType-F, Fields-F}
@@ -12,7 +12,7 @@ use Rattle.vx_base.specs.PlainValue.{PlainValue, null, truth, int, bytes, items,
 abbrev pub FieldList : Type 0
 FieldList = List (List ℕ × PlainType)
 
--- the plain data of a type from that of the types inside
+-- a type as plain data, from the types inside as plain data
 abbrev pub type_step : DType-F PlainType FieldList → PlainType
 type_step DType-F.Null = null_type
 type_step (DType-F.Bool n) = boolean n
@@ -24,23 +24,23 @@ type_step (DType-F.Struct fs n) = structure (of_fields fs) n
 type_step (DType-F.List t n) = list t.value n
 type_step (DType-F.FixedSizeList t size n) = fixed_size_list t.value size n
 
--- the same of fields
+-- fields as plain data, from their types as plain data
 abbrev pub fields_step : Fields-F PlainType FieldList → FieldList
 fields_step fs = fs.items.items
 
--- the plain data of a type
+-- a type as plain data
 abbrev pub type_of : DType → PlainType
 type_of = fold-DType PlainType FieldList type_step fields_step
 
--- the plain data of fields
+-- fields as plain data
 abbrev pub fields_of : Fields → FieldList
 fields_of = fold-Fields PlainType FieldList type_step fields_step
 
--- the plain data of a name and a type
+-- a field as plain data
 abbrev pub field_of : List ℕ × DType → List ℕ × PlainType
 field_of f = (f.0, type_of f.1)
 
--- the plain data of a value
+-- a value as plain data
 abbrev pub value_of : Value → PlainValue
 value_of values.Null = null
 value_of (values.Bool b) = truth b

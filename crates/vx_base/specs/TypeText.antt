@@ -1,4 +1,4 @@
--- The texts of types and values.
+-- Types and values as text.
 use Rattle.std.specs.Prelude.{ℕ, List, [], ◌++◌, true, false, Option, Some, None, codes, if◌then◌else◌}
 use Rattle.std.specs.Fmt.{decimal, signed_decimal}
 use Rattle.hex.specs.Hex.{encode_lower}
@@ -14,7 +14,7 @@ use Rattle.vx_base.specs.PlainType as types
 use Rattle.vx_base.specs.PlainValue.{PlainValue, PlainValues, null, truth, int, bytes, items, of_list}
 use Rattle.vx_base.specs.PlainValue as vals
 
--- the text of an integer type
+-- an integer type as text
 abbrev pub ptype_text : PType → List ℕ
 ptype_text U8 = codes "u8"
 ptype_text U16 = codes "u16"
@@ -25,7 +25,7 @@ ptype_text I16 = codes "i16"
 ptype_text I32 = codes "i32"
 ptype_text I64 = codes "i64"
 
--- the text of a unit
+-- a unit as text
 abbrev pub unit_text : TimeUnit → List ℕ
 unit_text Nanoseconds = codes "ns"
 unit_text Microseconds = codes "us"
@@ -33,22 +33,22 @@ unit_text Milliseconds = codes "ms"
 unit_text Seconds = codes "s"
 unit_text Days = codes "days"
 
--- a zone stands as it is between angle brackets
+-- a zone's name between angle brackets, as it is
 abbrev pub zone_text : Option (List ℕ) → List ℕ
 zone_text None = []
 zone_text (Some zone) = codes "<" ++ zone ++ codes ">"
 
--- a nullable type ends with a question mark
+-- the mark of a nullable type, a question mark
 abbrev pub nullable_mark : Nullability → List ℕ
 nullable_mark NonNullable = []
 nullable_mark Nullable = codes "?"
 
--- what a type's text ends with: nulls alone are nullable without a mark
+-- the mark of a type; the null type, which is always nullable, has none
 abbrev pub type_mark : PlainType → List ℕ
 type_mark null_type = []
 type_mark t = nullable_mark (nullability_of t)
 
--- the text of a type but for that mark
+-- the text of a type without its mark
 abbrev mutual
   pub base_text : PlainType → List ℕ
   base_text null_type = codes "null"
@@ -61,17 +61,17 @@ abbrev mutual
   base_text (list t n) = codes "[" ++ (base_text t ++ type_mark t) ++ codes "]"
   base_text (fixed_size_list t size n) = codes "[" ++ (base_text t ++ type_mark t) ++ codes ";" ++ decimal size ++ codes "]"
 
-  -- the name and the type of each field, a comma between two; behind the text that stands before the first
+  -- `name:type` for each field, separated by commas; `before` precedes the first
   pub fields_text : List ℕ → PlainFields → List ℕ
   fields_text before types.none = []
   fields_text before (types.more name t fs) = before ++ name ++ codes ":" ++ (base_text t ++ type_mark t) ++ fields_text (codes ",") fs
 
--- the text of a type: that of its base, and a question mark where it is nullable
+-- the text of a type: that without its mark, and the mark
 abbrev pub type_text : PlainType → List ℕ
 type_text t = base_text t ++ type_mark t
 
--- compact JSON: a text as a string, binary as the string of its digits in lower case; a struct as the list of its fields'
--- values
+-- a value of a type as compact JSON: a text as a string, a binary as the string of its lower-case hex digits, a struct as the
+-- array of its field values
 abbrev mutual
   pub value_text : PlainType → PlainValue → List ℕ
   value_text t null = codes "null"
@@ -84,20 +84,20 @@ abbrev mutual
   value_text (fixed_size_list t size n) (items vs) = codes "[" ++ items_text [] t vs ++ codes "]"
   value_text _ (items vs) = []
 
-  -- each value by the type of its field, a comma between two; behind the text that stands before the first
+  -- each value by its field's type, separated by commas; `before` precedes the first
   pub field_values_text : List ℕ → PlainFields → PlainValues → List ℕ
   field_values_text before (types.more name t fs) (vals.more v vs) = before ++ value_text t v ++ field_values_text (codes ",") fs vs
   field_values_text before _ _ = []
 
-  -- each value by one type, in the same way
+  -- each value by the one type, separated by commas; `before` precedes the first
   pub items_text : List ℕ → PlainType → PlainValues → List ℕ
   items_text before t vals.none = []
   items_text before t (vals.more v vs) = before ++ value_text t v ++ items_text (codes ",") t vs
 
--- the text of the values in a list, by the fields in a list
+-- a struct's value, over lists
 abbrev pub field_list_text : List (List ℕ × PlainType) → List PlainValue → List ℕ
 field_list_text fs vs = codes "[" ++ field_values_text [] (of_fields fs) (of_list vs) ++ codes "]"
 
--- the text of the values in a list, by one type
+-- a list's value, over a list
 abbrev pub list_text : PlainType → List PlainValue → List ℕ
 list_text t vs = codes "[" ++ items_text [] t (of_list vs) ++ codes "]"

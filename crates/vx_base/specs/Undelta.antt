@@ -1,4 +1,4 @@
--- Rows from the bases and differences of blocks of 1,024 rows, in the numbers of a type.
+-- Delta decoding: rows from the bases and differences of blocks of 1,024 rows, in wrapping arithmetic of a type.
 use Rattle.std.specs.Prelude.{ℕ, ◌+◌, ◌*◌, ◌/◌, ℤ, pos, ◌+ℤ◌, List, [], ◌∷◌, length, map, slice_index_or}
 use Rattle.std.specs.List.{range_with_len}
 use Rattle.vx_base.specs.declared.ptype.PType.{PType}
@@ -10,10 +10,10 @@ abbrev pub total : List ℤ → ℤ
 total [] = pos 0
 total (z ∷ zs) = z +ℤ total zs
 
--- a row is its block's base and the block's differences up to its own, wrapped into the type
+-- row i: the base of its block, plus the prefix sum of the block's differences up to row i, wrapped
 abbrev pub undelta_row : PType → List ℤ → List ℤ → ℕ → ℤ
 undelta_row kind bases deltas i = wrap kind (slice_index_or bases (i / 1024) (pos 0) +ℤ total (rows_between deltas (1024 * (i / 1024)) (i + 1)))
 
--- a row for each difference
+-- all rows, one for each difference
 abbrev pub undelta : PType → List ℤ → List ℤ → List ℤ
 undelta kind bases deltas = map (undelta_row kind bases deltas) (range_with_len 0 (length deltas))

@@ -1,4 +1,4 @@
--- A value within another is smaller: what recursion over values ends by.
+-- A value within another has a smaller measure, so recursion over values ends.
 use Rattle.std.specs.Prelude.{◌≤◌, List, [], ◌∷◌, map}
 use Rattle.std.proofs.Common.{arith}
 use denote.Param.Weighed.{most}

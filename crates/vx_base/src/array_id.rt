@@ -5,7 +5,7 @@ ghost use Rattle.vx_base.specs.IdName.{id_name};
 
 use std::fmt;
 
-/// An encoding of a node. Display gives its name.
+/// The encoding of a node. `Display` prints its name.
 #[derive(Clone, Copy, Debug, PartialEq, Eq)]
 pub enum ArrayId {
     Null,
@@ -34,7 +34,7 @@ pub enum ArrayId {
 }
 
 impl ArrayId {
-    /// The id's text, as `vortex.primitive`.
+    /// The name, such as `vortex.primitive`.
     pub fn name(self) -> &'static str
         ensures { result.now ≡ id_name self }
     {

@@ -1,4 +1,4 @@
-//! One row of a column whose values hold no others.
+//! One row of a flat column.
 
 ghost use Rattle.std.specs.Prelude.{◌≡◌};
 ghost use Rattle.vx_base.specs.Answers.{OrMemory};
@@ -12,7 +12,7 @@ use crate::items::Bytes;
 use crate::value::Value;
 use std::alloc::Global;
 
-/// What stands in a row of a leaf type or of timestamps: null, or a value. It owns nothing.
+/// A row of a leaf or timestamp column: null or a value. It borrows its bytes, so it is `Copy`.
 #[derive(Clone, Copy, Debug)]
 pub enum Cell<'a> {
     Null,
@@ -30,7 +30,7 @@ impl<'a> Cell<'a> {
         matches!(self, Cell::Null)
     }
 
-    /// The truth value, false where there is none.
+    /// The truth value, false of any other cell.
     pub fn truth(self) -> bool
         ensures { result ≡ truth_or_false (cell_value self.entry) }
     {
@@ -40,7 +40,7 @@ impl<'a> Cell<'a> {
         }
     }
 
-    /// The whole number, 0 where there is none.
+    /// The integer, 0 of any other cell.
     pub fn whole(self) -> i128
         ensures { result ≡ whole_or_zero (cell_value self.entry) }
     {
@@ -50,7 +50,7 @@ impl<'a> Cell<'a> {
         }
     }
 
-    /// The bytes, empty where there are none.
+    /// The bytes, empty of any other cell.
     pub fn bytes(self) -> &'a [u8]
         ensures { result.now ≡ bytes_or_empty (cell_value self.entry) }
     {
@@ -60,7 +60,7 @@ impl<'a> Cell<'a> {
         }
     }
 
-    /// The integer, or none where there is no integer.
+    /// The integer, None of any other cell.
     pub fn integer(self) -> Option<i128>
         ensures { result ≡ integer_in (cell_value self.entry) }
     {
@@ -70,7 +70,7 @@ impl<'a> Cell<'a> {
         }
     }
 
-    /// The value, with bytes of its own.
+    /// The cell as a value that owns a copy of the bytes.
     pub fn to_value(self, alloc: Global) -> VortexResult<Value>
         ensures { OrMemory result (λ value. value_of value ≡ cell_value self.entry) }
     {

@@ -1,4 +1,4 @@
-//! What a call is lent beside its column: memory, and the words that place samples.
+//! What a call gets beside its column: an allocator, and the sample words.
 
 ghost use Rattle.std.specs.Prelude.{◌≡◌, ◌<◌, length};
 
@@ -6,7 +6,8 @@ use crate::items::Words;
 use std::alloc::Global;
 use std::marker::Model;
 
-/// An allocator and at least one sample word. Contracts see the words.
+/// An allocator and at least one sample word. Samples are placed by these words and by no other source of chance, so equal
+/// columns and words give equal trees. Contracts see the words.
 #[derive(Debug, Drop)]
 pub struct ExecutionCtx {
     alloc: Global,

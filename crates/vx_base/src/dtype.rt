@@ -27,7 +27,7 @@ impl Nullability {
         matches!(self, Nullability::Nullable)
     }
 
-    /// Nullable where one of the two is.
+    /// Nullable where either is.
     pub fn or(self, other: Nullability) -> Nullability
         ensures { result ≡ or_nullable self other }
     {
@@ -37,7 +37,7 @@ impl Nullability {
         }
     }
 
-    // Its number, which a hash is fed.
+    // The number that is hashed.
     pub(crate) fn number(self) -> u8
         ensures { result ≡ nullability_number self }
     {
@@ -47,7 +47,7 @@ impl Nullability {
         }
     }
 
-    // What a type's text ends with.
+    // The suffix of a type's text.
     pub(crate) fn mark(self) -> &'static str
         ensures { result.now ≡ nullable_mark self }
     {
@@ -62,7 +62,7 @@ impl Nullability {
 #[cycle(dtype)]
 #[derive(Debug)]
 pub enum DType {
-    /// Nulls alone.
+    /// Only null.
     Null,
     /// Truth values.
     Bool(Nullability),
@@ -72,13 +72,13 @@ pub enum DType {
     Utf8(Nullability),
     /// Lists of bytes.
     Binary(Nullability),
-    /// Points in time, each a whole number of 64 signed bits.
+    /// Points in time, each a count of 64 signed bits in the unit of the type.
     Timestamp(TimestampType, Nullability),
-    /// One value for each field.
+    /// Structs: one value per field.
     Struct(Fields, Nullability),
     /// Lists of values of one type.
     List(Box<DType>, Nullability),
-    /// The same, of so many values each.
+    /// Lists of values of one type, with this number of values each.
     FixedSizeList(Box<DType>, u32, Nullability),
 }
 
@@ -117,7 +117,7 @@ impl DType {
         self.nullability().allows_null()
     }
 
-    /// The type of its integers.
+    /// The integer type of a type of integers.
     pub fn ptype(&self) -> PType
         requires integer { IsTrue (is_integer (type_of self.now)) }
         ensures { result ≡ integer_of (type_of self.now) }
@@ -161,7 +161,7 @@ impl DType {
         matches!(self, DType::Timestamp(_, _))
     }
 
-    /// Whether its values hold no others: leaf types and timestamps.
+    /// Whether its values hold no others: it is a leaf type or a timestamp type.
     pub fn is_flat(&self) -> bool
         ensures { result ≡ is_flat (type_of self.now) }
     {
@@ -174,14 +174,14 @@ impl DType {
         matches!(self, DType::Primitive(_, _))
     }
 
-    /// Whether its values are bytes: texts and binaries.
+    /// Whether its values are bytes: it is a text or binary type.
     pub fn is_bytes(&self) -> bool
         ensures { result ≡ is_bytes (type_of self.now) }
     {
         matches!(self, DType::Utf8(_) | DType::Binary(_))
     }
 
-    /// Whether its values are integers of an unsigned type.
+    /// Whether it is an unsigned integer type.
     pub fn is_unsigned(&self) -> bool
         ensures { result ≡ is_unsigned (type_of self.now) }
     {

@@ -1,4 +1,4 @@
-//! Why a call refuses.
+//! Errors, and refusals that hand back their inputs.
 
 ghost use Rattle.std.specs.Prelude.{◌≡◌};
 ghost use Rattle.vx_base.specs.declared.error.VortexError.TheVariants.{NoMemory};
@@ -6,49 +6,49 @@ ghost use Rattle.vx_base.specs.declared.error.VortexError.TheVariants.{NoMemory}
 use std::alloc::{AllocError, AllocFailed};
 use thiserror::Error;
 
-/// The refusals. Display prints the name of the variant, as `name` answers it.
+/// Why a call refused. `Display` prints the name of the variant.
 #[derive(Clone, Copy, Debug, PartialEq, Eq, Drop, Error)]
 pub enum VortexError {
     /// Memory ran out.
     #[error("NoMemory")]
     NoMemory,
-    /// More rows than the call admits.
+    /// More rows than the call's row limit.
     #[error("TooManyRows")]
     TooManyRows,
-    /// A type or a content that the call doesn't admit.
+    /// A type or content that the call doesn't accept.
     #[error("MismatchedTypes")]
     MismatchedTypes,
     /// A length other than the one that the call states.
     #[error("LengthMismatch")]
     LengthMismatch,
-    /// A row, end, index, code, offset, width or number that lies outside.
+    /// A row, end, index, code, offset, width or number that is out of bounds.
     #[error("OutOfBounds")]
     OutOfBounds,
-    /// Patch indices that don't rise, or one outside of its array.
+    /// Patch indices that are not strictly ascending, or out of bounds of their array.
     #[error("IndicesNotAscending")]
     IndicesNotAscending,
-    /// The unit of days, which has no divisor.
+    /// Days as the unit of a timestamp: a second is no whole number of days.
     #[error("DayUnit")]
     DayUnit,
-    /// A day number above 32 signed bits.
+    /// A day number that exceeds 32 signed bits.
     #[error("DaysOutOfRange")]
     DaysOutOfRange,
-    /// A timestamp above 64 signed bits.
+    /// A timestamp that exceeds 64 signed bits.
     #[error("TimestampOutOfRange")]
     TimestampOutOfRange,
-    /// Parts that are no split of a timestamp.
+    /// Parts into which no timestamp splits.
     #[error("PartsNotCanonical")]
     PartsNotCanonical,
-    /// A value that the type doesn't hold.
+    /// A value that is not one of the type that it is cast to.
     #[error("CastRefused")]
     CastRefused,
     /// A text or binary value of 2^32 bytes or more.
     #[error("ValueTooLong")]
     ValueTooLong,
-    /// A scheme whose name is taken.
+    /// A scheme with the name of another one.
     #[error("DuplicateScheme")]
     DuplicateScheme,
-    /// Bytes that spell no metadata.
+    /// Bytes that encode no metadata.
     #[error("BadMetadata")]
     BadMetadata,
 }
@@ -58,7 +58,7 @@ pub type VortexResult<T> = Result<T, VortexError>;
 impl VortexError {
     ghost use Rattle.vx_base.specs.ErrorName.{error_name};
 
-    /// The variant's name, without memory.
+    /// The name of the variant; nothing is allocated.
     pub fn name(&self) -> &'static str
         ensures { result.now ≡ error_name self.now }
     {
@@ -97,9 +97,17 @@ impl<T: Drop> From<AllocFailed<T>> for VortexError {
     }
 }
 
-/// Why a call refused, and the inputs as they were handed in.
+/// Why a call refused, and its inputs as they were passed. `?` drops the inputs and keeps the error.
 #[derive(Debug, Drop)]
 pub struct Refused<T> {
     pub error: VortexError,
     pub inputs: T,
+}
+
+impl<T: Drop> From<Refused<T>> for VortexError {
+    ghost from_gives = { λ refused e. e ≡ refused.error };
+
+    fn from(refused: Refused<T>) -> VortexError {
+        refused.error
+    }
 }

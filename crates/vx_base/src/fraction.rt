@@ -4,7 +4,7 @@ ghost use Rattle.std.specs.Prelude.{◌<◌};
 
 use std::cmp::Ordering;
 
-/// A whole number over a positive one. Equality and order are those of the value, so 2/4 is 1/2.
+/// A natural number over a positive one. Equality and order go by the value: 2/4 equals 1/2.
 #[derive(Clone, Copy, Debug)]
 pub struct Fraction {
     num: u64,
@@ -16,7 +16,7 @@ impl Fraction {
     ghost use Rattle.std.specs.Prelude.{◌≡◌, ◌<◌};
     ghost use Rattle.vx_base.specs.Fractions.{numerator, divisor, cross, is_above_one};
 
-    /// `num` over `den`, as they are: nothing is reduced.
+    /// `num` over `den`, not reduced.
     pub fn new(num: u64, den: u64) -> Fraction
         requires { 0 < den }
         ensures num { numerator result ≡ num }
@@ -25,14 +25,14 @@ impl Fraction {
         Fraction { num, den }
     }
 
-    /// The number above the line, as it was given.
+    /// The numerator, as it was given.
     pub fn num(&self) -> u64
         ensures { result ≡ numerator self.now }
     {
         self.num
     }
 
-    /// The number below the line, as it was given.
+    /// The denominator, as it was given.
     pub fn den(&self) -> u64
         ensures den { result ≡ divisor self.now }
         ensures positive { 0 < result }
@@ -47,7 +47,7 @@ impl Fraction {
         self.num > self.den
     }
 
-    // The product of its number above and the other's below, by which the two are compared.
+    // `self.num * other.den`, of which 128 bits lose nothing. Fractions compare as these products do.
     fn cross(&self, other: &Fraction) -> u128
         ensures { result ≡ cross self.now other.now }
     {

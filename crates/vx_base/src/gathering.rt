@@ -1,4 +1,4 @@
-//! The rows of ranges, joined in the ranges' order.
+//! Rows gathered by ranges.
 
 ghost use Rattle.std.specs.Prelude.{◌≡◌, length, IsTrue};
 ghost use Rattle.vx_base.specs.Answers.{Answers, OrMemory};
@@ -11,7 +11,7 @@ use crate::mask::Mask;
 use std::alloc::Global;
 
 impl<T: Copy> Items<T> {
-    /// The items of the ranges, one range after the other.
+    /// The items of each range, in the order of the ranges.
     pub fn gather(&self, alloc: Global, ranges: &[(u64, u64)]) -> VortexResult<Items<T>>
         requires { IsTrue (are_parts (length self.now) ranges.now) }
         ensures { Answers result (gathered ranges.now self.now) }
@@ -21,7 +21,7 @@ impl<T: Copy> Items<T> {
 }
 
 impl Mask {
-    /// The rows of the ranges, one range after the other.
+    /// The rows of each range, in the order of the ranges.
     pub fn gather(&self, alloc: Global, ranges: &[(u64, u64)]) -> VortexResult<Mask>
         requires { IsTrue (are_parts (length self.now) ranges.now) }
         ensures { Answers result (gathered ranges.now self.now) }
@@ -41,7 +41,7 @@ fn gathered<T: Copy>(alloc: Global, items: &[T], ranges: &[(u64, u64)]) -> Vorte
     Ok(all)
 }
 
-// The items from a range's first to the one before its end.
+// The items of a half-open range.
 fn part<T>(items: &[T], range: (u64, u64)) -> &[T]
     requires { IsTrue (is_part (length items.now) range.0 range.1) }
     ensures { result.now ≡ rows_between items.now range.0 range.1 }

@@ -5,10 +5,10 @@ ghost use Rattle.vx_base.specs.IdNumber.{id_number};
 
 use crate::array_id::ArrayId;
 
-/// A set of ids. Two are equal where they have the same ids.
+/// A set of encodings.
 #[derive(Clone, Copy, Debug)]
 pub struct IdSet {
-    // The bit of each id is at its number.
+    // Bit i is set where the id with number i is in the set.
     bits: u32,
     ghost within: { bits < 2 ^ 23 },
 }
@@ -19,7 +19,7 @@ impl IdSet {
     ghost use Rattle.vx_base.specs.IdNumber.{same_id};
     ghost use Rattle.vx_base.specs.IdSets.{holds};
 
-    /// The set of no id.
+    /// The empty set.
     pub fn empty() -> IdSet
         ensures { (id : ArrayId) → holds result id ≡ false }
     {
@@ -35,7 +35,7 @@ impl IdSet {
         }
     }
 
-    /// The same set and this id.
+    /// The set with the id added.
     pub fn with(self, id: ArrayId) -> IdSet
         ensures { (other : ArrayId) → holds result other ≡ (same_id other id || holds self other) }
     {
@@ -44,7 +44,7 @@ impl IdSet {
         }
     }
 
-    /// The same set but for this id.
+    /// The set with the id removed.
     pub fn without(self, id: ArrayId) -> IdSet
         ensures { (other : ArrayId) → holds result other ≡ (not (same_id other id) && holds self other) }
     {
@@ -61,7 +61,7 @@ impl IdSet {
     }
 }
 
-// The place of an id among all of them.
+// The number of an id, which is the index of its bit.
 fn id_number(id: ArrayId) -> u32
     ensures number { result ≡ id_number id }
     ensures within { result < 23 }

@@ -1,4 +1,5 @@
-//! The eight integer types behind one trait.
+//! The eight integer types behind one trait. Each impl is written out, since `rt verdict` refuses one that a macro of the
+//! repository writes.
 
 ghost use Rattle.std.specs.Prelude.{◌≡◌, ◌<◌, ◌%◌, ◌^◌, ◌↔◌, ℤ, pos, IsTrue, refl, MatchOption, false, true};
 ghost use Rattle.vx_base.specs.declared.ptype.PType.{PType};
@@ -15,29 +16,29 @@ use std::hash::Hash;
 /// An integer type. Contracts see its values as whole numbers; equality, order and
 /// hash are those of the whole numbers.
 pub trait Integer: Copy + Drop + Ord + Hash {
-    // The whole number of a value.
+    // A value as a whole number.
     ghost whole: { Self → ℤ };
-    // The type as a value.
+    // The type, as a value.
     ghost kind: { PType };
 
     fn ptype() -> PType
         ensures { result ≡ kind };
 
-    /// The whole number, which lies in the type.
+    /// The value as a whole number, which is in the range of the type.
     fn to_whole(self) -> i128
         ensures value { result ≡ whole self }
         ensures held { IsTrue (lies_in kind (whole self)) };
 
-    /// The value of a whole number, None exactly outside the type.
+    /// The value that is this whole number, None exactly where it is out of the type's range.
     fn from_whole(number: i128) -> Option<Self>
         ensures { MatchOption result (lies_in kind number ≡ false) (λ x. whole x ≡ number) };
 
-    /// The bits in two's complement, and zeros above the type's width.
+    /// The two's complement, zero-extended to 64 bits.
     fn to_bits(self) -> u64
         ensures value { result ≡ bits_in kind (whole self) }
         ensures small { result < 2 ^ bits_of kind };
 
-    /// The value whose bits, in two's complement, are the low ones of a number.
+    /// The value whose two's complement is the low bits of `bits`, as many as the type has.
     fn from_low_bits(bits: u64) -> Self
         ensures { whole result ≡ from_bits kind (bits % 2 ^ bits_of kind) };
 

@@ -1,4 +1,4 @@
-//! Lists over a `Vec`, which contracts see as lists.
+//! A `Vec` that contracts see as a list.
 
 ghost use Rattle.std.specs.Prelude.{◌≡◌, [], ◌∷◌, ◌++◌, length, slice_get, option_copied, MatchResult};
 ghost use Rattle.vx_base.specs.Answers.{Answers};
@@ -8,7 +8,7 @@ use crate::text::Text;
 use std::alloc::Global;
 use std::marker::Model;
 
-/// A list of items.
+/// A list of items, as contracts see it.
 #[derive(Debug, Drop)]
 pub struct Items<T> {
     items: Vec<T>,
@@ -62,7 +62,7 @@ impl<T> Items<T> {
         self.items
     }
 
-    /// Lets the items go.
+    /// Drops all items.
     pub fn clear(&mut self)
     where
         T: Drop,
@@ -81,7 +81,7 @@ impl<T> Items<T> {
     }
 }
 
-/// Bytes of a binary value.
+/// The bytes of a text or binary value.
 pub type Bytes = Items<u8>;
 /// Names of fields.
 pub type Names = Items<Text>;
@@ -89,9 +89,9 @@ pub type Names = Items<Text>;
 pub type Words = Items<u64>;
 /// Integers of one type.
 pub type IntList<T> = Items<T>;
-/// Binary values.
+/// Rows of texts or binaries.
 pub type ByteRows = Items<Bytes>;
-/// Ranges of rows, each as its first row and the row after its last.
+/// Half-open ranges of rows: the first row, and the row after the last.
 pub type Ranges = Items<(u64, u64)>;
 
 impl<T: Copy> Items<T> {
@@ -104,7 +104,7 @@ impl<T: Copy> Items<T> {
     }
 }
 
-/// The item at a place, if there is one.
+/// The item at an index, None out of bounds.
 pub(crate) fn item_at<T>(items: &[T], place: u64) -> Option<&T>
     ensures { option_copied result ≡ slice_get items.now place }
 {

@@ -1,4 +1,4 @@
-//! What every crate stands on: errors, plain types and values, scalars, masks, lists, ids and the context.
+//! What every crate stands on: errors, types, values and scalars, masks, lists, encoding ids and the context of a call.
 #![tactic(auto)]
 
 mod array_id;

@@ -1,4 +1,4 @@
-//! Truth values, one a row.
+//! Masks: a truth value per row.
 
 ghost use Rattle.std.specs.Prelude.{◌≡◌, ◌≤◌, length, slice_get, slice_index_or, false, position, None};
 ghost use Rattle.std.specs.List.{list_all};
@@ -9,6 +9,9 @@ ghost use Rattle.vx_base.specs.declared.error.VortexError.TheVariants.{OutOfBoun
 use crate::error::{VortexError, VortexResult};
 use std::alloc::Global;
 use std::marker::Model;
+
+// Rows that share a branch: enough that the branch costs little, few enough that a scan ends soon after the first false.
+const GROUP_ROWS: usize = 64;
 
 /// A truth value for each row.
 #[derive(Debug, Drop)]
@@ -52,14 +55,14 @@ impl Mask {
         self.bits
     }
 
-    /// A row's truth value, None where there is no such row.
+    /// The truth value of a row, None out of bounds.
     pub fn value(&self, row: u64) -> Option<bool>
         ensures { result ≡ slice_get self.now row }
     {
         self.bits.get(row as usize).copied()
     }
 
-    /// Whether the row is there and true.
+    /// Whether the row is true; false out of bounds.
     pub fn is_set(&self, row: u64) -> bool
         ensures { result ≡ slice_index_or self.now row false }
     {
@@ -69,21 +72,21 @@ impl Mask {
         }
     }
 
-    /// Whether each row is true.
+    /// Whether every row is true.
     pub fn all_true(&self) -> bool
         ensures { result ≡ list_all (λ bit. bit) self.now }
     {
         are_true(self.bits.as_slice())
     }
 
-    /// How many rows are true.
+    /// The number of true rows.
     pub fn true_count(&self) -> u64
         ensures { result ≡ true_count self.now }
     {
         true_bits(self.bits.as_slice())
     }
 
-    /// How many rows before this one are true.
+    /// The number of true rows before this one.
     pub fn rank(&self, row: u64) -> u64
         requires { row ≤ length self.now }
         ensures { result ≡ rank self.now row }
@@ -91,7 +94,7 @@ impl Mask {
         true_bits(&self.bits[..row as usize])
     }
 
-    /// The first true row.
+    /// The first true row, None where no row is true.
     pub fn first(&self) -> Option<u64>
         ensures { result ≡ position (λ bit. bit) self.now }
     {
@@ -99,7 +102,7 @@ impl Mask {
         Some(row as u64)
     }
 
-    /// The rows from `start` to `end - 1`. Refuses OutOfBounds where that is no part of the mask.
+    /// The rows `start` to `end - 1`. Refuses OutOfBounds where `start > end` or `end > len`.
     pub fn slice(&self, alloc: Global, start: u64, end: u64) -> VortexResult<Mask>
         ensures { Decided (unless (is_part (length self.now) start end) OutOfBounds None) (λ part. part ≡ rows_between self.now start end) result }
     {
@@ -111,7 +114,7 @@ impl Mask {
         })
     }
 
-    /// The same mask.
+    /// A copy.
     pub fn copy(&self, alloc: Global) -> VortexResult<Mask>
         ensures { Answers result self.now }
     {
@@ -121,7 +124,7 @@ impl Mask {
     }
 }
 
-// How many bits are true: a sum, without a branch a row.
+// The number of true bits, as a sum: no branch per row, so that the loop is vectorized.
 fn true_bits(bits: &[bool]) -> u64
     ensures { result ≡ true_count bits.now }
 {
@@ -132,11 +135,11 @@ fn true_bits(bits: &[bool]) -> u64
     count
 }
 
-// Whether each bit is true: one test for 64 rows.
+// Whether every bit is true. There is one branch for each group of rows, and the first group with a false ends the scan.
 fn are_true(bits: &[bool]) -> bool
     ensures { result ≡ list_all (λ bit. bit) bits.now }
 {
-    for rows in bits.chunks(64) {
+    for rows in bits.chunks(GROUP_ROWS) {
         if !each_true(rows) {
             return false;
         }
@@ -144,7 +147,7 @@ fn are_true(bits: &[bool]) -> bool
     true
 }
 
-// The same of a few rows, all of which are looked at.
+// Whether every bit of a group is true, by `&` over all of them: no branch per row.
 fn each_true(bits: &[bool]) -> bool
     ensures { result ≡ list_all (λ bit. bit) bits.now }
 {

@@ -19,7 +19,7 @@ pub enum PType {
 }
 
 impl PType {
-    /// How many bits a value takes.
+    /// The width of a value in bits.
     pub fn bit_width(self) -> u32
         ensures width { result ≡ bits_of self }
         ensures most { result ≤ 64 }
@@ -32,7 +32,7 @@ impl PType {
         }
     }
 
-    /// How many bytes a value takes.
+    /// The width of a value in bytes.
     pub fn byte_width(self) -> u64
         ensures width { result ≡ bytes_of self }
         ensures most { result ≤ 8 }
@@ -45,7 +45,7 @@ impl PType {
         }
     }
 
-    /// How many binary digits the numbers from 0 on have at most: one less than bits in a signed type.
+    /// The bits of the greatest value: the width, less the sign bit of a signed type.
     pub fn natural_bits(self) -> u32
         ensures width { result ≡ natural_bits self }
         ensures most { result ≤ 64 }
@@ -124,7 +124,7 @@ impl PType {
         }
     }
 
-    /// The type's text, as `u8`.
+    /// The name, such as `u8`.
     pub fn name(self) -> &'static str
         ensures { result.now ≡ ptype_text self }
     {

@@ -1,4 +1,4 @@
-//! A value with its type.
+//! Scalars: a value with its type.
 
 ghost use Rattle.std.specs.Prelude.{◌≡◌, IsTrue};
 ghost use Rattle.std.specs.Str.{is_utf8};
@@ -51,21 +51,21 @@ impl Drop for Scalar {
     }
 }
 
-// Whether the integer type holds the number.
+// Whether the number is in the range of the type.
 fn is_held(value: i128, ptype: PType) -> bool
     ensures { result ≡ lies_in ptype value }
 {
     value >= ptype.least() && value <= ptype.greatest()
 }
 
-/// Whether the bytes are fewer than 2^32.
+/// Whether there are fewer than 2^32 bytes, which is the limit of a text or binary value.
 pub fn is_short(bytes: &[u8]) -> bool
     ensures { result ≡ is_short bytes.now }
 {
     bytes.len() < 1 << 32
 }
 
-/// Whether the bytes are a text, which is UTF-8.
+/// Whether the bytes are valid UTF-8.
 pub fn is_text(bytes: &[u8]) -> bool
     ensures { result ≡ is_utf8 bytes.now }
 {
@@ -91,7 +91,7 @@ impl Scalar {
         &self.value
     }
 
-    /// The scalar's value fits its type.
+    /// Does nothing; its contract tells a caller's proof that the value fits the type.
     pub fn known(&self)
         ensures { IsTrue (fits self.now.dtype self.now.value) }
     {
@@ -104,7 +104,7 @@ impl Scalar {
         matches!(self.value, Value::Null)
     }
 
-    /// The value, which holds no others.
+    /// The value of a flat type, as a cell.
     pub fn cell(&self) -> Cell<'_>
         requires { IsTrue (is_flat self.now.dtype) }
         ensures { cell_value result ≡ self.now.value }
@@ -118,7 +118,7 @@ impl Scalar {
         }
     }
 
-    /// The integer, or none where it is null.
+    /// The integer, None where it is null.
     pub fn integer(&self) -> Option<i128>
         requires { IsTrue (is_integer self.now.dtype) }
         ensures { cell result ≡ self.now.value }
@@ -129,7 +129,7 @@ impl Scalar {
         }
     }
 
-    /// The same scalar.
+    /// A deep copy.
     pub fn copy(&self, alloc: Global) -> VortexResult<Scalar>
         ensures { Answers result self.now }
     {

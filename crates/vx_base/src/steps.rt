@@ -1,11 +1,11 @@
-//! A counter that contracts alone see.
+//! A counter that only contracts see.
 
 ghost use Rattle.std.specs.Prelude.{◌≡◌, ◌+◌, ◌<◌};
 
 use std::marker::Model;
 use std::sync::ledger::{Blank, Book, Ledger, Share};
 
-/// How often something was done. It takes no bytes and no time: contracts see the count, and only
+/// How often something was done. It takes no bytes and no time at run time: contracts see the count, and only
 /// `tick` changes it.
 ///
 /// `L` names the ledger of std that carries the count, so it is bounded by `Ledger`. A function

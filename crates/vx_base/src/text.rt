@@ -1,4 +1,4 @@
-//! A text, seen as its bytes.
+//! A `String` that contracts see as its bytes.
 
 ghost use Rattle.std.specs.Prelude.{◌≡◌, [], ◌++◌, length, MatchResult, string_bytes, encode_utf8, IsUtf8, IsTrue, ◌↔◌};
 ghost use Rattle.vx_base.specs.Answers.{Answers};
@@ -57,7 +57,7 @@ impl Text {
         self.text.as_str()
     }
 
-    /// The text's bytes, which are UTF-8.
+    /// The bytes, which are valid UTF-8.
     pub fn into_bytes(self) -> Bytes
         ensures bytes { result ≡ self }
         ensures utf8 { IsUtf8 result }
@@ -73,7 +73,7 @@ impl Text {
         })
     }
 
-    /// Whether the two texts are the same bytes.
+    /// Whether the two texts have the same bytes.
     pub fn same(&self, other: &Text) -> bool
         ensures { IsTrue result ↔ (self.now ≡ other.now) }
     {

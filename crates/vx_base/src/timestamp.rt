@@ -1,4 +1,4 @@
-//! What a timestamp counts, and from where.
+//! The unit and the time zone of timestamps.
 
 ghost use Rattle.std.specs.Prelude.{◌≡◌, ◌↔◌, IsTrue, None, option_copied};
 ghost use Rattle.vx_base.specs.Answers.{Answers, MakesSurely, unless};
@@ -11,7 +11,7 @@ use crate::text::Text;
 use std::alloc::Global;
 use std::marker::Model;
 
-/// The units that time is counted in.
+/// The units in which time is counted.
 #[derive(Clone, Copy, Debug, PartialEq, Eq, Hash)]
 pub enum TimeUnit {
     Nanoseconds,
@@ -22,7 +22,7 @@ pub enum TimeUnit {
 }
 
 impl TimeUnit {
-    /// How many of the unit are a second, none of days.
+    /// The number of units in a second, None of days.
     pub fn divisor(self) -> Option<i64>
         ensures { result ≡ divisor_of self }
     {
@@ -35,7 +35,7 @@ impl TimeUnit {
         }
     }
 
-    /// The unit's text, as `us`.
+    /// The name, such as `us`.
     pub fn name(self) -> &'static str
         ensures { result.now ≡ unit_text self }
     {
@@ -48,7 +48,7 @@ impl TimeUnit {
         }
     }
 
-    // Its number, which a hash is fed.
+    // The number that is hashed.
     pub(crate) fn number(self) -> u8
         ensures { result ≡ unit_number self }
     {
@@ -62,7 +62,7 @@ impl TimeUnit {
     }
 }
 
-/// A unit that divides a second, and the name of a time zone where there is one.
+/// A unit of which a second is a whole number, and the name of a time zone if there is one.
 #[derive(Debug, Drop)]
 pub struct TimestampType {
     unit: TimeUnit,
@@ -85,7 +85,7 @@ impl Model for TimestampType {
 impl TimestampType {
     ghost use Rattle.vx_base.specs.Timestamps.{kind};
 
-    /// A unit and a zone, whose name isn't looked at. Refuses DayUnit where the unit is days.
+    /// A unit and a zone, of which any name is accepted. Refuses DayUnit where the unit is days.
     pub fn new(unit: TimeUnit, zone: Option<Text>) -> Result<TimestampType, Refused<Option<Text>>>
         ensures { MakesSurely (unless (divides unit) DayUnit None) (kind unit zone) zone result }
     {
@@ -112,7 +112,7 @@ impl TimestampType {
         self.zone.as_ref()
     }
 
-    /// The same kind.
+    /// A copy.
     pub fn copy(&self, alloc: Global) -> VortexResult<TimestampType>
         ensures { Answers result self.now }
     {
@@ -126,7 +126,7 @@ impl TimestampType {
         })
     }
 
-    /// Whether the two kinds are one.
+    /// Whether unit and zone are equal.
     pub fn same(&self, other: &TimestampType) -> bool
         ensures { IsTrue result ↔ (self.now ≡ other.now) }
     {

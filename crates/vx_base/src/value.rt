@@ -23,7 +23,7 @@ pub enum Value {
     Int(i128),
     /// Texts and binaries.
     Bytes(Bytes),
-    /// Structs, one value for each field, and lists.
+    /// Structs, as one value per field, and lists.
     List(Values),
 }
 
@@ -66,7 +66,7 @@ impl Model for Values {
 impl Value {
     ghost use Rattle.vx_base.specs.TypeOf.{value_of};
 
-    /// The same value.
+    /// A deep copy.
     #[cycle(copy)]
     pub fn copy(&self, alloc: Global) -> VortexResult<Value>
         ensures { OrMemory result (λ copy. value_of copy ≡ value_of self.now) }
@@ -80,7 +80,7 @@ impl Value {
         }
     }
 
-    // Whether the two values are one.
+    // Whether the two values are equal.
     #[cycle(same)]
     fn same(&self, other: &Value) -> bool
         ensures { IsTrue result ↔ (value_of self.now ≡ value_of other.now) }
@@ -96,7 +96,7 @@ impl Value {
     }
 }
 
-/// Feeds a hash the length and the bytes.
+/// Writes the length and then the bytes to a hasher.
 pub(crate) fn write_bytes<H: Hasher>(bytes: &[u8], state: &mut H)
     ensures { state.new ≡ fold H.write state.old (bytes_writes bytes.now) }
 {
@@ -144,7 +144,7 @@ impl Value {
     ghost use Rattle.vx_base.specs.TypeOf.{value_of};
     ghost use Rattle.vx_base.specs.Writes.{value_writes};
 
-    // Feeds a hash the kind, and what the value has of its own.
+    // Writes a number for the kind and then the content to a hasher.
     #[cycle(feed)]
     fn feed<H: Hasher>(&self, state: &mut H)
         ensures { state.new ≡ fold H.write state.old (value_writes (value_of self.now)) }
@@ -165,6 +165,7 @@ impl Value {
             }
             Value::List(values) => {
                 state.write_u8(4);
+                state.write_u64(values.len());
                 values.feed(state);
             }
         }

@@ -15,22 +15,23 @@ use vx_blocks::{
 };
 use vx_values::Ints;
 
-// The generator of values: each state is the one before it times MULTIPLIER plus INCREMENT.
+// The generator of values: state = state * MULTIPLIER + INCREMENT, modulo 2^64.
 const SEED: u64 = 1;
 
 const MULTIPLIER: u64 = 6364136223846793005;
 
 const INCREMENT: u64 = 1442695040888963407;
 
-// What a digest is multiplied by before the next item is added.
+// A digest is digest * DIGEST_FACTOR + item for each item.
 const DIGEST_FACTOR: u64 = 31;
 
-// The kernels of series run at this width alone, on runs of so many rows, or on a ramp.
+// The width at which the kernels of series run, on runs or on a ramp.
 const SERIES_WIDTH: u32 = 7;
 
+// The rows of each run.
 const RUN_ROWS: u32 = 100;
 
-/// The rows that the kernels run on, and how often each runs.
+/// The rows that the kernels run on, and the number of runs of each.
 #[derive(Clone, Copy)]
 pub struct Setting {
     pub ptype: PType,
@@ -39,7 +40,7 @@ pub struct Setting {
     pub repeats: u32,
 }
 
-// Rows of `width` bits, the high ones of each state.
+// Rows of `width` bits: the high bits of the states.
 fn values<T: Integer>(alloc: Global, rows: usize, width: u32) -> Result<Vec<T>, AllocError>
     requires some { 0 < width }
     requires most { width ≤ 64 }
@@ -54,7 +55,7 @@ fn values<T: Integer>(alloc: Global, rows: usize, width: u32) -> Result<Vec<T>, 
     Ok(values)
 }
 
-// The same, each of so many rows.
+// Runs of RUN_ROWS equal rows of `width` bits: the high bits of the states.
 fn repeated<T: Integer>(alloc: Global, rows: usize, width: u32) -> Result<Vec<T>, AllocError>
     requires some { 0 < width }
     requires most { width ≤ 64 }
@@ -74,7 +75,7 @@ fn repeated<T: Integer>(alloc: Global, rows: usize, width: u32) -> Result<Vec<T>
     Ok(values)
 }
 
-// The numbers from 0 on.
+// The numbers from 0 on, modulo the type's range.
 fn ramp<T: Integer>(alloc: Global, rows: usize) -> Result<Vec<T>, AllocError> {
     let mut values = vec![in alloc; T::zero(); rows]?;
     let mut next: u64 = 0;
@@ -102,7 +103,8 @@ fn digest_of_tree(tree: &ArrayRef) -> Result<u64> {
     }
 }
 
-// Runs a kernel once, and then by the clock: the least processor time in microseconds, and the answer.
+// The least processor time of a kernel in microseconds, and its answer. A first run without the clock pays for the first
+// touch of the pages.
 fn best_of<A: Drop, F: Fn() -> VortexResult<A>>(
     rt: &impl CpuClock,
     repeats: u32,
@@ -155,7 +157,7 @@ fn tell_canonical(
     show(rt, "canonical", on, best, digest_of_tree(&plain)?)
 }
 
-// Of a ramp, where the type holds a long one.
+// Times `sequence_of` on a ramp, which types of 8 bits are too narrow for.
 fn tell_sequence<T: Integer>(
     rt: &(impl AllocGlobal + CpuClock + Print),
     on: &Setting,
@@ -175,7 +177,7 @@ fn digest_of_runs(made: &BlockRuns) -> u64 {
         .wrapping_add(digest(made.offsets.as_slice()))
 }
 
-// The differences of rows, and their sums.
+// Times the differences of rows, and the sums that restore them.
 fn tell_deltas<T: Integer>(
     rt: &(impl AllocGlobal + CpuClock + Print),
     on: &Setting,

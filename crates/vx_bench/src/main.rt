@@ -11,7 +11,7 @@ use std::env;
 use std::env::Env;
 use vx_base::PType;
 
-/// What the words after the program's name ask for.
+/// What the arguments ask for.
 enum Form {
     Compress,
     Parse,
@@ -19,14 +19,14 @@ enum Form {
     Usage,
 }
 
-fn ptype_of(word: &str) -> Option<PType> {
+fn ptype_of(name: &str) -> Option<PType> {
     [PType::U8, PType::U32, PType::U64]
         .into_iter()
-        .find(|ptype| ptype.name() == word)
+        .find(|ptype| ptype.name() == name)
 }
 
-fn setting_of(words: &[String]) -> Option<Setting> {
-    let [ptype, width, rows, repeats] = words else {
+fn setting_of(args: &[String]) -> Option<Setting> {
+    let [ptype, width, rows, repeats] = args else {
         return None;
     };
     Some(Setting {
@@ -37,8 +37,8 @@ fn setting_of(words: &[String]) -> Option<Setting> {
     })
 }
 
-fn form_of(words: &[String]) -> Form {
-    match words {
+fn form_of(args: &[String]) -> Form {
+    match args {
         [form] if form.as_str() == "compress" => Form::Compress,
         [form] if form.as_str() == "parse" => Form::Parse,
         [form, rest @ ..] if form.as_str() == "kernels" => match setting_of(rest) {
@@ -50,11 +50,11 @@ fn form_of(words: &[String]) -> Form {
 }
 
 fn main(rt: HostRuntime) -> Result<()> {
-    let mut words = Vec::new(rt.alloc());
-    for word in env::args(&rt)?.skip(1) {
-        words.push(word)?;
+    let mut args = Vec::new(rt.alloc());
+    for arg in env::args(&rt)?.skip(1) {
+        args.push(arg)?;
     }
-    match form_of(words.as_slice()) {
+    match form_of(args.as_slice()) {
         Form::Compress => tell_phases(&rt, rt.reader()),
         Form::Parse => tell_rows(&rt, rt.reader()),
         Form::Kernels(setting) => tell_kernels(&rt, &setting),

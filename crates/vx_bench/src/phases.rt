@@ -11,7 +11,7 @@ use vx_btrblocks::{BtrBlocksCompressor, NoScheme};
 use vx_program::{Document, Input, StdSource, listing_text, read_all, read_document};
 use vx_scheme::{GenerateStatsOptions, IntegerStats};
 
-/// How long each phase took, and how many distinct values the statistics tell.
+/// The time of each phase, and the number of distinct values by the statistics.
 #[derive(Clone, Copy)]
 struct Phases {
     read: Duration,
@@ -52,8 +52,8 @@ fn plain_of(alloc: Global, bytes: Vec<u8>) -> Result<Plain> {
     }
 }
 
-/// How many distinct values the statistics tell that dictionaries are judged by. Of a column that isn't one of integers
-/// no statistics are made, and they tell none.
+/// The number of distinct values by the statistics of integers, which dictionaries are judged by; 0 for a column of
+/// another type, which has none.
 fn distinct_values(alloc: Global, array: &ArrayRef) -> Result<u32> {
     if !array.dtype().is_integer() {
         return Ok(0);
@@ -82,9 +82,6 @@ fn compressed(alloc: Global, plain: Plain) -> Result<ArrayRef> {
 
 /// The length of the listing.
 fn listed(alloc: Global, tree: &ArrayRef) -> Result<usize> {
-    if tree.nbytes() == u128::MAX {
-        bail!("the tree's bytes pass 128 bits");
-    }
     Ok(listing_text(alloc, tree)?.len())
 }
 
@@ -96,7 +93,8 @@ fn drop_json(alloc: Global, bytes: &[u8]) -> Result<()> {
     }
 }
 
-/// How long it takes to read the bytes as JSON and to drop the value, once that was done before.
+/// The time to read the bytes as JSON and to drop the value. A first round without the clock pays for the first touch
+/// of the pages.
 fn read_as_json(rt: &(impl AllocGlobal + Clock), bytes: &[u8]) -> Result<Duration> {
     drop_json(rt.alloc(), bytes)?;
     let start = Instant::now(rt)?;
@@ -104,7 +102,7 @@ fn read_as_json(rt: &(impl AllocGlobal + Clock), bytes: &[u8]) -> Result<Duratio
     Ok(start.elapsed(rt)?)
 }
 
-/// A document's plain tree, and how long it took to come by it.
+/// A document's plain tree, and the time of each step to it.
 #[derive(Drop)]
 struct Parsed {
     plain: Plain,
@@ -113,7 +111,7 @@ struct Parsed {
     parse: Duration,
 }
 
-/// The plain tree of the reader's document. Between reading and parsing they are read as JSON alone.
+/// The plain tree of the reader's document. Between reading and parsing the bytes are timed as JSON alone.
 fn read_and_parse<R: Read>(rt: &(impl AllocGlobal + Clock), reader: R) -> Result<Parsed>
 where
     R: Drop,
@@ -133,7 +131,8 @@ where
     })
 }
 
-/// How long the statistics of the column take, once they were made before, and how many distinct values they tell.
+/// The time of the statistics of the column, after a first round without the clock, and their number of distinct
+/// values.
 fn counted(rt: &(impl AllocGlobal + Clock), array: &ArrayRef) -> Result<(Duration, u32)> {
     let _before = distinct_values(rt.alloc(), array)?;
     let start = Instant::now(rt)?;
@@ -141,7 +140,7 @@ fn counted(rt: &(impl AllocGlobal + Clock), array: &ArrayRef) -> Result<(Duratio
     Ok((start.elapsed(rt)?, distinct))
 }
 
-/// How long it took to compress the column and to list its tree.
+/// The times to compress the column and to list its tree.
 fn packed(rt: &(impl AllocGlobal + Clock), plain: Plain) -> Result<(Duration, Duration)> {
     let start = Instant::now(rt)?;
     let tree = compressed(rt.alloc(), plain)?;
@@ -182,7 +181,7 @@ fn show(rt: &impl Print, phase: &str, time: Duration) -> Result<()> {
     Ok(())
 }
 
-/// Reads and parses the reader's document, and writes how many rows it has: the memory of a run that does no more.
+/// Reads and parses the reader's document, and writes its number of rows. It shows the memory that reading alone takes.
 pub fn tell_rows<R: Read>(rt: &(impl AllocGlobal + Print), reader: R) -> Result<()>
 where
     R: Drop,

@@ -1,37 +1,24 @@
-use Rattle.std.proofs.Common.{◌≡◌, ℕ, ◌+◌, ◌-◌, ◌^◌, ◌<◌, ◌≤◌, Bool, true, false, List, [], ◌∷◌, ◌++◌, length, get_or, sum, set, take, replicate, cond, ap, ◌∙◌, refl, arith, get_or-set_other, get_or-set_same, eqb, inl, inr, lit<}
+use Rattle.std.proofs.Common.{◌≡◌, ℕ, ◌+◌, ◌-◌, ◌^◌, ◌<◌, ◌≤◌, Bool, true, false, List, [], ◌∷◌, ◌++◌, length, get_or, sum, set, take, replicate, cond, ap, ◌∙◌, refl, arith, get_or-set_other, get_or-set_same, eqb, inl, inr}
 use Rattle.std.proofs.Math.ListN.{length-set}
-use Rattle.std.proofs.Math.Nat as nat
-use Rattle.std.proofs.lemmas.Bool.{cases_lt, cases_eq}
+use Rattle.std.proofs.lemmas.Bool.{cases_eq}
 use Rattle.std.proofs.lemmas.Bool.Decides.{nat_tests}
 use Rattle.std.proofs.lemmas.List.Sums.{sum_by-append, sum_by_push, sum_by-set, sum_by_more, sum_by-take-le}
 use Rattle.std.proofs.lemmas.List.Folds.{sum_by-replicate}
 use Rattle.std.proofs.lemmas.List.{length-append, set-get_or, take-set-le, get_or-replicate}
-use Rattle.std.proofs.lemmas.Nat.{leading_length, leading_le}
+use Rattle.std.proofs.lemmas.Nat.{leading_le}
 use Rattle.std.specs.Int.Count.{count_leading_zeros}
 use Rattle.vx_base.specs.Digits.{digits}
+use Rattle.vx_base.proofs.DigitsLemmas.{digits-le, digits-leading}
 use Rattle.vx_base.specs.Packed.{kept_row}
 use Rattle.vx_blocks.specs.Histogram.{AreByZeros, IsHistogram}
 use Rattle.vx_blocks.proofs.Rows.{kept_row-fits}
 use mir.Val.{bool_byte}
 
-pub digits-le : (bits k : ℕ) → bits < 2 ^ 64 → bits < 2 ^ k → digits bits ≤ k
-digits-le bits k h small =
-    let m = leading_length 64 bits h in
-    elim (cases_lt k m.0) [
-      | inl lt ↦ let p = nat.pow-le-pow_right {n = 2} (lit< tt) lt in let q = nat.pow-suc 2 k in absurd (omega (arith, m.3, p, q))
-      | inr le ↦ omega (arith, m.1)
-    ]
-
-pub le-digits : (bits k : ℕ) → bits < 2 ^ 64 → digits bits ≤ k → bits < 2 ^ k
-le-digits bits k h few =
-    let m = leading_length 64 bits h in
-    let within : m.0 ≤ k = omega (arith, m.1) in
-    nat.lt_of_lt_of_le m.2 (nat.pow-le-pow_right {n = 2} (lit< tt) within)
-
 -- ---- one row more
-by_zeros-counted : (width : ℕ) (rows counts : List ℕ) (row place : ℕ) → AreByZeros width rows counts → length counts ≡ 65 → place ≡ count_leading_zeros 64 row → digits row ≤ width
+by_zeros-counted : (width : ℕ) (rows counts : List ℕ) (row place : ℕ) → AreByZeros width rows counts → length counts ≡ 65 → place ≡ count_leading_zeros 64 row → row < 2 ^ 64 → digits row ≤ width
     → AreByZeros width (rows ++ row ∷ []) (set counts place (get_or counts place 0 + 1))
-by_zeros-counted width rows counts row place h size is small =
+by_zeros-counted width rows counts row place h size is held small =
+    let leading : digits row ≡ 64 - count_leading_zeros 64 row = digits-leading row held in
     let le : place ≤ 64 = omega (arith, leading_le 64 row) in
     let room : place < length counts = omega arith in
     let more = sum_by-set (λ x. x) counts place (get_or counts place 0 + 1) 0 room in
@@ -64,13 +51,11 @@ by_zeros-counted width rows counts row place h size is small =
 by_zeros-null : (width : ℕ) (rows counts : List ℕ) → AreByZeros width rows counts → AreByZeros width (rows ++ 0 ∷ []) counts
 by_zeros-null width rows counts h =
     let len = length-append rows (0 ∷ []) in
-    let none : digits 0 ≤ 0 = digits-le 0 0 (omega arith) (omega arith) in
-    let yes : eqb (digits 0) 0 ≡ true = grind (arith, nat_tests) in
     record {
       each = λ w some below.
           let no : eqb (digits 0) w ≡ false = grind (arith, nat_tests) in
           rw (sum_by_push (λ r. cond (eqb (digits r) w) 1 0) rows 0, no) (omega (arith, h.each w some below));
-      left_out = rw (sum_by_push (λ r. cond (eqb (digits r) 0) 1 0) rows 0, yes) (omega (arith, h.left_out, len));
+      left_out = rw (sum_by_push (λ r. cond (eqb (digits r) 0) 1 0) rows 0) (omega (arith, h.left_out, len));
       within = h.within;
       most = omega (arith, h.most, len);
     }
@@ -78,7 +63,7 @@ by_zeros-null width rows counts h =
 pub by_zeros-push : (width : ℕ) (rows counts : List ℕ) (bits : ℕ) (valid : Bool) → AreByZeros width rows counts → length counts ≡ 65 → bits < 2 ^ 64 → bits < 2 ^ width
     → AreByZeros width (rows ++ kept_row 64 bits valid ∷ []) (set counts (count_leading_zeros 64 bits) (get_or counts (count_leading_zeros 64 bits) 0 + bool_byte valid))
 by_zeros-push width rows counts bits true h size held small =
-    rw (kept_row-fits 64 bits true refl held) (by_zeros-counted width rows counts bits (count_leading_zeros 64 bits) h size refl (digits-le bits width held small))
+    rw (kept_row-fits 64 bits true refl held) (by_zeros-counted width rows counts bits (count_leading_zeros 64 bits) h size refl held (digits-le bits width small))
 by_zeros-push width rows counts bits false h size held small =
     let place = count_leading_zeros 64 bits in
     let same : set counts place (get_or counts place 0 + 0) ≡ counts = ap (set counts place) (omega arith) ∙ set-get_or counts place 0 in

@@ -21,7 +21,7 @@ module _ {X : Type 0} (g : X → ℤ) (xs : List X) (valid : List Bool) (same : 
   pub row-after : (last item : ℤ) → last ≡ before (pos 0) column i → item ≡ cond (get_or valid i false) (g x) last → item ≡ get_or column i (pos 0)
   row-after last item so_far made = filled-item (optional_rows (map g xs) valid) i (get_or valid i false) (g x) last item room (rows-at g xs valid same i x within at) so_far made
 
-  -- the same where a block's first row is taken from itself
+  -- the first row of a block, whose delta is from itself
   module _ (last item : ℤ) (first : i % 1024 ≡ 0 → last ≡ get_or column i (pos 0)) (other : i % 1024 ≢ 0 → last ≡ get_or column (i - 1) (pos 0)) where
     pub row-from : item ≡ cond (get_or valid i false) (g x) last → item ≡ get_or column i (pos 0)
     row-from made = filled-from (optional_rows (map g xs) valid) i (get_or valid i false) (g x) last item room (rows-at g xs valid same i x within at) first other made

@@ -27,7 +27,7 @@ abbrev pub or_last : Option ℤ → ℤ → ℤ
 or_last None last = last
 or_last (Some z) last = z
 
--- what lies before a row: a given number before the first
+-- the row before a row, and a given number before the first
 abbrev pub before : ℤ → List ℤ → ℕ → ℤ
 before last rows i = get_or (last ∷ rows) i (pos 0)
 
@@ -42,7 +42,7 @@ or_last-row : (valid : Bool) (z last : ℤ) → or_last (optional_row z valid) l
 or_last-row true z last = refl
 or_last-row false z last = refl
 
--- the row that a loop makes of its item
+-- the filled row that a loop computes from its item
 pub filled-item : (rows : List (Option ℤ)) (i : ℕ) (valid : Bool) (z last item : ℤ) → i < length rows → optional_row z valid ≡ get_or rows i None → last ≡ before (pos 0) (filled rows) i → item ≡ cond valid z last
     → item ≡ get_or (filled rows) i (pos 0)
 filled-item rows i valid z last item h is so_far made = made ∙ sym (or_last-row valid z last) ∙ (λ k. or_last (is k) (so_far k)) ∙ sym (filled-row (pos 0) rows i h)
@@ -82,7 +82,7 @@ module _ (kind : PType) (rows : List ℤ) where
       let more = before-at rows i other in
       e ∙ rw (ne_eqb (i % 1024) 0 other, within) (λ k. wrap kind (is k -ℤ (so_far ∙ more) k))
 
-  -- the same where the first row of a block is taken from itself
+  -- the first row of a block, whose delta is from itself
   pub delta-from : (i : ℕ) (item last made : ℤ) → i < length rows → (i % 1024 ≡ 0 → last ≡ get_or rows i (pos 0)) → (i % 1024 ≢ 0 → last ≡ get_or rows (i - 1) (pos 0)) → item ≡ get_or rows i (pos 0) → made ≡ wrap kind (item -ℤ last)
       → made ≡ delta kind rows i
   delta-from i item last made h first other is e = by_test (i % 1024 == 0) refl

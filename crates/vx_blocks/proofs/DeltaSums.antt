@@ -55,7 +55,7 @@ total-parts zs start at n first =
     ap (λ m. total (take m (drop start zs))) size ∙ ap total (take-add (at - start) n (drop start zs)) ∙ total-append (rows_between zs start at) (take n (drop (at - start) (drop start zs)))
     ∙ ap (λ ys. total (rows_between zs start at) +ℤ total (take n ys)) (drop-drop (at - start) start zs ∙ ap (λ m. drop m zs) place)
 
--- a number that sums go on from as they do from a block's base and its deltas before a row
+-- a number from which sums continue as from the block's base and its deltas before a row
 abbrev pub GoesOn : PType → List ℤ → List ℤ → ℕ → ℕ → ℤ → Type 0
 GoesOn kind bases deltas block at last = (z : ℤ) → wrap kind (last +ℤ z) ≡ wrap kind ((get_or bases block (pos 0) +ℤ total (rows_between deltas (1024 * block) at)) +ℤ z)
 

@@ -6,8 +6,8 @@ use Rattle.std.proofs.Math.Seq.{take-append-add}
 use Rattle.std.proofs.Math.Nat as nat
 use borrow.Rule.Slice.PartMut.{put_mid}
 use Rattle.vx_blocks.specs.Holds.{Holds}
-use Rattle.vx_base.specs.Packed.{joined}
-use Rattle.vx_blocks.proofs.Joins.{joined-append, joined-group}
+use Rattle.vx_base.specs.Packed.{packed_number}
+use Rattle.vx_blocks.proofs.Joins.{packed_number-append, packed_number-group}
 use Rattle.vx_blocks.proofs.Rows.{next-row}
 
 -- what was there, and the first items of what is written behind it
@@ -23,12 +23,12 @@ none_above low p zero n e h = omega arith
 none_above low p (suc high) n e h = absurd (omega arith)
 
 -- the low bytes of a word hold it, where it is small
-pub low-bytes : (bytes : List ℕ) (word m : ℕ) → joined 8 bytes ≡ word → word < 2 ^ (8 * m) → m ≤ length bytes → joined 8 (take m bytes) ≡ word
+pub low-bytes : (bytes : List ℕ) (word m : ℕ) → packed_number 8 bytes ≡ word → word < 2 ^ (8 * m) → m ≤ length bytes → packed_number 8 (take m bytes) ≡ word
 low-bytes bytes word m is small within =
-    let parts : joined 8 (take m bytes) + 2 ^ (8 * length (take m bytes)) * joined 8 (drop m bytes) ≡ joined 8 bytes =
-    sym (joined-append 8 (take m bytes) (drop m bytes)) ∙ ap (joined 8) (take-append-drop m bytes) in
+    let parts : packed_number 8 (take m bytes) + 2 ^ (8 * length (take m bytes)) * packed_number 8 (drop m bytes) ≡ packed_number 8 bytes =
+    sym (packed_number-append 8 (take m bytes) (drop m bytes)) ∙ ap (packed_number 8) (take-append-drop m bytes) in
     let long : length (take m bytes) ≡ m = length-take-le m bytes within in
-    none_above (joined 8 (take m bytes)) (2 ^ (8 * m)) (joined 8 (drop m bytes)) word (rw long at parts ∙ is) small
+    none_above (packed_number 8 (take m bytes)) (2 ^ (8 * m)) (packed_number 8 (drop m bytes)) word (rw long at parts ∙ is) small
 
 -- what is taken of the buffer, before one row more
 pub taken-so-far : (number w k len : ℕ) (out : List ℕ) (acc fill : ℕ) → Holds number (w * k) (take len out) acc fill → len ≤ length out → k ≤ 8 → len ≤ w
@@ -37,8 +37,8 @@ taken-so-far number w k len out acc fill h within last =
     omega (arith, h.end, length-take-le len out within)
 
 -- the last word
-pub eight-end : (number w len : ℕ) (out word : List ℕ) (acc fill m : ℕ) → Holds number (w * 8) (take len out) acc fill → len ≤ length out → joined 8 word ≡ acc → length word ≡ 8
-    → joined 8 (take w (put_mid len m out word)) ≡ number
+pub eight-end : (number w len : ℕ) (out word : List ℕ) (acc fill m : ℕ) → Holds number (w * 8) (take len out) acc fill → len ≤ length out → packed_number 8 word ≡ acc → length word ≡ 8
+    → packed_number 8 (take w (put_mid len m out word)) ≡ number
 eight-end number w len out word acc fill m h within is long =
     let size : length (take len out) ≡ len = length-take-le len out within in
     let whole : 8 * len + fill ≡ w * 8 = rw size at h.end in
@@ -46,36 +46,36 @@ eight-end number w len out word acc fill m h within is long =
     let at : w ≡ len + rest = omega arith in
     let few : rest ≤ length word = omega (arith, h.room) in
     let bits : fill ≡ 8 * rest = omega arith in
-    let low : joined 8 (take rest word) ≡ acc = low-bytes word acc rest is (rw bits at h.small) few in
-    ap (joined 8) (take-written len rest m w out word within few at) ∙ joined-append 8 (take len out) (take rest word) ∙ rw low h.value
+    let low : packed_number 8 (take rest word) ≡ acc = low-bytes word acc rest is (rw bits at h.small) few in
+    ap (packed_number 8) (take-written len rest m w out word within few at) ∙ packed_number-append 8 (take len out) (take rest word) ∙ rw low h.value
 
 -- one row more of some that begin later
 pub next-row-behind : (w : ℕ) (rows : List ℕ) (at k row : ℕ) (bytes : List ℕ) (acc fill : ℕ) → at + k < length rows → row ≡ get_or rows (at + k) 0
-    → Holds (joined w (take k (drop at rows)) + 2 ^ (w * k) * row) (w * k + w) bytes acc fill → Holds (joined w (take (k + 1) (drop at rows))) (w * (k + 1)) bytes acc fill
+    → Holds (packed_number w (take k (drop at rows)) + 2 ^ (w * k) * row) (w * k + w) bytes acc fill → Holds (packed_number w (take (k + 1) (drop at rows))) (w * (k + 1)) bytes acc fill
 next-row-behind w rows at k row bytes acc fill h is holds =
     next-row w (drop at rows) k row bytes acc fill (omega (arith, length-drop at rows)) (is ∙ sym (get_or-drop at rows k 0)) holds
 
 -- eight rows more
 pub next-eight : (w : ℕ) (rows : List ℕ) (start unit first m next : ℕ) (buffer eight : List ℕ) → start + 64 ≤ length rows → unit < 8 → first ≡ w * unit → first ≤ length buffer → w ≤ length eight → next ≡ w * (unit + 1)
-    → joined 8 (take w eight) ≡ joined w (take 8 (drop (start + 8 * unit) rows)) → joined 8 (take (w * unit) buffer) ≡ joined w (take (8 * unit) (drop start rows))
-    → joined 8 (take next (put_mid first m buffer eight)) ≡ joined w (take (8 * (unit + 1)) (drop start rows))
+    → packed_number 8 (take w eight) ≡ packed_number w (take 8 (drop (start + 8 * unit) rows)) → packed_number 8 (take (w * unit) buffer) ≡ packed_number w (take (8 * unit) (drop start rows))
+    → packed_number 8 (take next (put_mid first m buffer eight)) ≡ packed_number w (take (8 * (unit + 1)) (drop start rows))
 next-eight w rows start unit first m next buffer eight room few at long within to is before =
-    let low : joined 8 (take first buffer) ≡ joined w (take (8 * unit) (drop start rows)) = rw at before in
-    let high : joined 8 (take w eight) ≡ joined w (take 8 (drop (8 * unit) (drop start rows))) = is ∙ ap (λ xs. joined w (take 8 xs)) (sym (drop-drop (8 * unit) start rows)) in
+    let low : packed_number 8 (take first buffer) ≡ packed_number w (take (8 * unit) (drop start rows)) = rw at before in
+    let high : packed_number 8 (take w eight) ≡ packed_number w (take 8 (drop (8 * unit) (drop start rows))) = is ∙ ap (λ xs. packed_number w (take 8 xs)) (sym (drop-drop (8 * unit) start rows)) in
     let size : 8 * length (take first buffer) ≡ w * (8 * unit) = omega (arith, length-take-le first buffer long) in
     let sum : 8 * (unit + 1) ≡ 8 * unit + 8 = omega arith in
-    ap (joined 8) (take-written first w m next buffer eight long within (omega arith)) ∙ joined-append 8 (take first buffer) (take w eight)
-    ∙ rw (low, high, size, sum) (sym (joined-group w (drop start rows) (8 * unit) 8 (omega (arith, length-drop start rows))))
+    ap (packed_number 8) (take-written first w m next buffer eight long within (omega arith)) ∙ packed_number-append 8 (take first buffer) (take w eight)
+    ∙ rw (low, high, size, sum) (sym (packed_number-group w (drop start rows) (8 * unit) 8 (omega (arith, length-drop start rows))))
 
 -- a group of 64 rows more, which are whole words
-pub next-group : (w : ℕ) (rows : List ℕ) (group : ℕ) (bytes more : List ℕ) → 64 * group + 64 ≤ length rows → length more ≡ 8 * w → joined 8 more ≡ joined w (take 64 (drop (64 * group) rows))
-    → Holds (joined w (take (64 * group) rows)) (w * (64 * group)) bytes 0 0 → Holds (joined w (take (64 * (group + 1)) rows)) (w * (64 * (group + 1))) (bytes ++ more) 0 0
+pub next-group : (w : ℕ) (rows : List ℕ) (group : ℕ) (bytes more : List ℕ) → 64 * group + 64 ≤ length rows → length more ≡ 8 * w → packed_number 8 more ≡ packed_number w (take 64 (drop (64 * group) rows))
+    → Holds (packed_number w (take (64 * group) rows)) (w * (64 * group)) bytes 0 0 → Holds (packed_number w (take (64 * (group + 1)) rows)) (w * (64 * (group + 1))) (bytes ++ more) 0 0
 next-group w rows group bytes more room long is h =
     let sum : 64 * (group + 1) ≡ 64 * group + 64 = omega arith in
     let size : 8 * length bytes ≡ w * (64 * group) = omega (arith, h.end) in
-    let low : joined 8 bytes ≡ joined w (take (64 * group) rows) = omega (arith, h.value) in
+    let low : packed_number 8 bytes ≡ packed_number w (take (64 * group) rows) = omega (arith, h.value) in
     record {
-      value = rw (joined-append, is, low, size, sum, joined-group w rows (64 * group) 64 (omega arith)) (omega arith);
+      value = rw (packed_number-append, is, low, size, sum, packed_number-group w rows (64 * group) 64 (omega arith)) (omega arith);
       end = rw (length-append, long) (omega (arith, h.end));
       words = (h.words.0 + w, rw (length-append, long) (omega (arith, h.words.1)));
       small = h.small;

@@ -1,4 +1,4 @@
--- Rows that are packed as they are, tested many at once.
+-- Rows that are packed unchanged, with one test for many.
 use Rattle.std.proofs.Common.{◌≡◌, ℕ, ◌+◌, ◌/◌, ◌^◌, ◌<◌, ◌≤◌, Bool, true, false, ◌&&◌, List, length, get_or, ◌∙◌, arith, inl, inr, refl, nat_eq}
 use Rattle.std.specs.Bool.{OnTrue}
 use Rattle.std.specs.Int.RustNames.{bit_or}
@@ -35,7 +35,7 @@ seen-more bits valid start i word x all is before k first last =
           (rw (here, ← is) (le_or_r word x), λ both. rw here (and_second all (get_or valid i false) both))
     ]
 
--- what was seen of all of them
+-- what the test says of all of them
 pub seen-all : (width : ℕ) (bits : List ℕ) (valid : List Bool) (start end word : ℕ) (all : Bool) → length valid ≡ length bits → end ≤ length bits → all ≡ true
     → ((k : ℕ) → start ≤ k → k < end → (get_or bits k 0 ≤ word) × (all ≡ true → get_or valid k false ≡ true)) → (fits : Bool) → fits ≡ nat_eq (word / 2 ^ width) 0 → OnTrue fits (AreKept width bits valid start end)
 seen-all width bits valid start end word all same within is_all seen false e = tt

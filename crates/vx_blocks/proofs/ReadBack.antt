@@ -6,13 +6,13 @@ use Rattle.vx_base.specs.Packed.{packed_row, kept_row, kept_rows}
 use Rattle.vx_blocks.specs.IsPacked.{IsPacked}
 use Rattle.vx_blocks.specs.GivesBack.{Unpacks, bits_at, is_set_at, GivesBackValues, GivesBackKeptRows}
 use Rattle.vx_blocks.proofs.Rows.{kept_row-fits, kept_rows-get, length-kept_rows, kept_rows-fit}
-use Rattle.vx_blocks.proofs.Windows.{row_in-joined}
+use Rattle.vx_blocks.proofs.Windows.{row_in-packed_number}
 
 -- what was packed is read back: the value of a valid row that fits, else 0
 pub unpacked : (width : ℕ) (bits : List ℕ) (valid : List Bool) (bytes : List ℕ) (i : ℕ) → length valid ≡ length bits → i < length bits → IsPacked width (kept_rows width bits valid) bytes
     → packed_row bytes width i ≡ kept_row width (get_or bits i 0) (get_or valid i false)
 unpacked width bits valid bytes i e h packed =
-    rw packed.number (row_in-joined width (kept_rows width bits valid) i (kept_rows-fit width bits valid) (rw (length-kept_rows width bits valid e) h) ∙ kept_rows-get width bits valid i e h)
+    rw packed.number (row_in-packed_number width (kept_rows width bits valid) i (kept_rows-fit width bits valid) (rw (length-kept_rows width bits valid e) h) ∙ kept_rows-get width bits valid i e h)
 
 gives-kept_row : (kind : PType) (values : List ℤ) (valid : List Bool) (width start end : ℕ) (rows : List ℕ) → Unpacks kind values valid width start end rows
     → (i : ℕ) → i < end - start → get_or rows i 0 ≡ kept_row width (bits_at kind values (start + i)) (is_set_at valid (start + i))

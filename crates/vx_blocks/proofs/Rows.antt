@@ -5,8 +5,8 @@ use Rattle.std.proofs.Math.Nat as nat
 use Rattle.std.proofs.lemmas.Bool.{cases_lt}
 use Rattle.std.proofs.lemmas.Nat.{pow_pos}
 use Rattle.vx_blocks.specs.Holds.{Holds}
-use Rattle.vx_base.specs.Packed.{kept_row, kept_rows, packed_size, joined}
-use Rattle.vx_blocks.proofs.Joins.{joined_more}
+use Rattle.vx_base.specs.Packed.{kept_row, kept_rows, packed_size, packed_number}
+use Rattle.vx_blocks.proofs.Joins.{packed_number_more}
 
 pub kept_row-lt : (width bits : ℕ) (valid : Bool) → kept_row width bits valid < 2 ^ width
 kept_row-lt width bits true = grind (arith, nat_tests, pow_pos width)
@@ -58,9 +58,9 @@ packed_size-kept_rows f g width xs valid size e is = rw (kept_rows-length f g wi
 
 -- ---- what `put` leaves, as the loop's invariant says it
 pub next-row : (w : ℕ) (rows : List ℕ) (i row : ℕ) (bytes : List ℕ) (acc fill : ℕ) → i < length rows → row ≡ get_or rows i 0
-    → Holds (joined w (take i rows) + 2 ^ (w * i) * row) (w * i + w) bytes acc fill → Holds (joined w (take (i + 1) rows)) (w * (i + 1)) bytes acc fill
+    → Holds (packed_number w (take i rows) + 2 ^ (w * i) * row) (w * i + w) bytes acc fill → Holds (packed_number w (take (i + 1) rows)) (w * (i + 1)) bytes acc fill
 next-row w rows i row bytes acc fill h is holds =
-    let e : joined w (take i rows) + 2 ^ (w * i) * row ≡ joined w (take (i + 1) rows) = rw (is, joined_more w rows i h) refl in
+    let e : packed_number w (take i rows) + 2 ^ (w * i) * row ≡ packed_number w (take (i + 1) rows) = rw (is, packed_number_more w rows i h) refl in
     let p : w * i + w ≡ w * (i + 1) = omega arith in
     rw (e, p) at holds
 

@@ -1,4 +1,4 @@
--- Rows that are read one behind the other.
+-- Rows that are read one after another.
 use Rattle.std.proofs.Common.{◌≡◌, ℕ, ◌+◌, ◌-◌, ◌*◌, ◌/◌, ◌^◌, ◌<◌, ◌≤◌, ℤ, pos, List, [], ◌∷◌, ◌++◌, length, map, get_or, ap, sym, ◌∙◌, arith, inl, inr, length-append}
 use Rattle.std.proofs.lemmas.Bool.{cases_lt, lt-ltb}
 use Rattle.std.proofs.lemmas.List.{get_or_append_left, get_or-append_right, get_or-map, length-map}
@@ -7,7 +7,7 @@ use Rattle.std.proofs.Math.Nat as nat
 use Rattle.vx_base.specs.declared.ptype.PType.{PType}
 use Rattle.vx_base.specs.declared.ptype.PType.TheVariants.{U64}
 use Rattle.vx_base.specs.Integers.{natural_bits}
-use Rattle.vx_base.specs.Packed.{joined, packed_row}
+use Rattle.vx_base.specs.Packed.{packed_number, packed_row}
 use Rattle.vx_base.specs.Wrapping.{wrap}
 use Rattle.vx_base.proofs.WrapLemmas.{wrap-same}
 use Rattle.vx_blocks.specs.IsPacked.{IsUnpacked, IsUnpackedAs}
@@ -43,7 +43,7 @@ module _ (value : ℕ → ℤ) (bytes : List ℕ) (width start : ℕ) where
 
 row-wrapped : (kind : PType) (bytes : List ℕ) (width i : ℕ) → width ≤ natural_bits kind → wrap kind (pos (packed_row bytes width i)) ≡ pos (packed_row bytes width i)
 row-wrapped kind bytes width i h =
-    let lt : packed_row bytes width i < 2 ^ width = nat.mod-lt (joined 8 bytes / 2 ^ (width * i)) (pow_pos width) in
+    let lt : packed_row bytes width i < 2 ^ width = nat.mod-lt (packed_number 8 bytes / 2 ^ (width * i)) (pow_pos width) in
     let le : 2 ^ width ≤ 2 ^ natural_bits kind = nat.pow-le-pow_right (omega arith) h in
     wrap-same kind (pos (packed_row bytes width i)) (lt-ltb _ _ (omega arith))
 

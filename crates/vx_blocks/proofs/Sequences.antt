@@ -44,7 +44,7 @@ module _ {X : Type 0} (g : X → ℤ) (xs : List X) where
     pub wrapped-told-back : IsWrappedStep kind (map g xs) step i → g b ≡ wrap kind (g a +ℤ step)
     wrapped-told-back e = let p = whole-at g xs (i - 1) a (omega arith) before in let q = whole-at g xs i b within at in q ∙ e ∙ sym (λ k. wrap kind (p k +ℤ step))
 
--- ---- a number between two that lie in the type does
+-- ---- a number between two values of a type is in its range
 
 held_between : (p : PType) (a z b : ℤ) → lies_in p a ≡ true → lies_in p b ≡ true → a ≤ℤ z → z ≤ℤ b → lies_in p z ≡ true
 held_between p a (pos n) (pos m) h k l r = lt-ltb n (2 ^ natural_bits p) (let most = ltb-true m (2 ^ natural_bits p) k in omega (arith, ints))
@@ -54,7 +54,7 @@ held_between p (negsuc m) (negsuc n) b h k l r =
     and_from _ _ c.0 (lt-ltb n (2 ^ natural_bits p) (let most = ltb-true m (2 ^ natural_bits p) c.1 in omega (arith, ints)))
 held_between p (pos m) (negsuc n) b h k l r = absurd (omega (arith, ints))
 
--- a row of a sequence up to the last lies between the first and the last
+-- each row of a sequence lies between the first and the last
 pub row-held : (p : PType) (first step : ℤ) (i last : ℕ) → i ≤ last → lies_in p first ≡ true → lies_in p (sequence_row first step last) ≡ true → lies_in p (sequence_row first step i) ≡ true
 row-held p first (pos s) i last l h k = let up = mul-le-mul_right s l in held_between p first (first +ℤ pos (i * s)) (first +ℤ pos (last * s)) h k (omega (arith, ints)) (omega (arith, ints))
 row-held p first (negsuc s) i last l h k =
@@ -126,7 +126,7 @@ module _ (kind : PType) (rows : List ℤ) where
       by_test true e = absurd (other (sequence-rows e))
       by_test false e = cond-false _ _ _ (and-second (nat_le 2 (length rows)) _ (and-second (lies_in kind (first_step rows)) _ e))
 
-  -- ---- the same by the last row, and by each row behind another in numbers that wrap
+  -- ---- by the last row, and by wrapping steps from row to row
 
   module _ (last : ℕ) (end : last + 1 ≡ length rows) where
     pub sequence-apart : (row last -ℤ row 0 ≢ pos last *ℤ first_step rows) → sequence_of kind rows ≡ None

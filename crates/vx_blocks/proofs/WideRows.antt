@@ -33,12 +33,12 @@ append_nil : (ys : List ℕ) → ys ++ [] ≡ ys
 append_nil [] = refl
 append_nil (y ∷ ys) = ap (λ l. y ∷ l) (append_nil ys)
 
--- a row that fits isn't wide, valid or not
+-- a row that fits the width isn't wide, valid or not
 narrow-row : (width bits : ℕ) (valid : Bool) → bits < 2 ^ width → is_wide width bits valid ≡ false
 narrow-row width bits false h = refl
 narrow-row width bits true h = rw (lt-ltb _ _ h) refl
 
--- rows that are seen through their bits, joined by or
+-- the `|` of bits
 pub seen-row : (bits : List ℕ) (start i word x : ℕ) → x ≡ get_or bits i 0 → ((k : ℕ) → start ≤ k → k < i → get_or bits k 0 ≤ word) → (k : ℕ) → start ≤ k → k < i + 1 → get_or bits k 0 ≤ bit_or word x
 seen-row bits start i word x is before k first last =
     elim (cases_lt k i) [
@@ -46,7 +46,7 @@ seen-row bits start i word x is before k first last =
       | inr far ↦ let here : k ≡ i = omega arith in rw (here, ← is) (le_or_r word x)
     ]
 
--- and fit where those fit
+-- fits a width where each of them does
 pub seen-narrow : (bits : List ℕ) (width start end word : ℕ) → ((k : ℕ) → start ≤ k → k < end → get_or bits k 0 ≤ word) → is_wide width word true ≡ false → (k : ℕ) → start ≤ k → k < end → get_or bits k 0 < 2 ^ width
 seen-narrow bits width start end word seen narrow k first last =
     elim (cases_lt word (2 ^ width)) [

@@ -5,16 +5,16 @@ use Rattle.std.proofs.lemmas.Nat.{pow_pos, pow-add, shr_high, mod_low, shr-shr, 
 use Rattle.std.proofs.lemmas.List.{length-take-le, take-append-drop, drop_more, length-drop}
 use Rattle.std.proofs.Math.Nat as nat
 use Rattle.std.proofs.Math.Nat.{mul-le-mul_left}
-use Rattle.vx_base.specs.Packed.{joined, row_in, packed_size, block_count}
-use Rattle.vx_blocks.proofs.Joins.{joined-append, joined_more, or_wide}
+use Rattle.vx_base.specs.Packed.{packed_number, row_in, packed_size, block_count}
+use Rattle.vx_blocks.proofs.Joins.{packed_number-append, packed_number_more, or_wide}
 
 -- rows that fit their width
-pub joined-lt : (w : ℕ) (xs : List ℕ) → ((i : ℕ) → get_or xs i 0 < 2 ^ w) → joined w xs < 2 ^ (w * length xs)
-joined-lt w [] fits = pow_pos (w * 0)
-joined-lt w (x ∷ xs) fits =
-    let ih = joined-lt w xs (λ i. fits (suc i)) in
+pub packed_number-lt : (w : ℕ) (xs : List ℕ) → ((i : ℕ) → get_or xs i 0 < 2 ^ w) → packed_number w xs < 2 ^ (w * length xs)
+packed_number-lt w [] fits = pow_pos (w * 0)
+packed_number-lt w (x ∷ xs) fits =
+    let ih = packed_number-lt w xs (λ i. fits (suc i)) in
     let p : 2 ^ (w * length (x ∷ xs)) ≡ 2 ^ w * 2 ^ (w * length xs) = ap (λ k. 2 ^ k) (omega arith) ∙ pow-add 2 w (w * length xs) in
-    rw p (omega (arith, mul-add-lt (joined w xs) (2 ^ w) x (2 ^ (w * length xs)) ih (fits 0)))
+    rw p (omega (arith, mul-add-lt (packed_number w xs) (2 ^ w) x (2 ^ (w * length xs)) ih (fits 0)))
 
 take-fits : (w i : ℕ) (xs : List ℕ) → ((k : ℕ) → get_or xs k 0 < 2 ^ w) → (k : ℕ) → get_or (take i xs) k 0 < 2 ^ w
 take-fits w zero xs fits k = pow_pos w
@@ -22,22 +22,22 @@ take-fits w (suc i) [] fits k = pow_pos w
 take-fits w (suc i) (x ∷ xs) fits zero = fits 0
 take-fits w (suc i) (x ∷ xs) fits (suc k) = take-fits w i xs (λ j. fits (suc j)) k
 
-joined-cut : (w i : ℕ) (xs : List ℕ) → i ≤ length xs → joined w xs ≡ joined w (drop i xs) * 2 ^ (w * i) + joined w (take i xs)
-joined-cut w i xs h =
+packed_number-cut : (w i : ℕ) (xs : List ℕ) → i ≤ length xs → packed_number w xs ≡ packed_number w (drop i xs) * 2 ^ (w * i) + packed_number w (take i xs)
+packed_number-cut w i xs h =
     let e : length (take i xs) ≡ i = length-take-le i xs h in
-    let whole = joined-append w (take i xs) (drop i xs) in
-    ap (joined w) (sym (take-append-drop i xs)) ∙ whole ∙ rw e (omega arith)
+    let whole = packed_number-append w (take i xs) (drop i xs) in
+    ap (packed_number w) (sym (take-append-drop i xs)) ∙ whole ∙ rw e (omega arith)
 
-joined-front-lt : (w i : ℕ) (xs : List ℕ) → ((k : ℕ) → get_or xs k 0 < 2 ^ w) → i ≤ length xs → joined w (take i xs) < 2 ^ (w * i)
-joined-front-lt w i xs fits h = subst (λ n. joined w (take i xs) < 2 ^ (w * n)) (length-take-le i xs h) (joined-lt w (take i xs) (take-fits w i xs fits))
+packed_number-front-lt : (w i : ℕ) (xs : List ℕ) → ((k : ℕ) → get_or xs k 0 < 2 ^ w) → i ≤ length xs → packed_number w (take i xs) < 2 ^ (w * i)
+packed_number-front-lt w i xs fits h = subst (λ n. packed_number w (take i xs) < 2 ^ (w * n)) (length-take-le i xs h) (packed_number-lt w (take i xs) (take-fits w i xs fits))
 
 -- the rows from a place on
-pub joined-drop : (w i : ℕ) (xs : List ℕ) → ((k : ℕ) → get_or xs k 0 < 2 ^ w) → i ≤ length xs → joined w (drop i xs) ≡ joined w xs / 2 ^ (w * i)
-joined-drop w i xs fits h = rw (joined-cut w i xs h) (sym (shr_high (joined w (drop i xs)) (w * i) (joined w (take i xs)) (joined-front-lt w i xs fits h)))
+pub packed_number-drop : (w i : ℕ) (xs : List ℕ) → ((k : ℕ) → get_or xs k 0 < 2 ^ w) → i ≤ length xs → packed_number w (drop i xs) ≡ packed_number w xs / 2 ^ (w * i)
+packed_number-drop w i xs fits h = rw (packed_number-cut w i xs h) (sym (shr_high (packed_number w (drop i xs)) (w * i) (packed_number w (take i xs)) (packed_number-front-lt w i xs fits h)))
 
 -- the first rows
-pub joined-take : (w i : ℕ) (xs : List ℕ) → ((k : ℕ) → get_or xs k 0 < 2 ^ w) → i ≤ length xs → joined w (take i xs) ≡ joined w xs % 2 ^ (w * i)
-joined-take w i xs fits h = rw (joined-cut w i xs h) (sym (mod_low (joined w (drop i xs)) (w * i) (joined w (take i xs)) (joined-front-lt w i xs fits h)))
+pub packed_number-take : (w i : ℕ) (xs : List ℕ) → ((k : ℕ) → get_or xs k 0 < 2 ^ w) → i ≤ length xs → packed_number w (take i xs) ≡ packed_number w xs % 2 ^ (w * i)
+packed_number-take w i xs fits h = rw (packed_number-cut w i xs h) (sym (mod_low (packed_number w (drop i xs)) (w * i) (packed_number w (take i xs)) (packed_number-front-lt w i xs fits h)))
 
 pub low_low : (n big small : ℕ) → small ≤ big → n % 2 ^ big % 2 ^ small ≡ n % 2 ^ small
 low_low n big small le =
@@ -54,17 +54,17 @@ row_from_word number word byte shift width size row is room at =
     rw (is, high) (low_low _ (size - shift) width (omega arith) ∙ ap (λ n. n % 2 ^ width) (shr-shr number (8 * byte) shift ∙ ap (λ k. number / 2 ^ k) at))
 
 -- eight bytes read as a word
-pub joined-word : (bs : List ℕ) → length bs ≡ 8 → from_le_bytes w64 bs ≡ joined 8 bs
-joined-word (a ∷ b ∷ c ∷ d ∷ e ∷ f ∷ g ∷ h ∷ []) l = omega arith
-joined-word [] l = absurd (omega arith)
-joined-word (a ∷ []) l = absurd (omega arith)
-joined-word (a ∷ b ∷ []) l = absurd (omega arith)
-joined-word (a ∷ b ∷ c ∷ []) l = absurd (omega arith)
-joined-word (a ∷ b ∷ c ∷ d ∷ []) l = absurd (omega arith)
-joined-word (a ∷ b ∷ c ∷ d ∷ e ∷ []) l = absurd (omega arith)
-joined-word (a ∷ b ∷ c ∷ d ∷ e ∷ f ∷ []) l = absurd (omega arith)
-joined-word (a ∷ b ∷ c ∷ d ∷ e ∷ f ∷ g ∷ []) l = absurd (omega arith)
-joined-word (a ∷ b ∷ c ∷ d ∷ e ∷ f ∷ g ∷ h ∷ x ∷ bs) l = absurd (omega arith)
+pub packed_number-word : (bs : List ℕ) → length bs ≡ 8 → from_le_bytes w64 bs ≡ packed_number 8 bs
+packed_number-word (a ∷ b ∷ c ∷ d ∷ e ∷ f ∷ g ∷ h ∷ []) l = omega arith
+packed_number-word [] l = absurd (omega arith)
+packed_number-word (a ∷ []) l = absurd (omega arith)
+packed_number-word (a ∷ b ∷ []) l = absurd (omega arith)
+packed_number-word (a ∷ b ∷ c ∷ []) l = absurd (omega arith)
+packed_number-word (a ∷ b ∷ c ∷ d ∷ []) l = absurd (omega arith)
+packed_number-word (a ∷ b ∷ c ∷ d ∷ e ∷ []) l = absurd (omega arith)
+packed_number-word (a ∷ b ∷ c ∷ d ∷ e ∷ f ∷ []) l = absurd (omega arith)
+packed_number-word (a ∷ b ∷ c ∷ d ∷ e ∷ f ∷ g ∷ []) l = absurd (omega arith)
+packed_number-word (a ∷ b ∷ c ∷ d ∷ e ∷ f ∷ g ∷ h ∷ x ∷ bs) l = absurd (omega arith)
 
 drop-fits : (w i : ℕ) (xs : List ℕ) → ((k : ℕ) → get_or xs k 0 < 2 ^ w) → (k : ℕ) → get_or (drop i xs) k 0 < 2 ^ w
 drop-fits w zero xs fits k = fits k
@@ -72,33 +72,33 @@ drop-fits w (suc i) [] fits k = pow_pos w
 drop-fits w (suc i) (x ∷ xs) fits k = drop-fits w i xs (λ j. fits (suc j)) k
 
 -- the eight bytes from a place on, and fewer at the end
-pub word-whole : (packed : List ℕ) (byte : ℕ) → ((k : ℕ) → get_or packed k 0 < 2 ^ 8) → byte ≤ length packed → 8 ≤ length (drop byte packed) → joined 8 (take 8 (drop byte packed)) ≡ joined 8 packed / 2 ^ (8 * byte) % 2 ^ 64
+pub word-whole : (packed : List ℕ) (byte : ℕ) → ((k : ℕ) → get_or packed k 0 < 2 ^ 8) → byte ≤ length packed → 8 ≤ length (drop byte packed) → packed_number 8 (take 8 (drop byte packed)) ≡ packed_number 8 packed / 2 ^ (8 * byte) % 2 ^ 64
 word-whole packed byte fits h more =
-    joined-take 8 8 (drop byte packed) (drop-fits 8 byte packed fits) more ∙ ap (λ n. n % 2 ^ 64) (joined-drop 8 byte packed fits h)
+    packed_number-take 8 8 (drop byte packed) (drop-fits 8 byte packed fits) more ∙ ap (λ n. n % 2 ^ 64) (packed_number-drop 8 byte packed fits h)
 
-pub word-short : (packed : List ℕ) (byte : ℕ) → ((k : ℕ) → get_or packed k 0 < 2 ^ 8) → byte ≤ length packed → length (drop byte packed) < 8 → joined 8 (drop byte packed) ≡ joined 8 packed / 2 ^ (8 * byte) % 2 ^ 64
+pub word-short : (packed : List ℕ) (byte : ℕ) → ((k : ℕ) → get_or packed k 0 < 2 ^ 8) → byte ≤ length packed → length (drop byte packed) < 8 → packed_number 8 (drop byte packed) ≡ packed_number 8 packed / 2 ^ (8 * byte) % 2 ^ 64
 word-short packed byte fits h few =
-    let lt = joined-lt 8 (drop byte packed) (drop-fits 8 byte packed fits) in
+    let lt = packed_number-lt 8 (drop byte packed) (drop-fits 8 byte packed fits) in
     let le = pow_below (8 * length (drop byte packed)) 64 (omega arith) in
-    let e = joined-drop 8 byte packed fits h in
+    let e = packed_number-drop 8 byte packed fits h in
     e ∙ sym (nat.mod-eq_of_lt (rw (← e) (nat.lt_trans lt le)))
 
-pub short-more : (bytes : List ℕ) (i word : ℕ) → ((k : ℕ) → get_or bytes k 0 < 2 ^ 8) → length bytes < 8 → i < length bytes → word ≡ joined 8 (take i bytes)
-    → bit_or (get_or bytes i 0 * 2 ^ (8 * i) % 2 ^ 64) word ≡ joined 8 (take (i + 1) bytes)
+pub short-more : (bytes : List ℕ) (i word : ℕ) → ((k : ℕ) → get_or bytes k 0 < 2 ^ 8) → length bytes < 8 → i < length bytes → word ≡ packed_number 8 (take i bytes)
+    → bit_or (get_or bytes i 0 * 2 ^ (8 * i) % 2 ^ 64) word ≡ packed_number 8 (take (i + 1) bytes)
 short-more bytes i word fits few h is =
-    let lt = joined-front-lt 8 i bytes fits (omega arith) in
-    rw (shl_whole (get_or bytes i 0) 8 (8 * i) 64 (fits i) (omega arith), is, joined_more 8 bytes i h) (or_shifted (get_or bytes i 0) (8 * i) (joined 8 (take i bytes)) lt ∙ omega arith)
+    let lt = packed_number-front-lt 8 i bytes fits (omega arith) in
+    rw (shl_whole (get_or bytes i 0) 8 (8 * i) 64 (fits i) (omega arith), is, packed_number_more 8 bytes i h) (or_shifted (get_or bytes i 0) (8 * i) (packed_number 8 (take i bytes)) lt ∙ omega arith)
 
 pub low-mask : (word width : ℕ) → width < 64 → bit_and word (1 * 2 ^ width % 2 ^ 64 - 1) ≡ word % 2 ^ width
 low-mask word width h = rw (one_shl width 64 h) (and_mask word width)
 
 -- a row of a number of rows that fit
-joined-first : (w : ℕ) (x : ℕ) (rest : ℕ) → x < 2 ^ w → (x + 2 ^ w * rest) % 2 ^ w ≡ x
-joined-first w x rest fits = let e : x + 2 ^ w * rest ≡ rest * 2 ^ w + x = omega arith in rw e (mod_low rest w x fits)
+packed_number-first : (w : ℕ) (x : ℕ) (rest : ℕ) → x < 2 ^ w → (x + 2 ^ w * rest) % 2 ^ w ≡ x
+packed_number-first w x rest fits = let e : x + 2 ^ w * rest ≡ rest * 2 ^ w + x = omega arith in rw e (mod_low rest w x fits)
 
-pub row_in-joined : (w : ℕ) (rows : List ℕ) (i : ℕ) → ((k : ℕ) → get_or rows k 0 < 2 ^ w) → i < length rows → row_in w (joined w rows) i ≡ get_or rows i 0
-row_in-joined w rows i fits h =
-    rw (← joined-drop w i rows fits (nat.le_of_lt h), drop_more rows i 0 h) (joined-first w (get_or rows i 0) (joined w (drop (i + 1) rows)) (fits i))
+pub row_in-packed_number : (w : ℕ) (rows : List ℕ) (i : ℕ) → ((k : ℕ) → get_or rows k 0 < 2 ^ w) → i < length rows → row_in w (packed_number w rows) i ≡ get_or rows i 0
+row_in-packed_number w rows i fits h =
+    rw (← packed_number-drop w i rows fits (nat.le_of_lt h), drop_more rows i 0 h) (packed_number-first w (get_or rows i 0) (packed_number w (drop (i + 1) rows)) (fits i))
 
 -- ---- a row that goes on behind its word
 tall : (m b word : ℕ) → word ≡ m % 2 ^ 64 → b ≡ m / 2 ^ 64 % 2 ^ 8 → m % 2 ^ 72 ≡ b * 2 ^ 64 + word
@@ -155,13 +155,13 @@ eight-end width eight g n j len h few room =
     let k = mul-le-mul_left width last in
     omega arith
 
-row-step : (xs : List ℕ) (i j k n : ℕ) → n ≡ k + 1 → j ≡ i + 1 → i < length xs → joined 8 (take n (drop i xs)) ≡ get_or xs i 0 + 256 * joined 8 (take k (drop j xs))
+row-step : (xs : List ℕ) (i j k n : ℕ) → n ≡ k + 1 → j ≡ i + 1 → i < length xs → packed_number 8 (take n (drop i xs)) ≡ get_or xs i 0 + 256 * packed_number 8 (take k (drop j xs))
 row-step xs i j k n e f h = rw (e, f, drop_more xs i 0 h, add-one) refl
 
 -- eight bytes by their places
 pub eight-bytes : (xs : List ℕ) (i word : ℕ) → ((k : ℕ) → get_or xs k 0 < 2 ^ 8) → i + 8 ≤ length xs
     → word ≡ from_le_bytes w64 (get_or xs i 0 ∷ get_or xs (i + 1) 0 ∷ get_or xs (i + 2) 0 ∷ get_or xs (i + 3) 0 ∷ get_or xs (i + 4) 0 ∷ get_or xs (i + 5) 0 ∷ get_or xs (i + 6) 0 ∷ get_or xs (i + 7) 0 ∷ [])
-    → word ≡ joined 8 xs / 2 ^ (8 * i) % 2 ^ 64
+    → word ≡ packed_number 8 xs / 2 ^ (8 * i) % 2 ^ 64
 eight-bytes xs i word fits h is =
     let a = row-step xs i (i + 1) 7 8 refl refl (omega arith) in
     let b = row-step xs (i + 1) (i + 2) 6 7 refl (omega arith) (omega arith) in
@@ -172,5 +172,5 @@ eight-bytes xs i word fits h is =
     let g = row-step xs (i + 6) (i + 7) 1 2 refl (omega arith) (omega arith) in
     let m = row-step xs (i + 7) (i + 8) 0 1 refl (omega arith) (omega arith) in
     let whole = word-whole xs i fits (omega arith) (omega (arith, length-drop i xs)) in
-    let sum : word ≡ joined 8 (take 8 (drop i xs)) = omega (arith, is, a, b, c, d, e, f, g, m) in
+    let sum : word ≡ packed_number 8 (take 8 (drop i xs)) = omega (arith, is, a, b, c, d, e, f, g, m) in
     sum ∙ whole

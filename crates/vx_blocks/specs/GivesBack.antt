@@ -1,4 +1,4 @@
--- Unpacking gives back what was packed, undelta what became deltas, and unzigzag what zigzag was given.
+-- Lossless: unpacking after packing, undelta after deltas, and unzigzag after zigzag.
 use Rattle.std.specs.Prelude.{ℕ, ◌+◌, ◌-◌, ◌^◌, ◌≡◌, ◌<◌, ◌≤◌, ℤ, pos, Bool, true, false, List, length, map, slice_index, slice_index_or, All}
 use Rattle.vx_base.specs.declared.ptype.PType.{PType}
 use Rattle.vx_base.specs.Integers.{bits_in, lies_in}
@@ -9,7 +9,7 @@ use Rattle.vx_blocks.specs.Deltas.{bases, deltas, filled}
 use Rattle.vx_blocks.specs.IsPacked.{IsPacked, IsUnpacked}
 use Rattle.vx_blocks.specs.Optional.{optional_rows}
 
--- rows of a column of integers that was packed
+-- `rows` are read from bytes that were packed of a column of integers
 pub record Unpacks (kind : PType) (values : List ℤ) (valid : List Bool) (width start end : ℕ) (rows : List ℕ) : Type 0 where
   pub bytes : List ℕ
   pub same : length valid ≡ length values
@@ -17,20 +17,20 @@ pub record Unpacks (kind : PType) (values : List ℤ) (valid : List Bool) (width
   pub packed : IsPacked width (kept_rows width (map (bits_in kind) values) valid) bytes
   pub unpacked : IsUnpacked bytes width start end rows
 
--- the bits of a row's value in its type
+-- the two's complement of a row
 abbrev pub bits_at : PType → List ℤ → ℕ → ℕ
 bits_at kind values row = bits_in kind (slice_index_or values row (pos 0))
 
--- the row is valid
+-- whether a row is valid
 abbrev pub is_set_at : List Bool → ℕ → Bool
 is_set_at valid row = slice_index_or valid row false
 
--- each valid value that fits the width comes back
+-- each valid row that fits the width comes back
 abbrev pub GivesBackValues : Type 0
 GivesBackValues = (kind : PType) (values : List ℤ) (valid : List Bool) (width start end : ℕ) (rows : List ℕ) → Unpacks kind values valid width start end rows
     → (i : ℕ) → i < end - start → is_set_at valid (start + i) ≡ true → bits_at kind values (start + i) < 2 ^ width → slice_index rows i ≡ bits_at kind values (start + i)
 
--- and every row is what was packed of it: 0 of a null and of a row that is wider
+-- every row is read as what was packed of it: 0 where it is null or doesn't fit the width
 abbrev pub GivesBackKeptRows : Type 0
 GivesBackKeptRows = (kind : PType) (values : List ℤ) (valid : List Bool) (width start end : ℕ) (rows : List ℕ) → Unpacks kind values valid width start end rows
     → (i : ℕ) → i < end - start → slice_index rows i ≡ kept_row width (bits_at kind values (start + i)) (is_set_at valid (start + i))
@@ -39,7 +39,7 @@ GivesBackKeptRows = (kind : PType) (values : List ℤ) (valid : List Bool) (widt
 abbrev pub GivesBackZigZag : Type 0
 GivesBackZigZag = (v : ℤ) → unzigzag (zigzag v) ≡ v
 
--- each valid value comes back from the bases and deltas of its column
+-- each valid row comes back from the bases and deltas of its column
 abbrev pub GivesBackDeltas : Type 0
 GivesBackDeltas = (kind : PType) (values : List ℤ) (valid : List Bool) → length valid ≡ length values → All (λ z. lies_in kind z ≡ true) values
     → let rows = filled (optional_rows values valid) in

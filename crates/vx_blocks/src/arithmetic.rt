@@ -1,4 +1,4 @@
-//! What kernels compute of one or two integers.
+//! Arithmetic of kernels on single integers.
 
 ghost use Rattle.std.specs.Prelude.{◌≡◌, ◌+ℤ◌, ◌-ℤ◌, if◌then◌else◌};
 ghost use Rattle.std.specs.Int.{int_min, int_max};
@@ -6,7 +6,7 @@ ghost use Rattle.vx_base.specs.Wrapping.{wrap};
 
 use vx_base::Integer;
 
-/// The sum of two integers, wrapped into their type.
+/// `a + b`, wrapping.
 #[inline(always)]
 pub fn sum<T: Integer>(a: T, b: T) -> T
     ensures { T.whole result ≡ wrap T.kind (T.whole a +ℤ T.whole b) }
@@ -15,7 +15,7 @@ pub fn sum<T: Integer>(a: T, b: T) -> T
     T::from_low_bits(a.to_bits().wrapping_add(b.to_bits()))
 }
 
-/// The difference of an integer from another, wrapped into their type.
+/// `a - b`, wrapping.
 #[inline(always)]
 pub fn difference<T: Integer>(a: T, b: T) -> T
     ensures { T.whole result ≡ wrap T.kind (T.whole a -ℤ T.whole b) }
@@ -24,7 +24,7 @@ pub fn difference<T: Integer>(a: T, b: T) -> T
     T::from_low_bits(a.to_bits().wrapping_sub(b.to_bits()))
 }
 
-/// The item of a row, and where it isn't valid the one before.
+/// `item` where the row is valid, else `last`.
 #[inline(always)]
 pub fn item_or<T: Integer>(valid: bool, item: T, last: T) -> T
     ensures { T.whole result ≡ (if valid then T.whole item else T.whole last) }
@@ -32,7 +32,7 @@ pub fn item_or<T: Integer>(valid: bool, item: T, last: T) -> T
     if valid { item } else { last }
 }
 
-/// The lesser of two integers.
+/// The minimum.
 #[inline(always)]
 pub fn lesser<T: Integer>(a: T, b: T) -> T
     ensures { T.whole result ≡ int_min (T.whole a) (T.whole b) }
@@ -40,7 +40,7 @@ pub fn lesser<T: Integer>(a: T, b: T) -> T
     a.min(b)
 }
 
-/// The greater of two integers.
+/// The maximum.
 #[inline(always)]
 pub fn greater<T: Integer>(a: T, b: T) -> T
     ensures { T.whole result ≡ int_max (T.whole a) (T.whole b) }

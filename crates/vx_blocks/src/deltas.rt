@@ -1,4 +1,4 @@
-//! Differences from row to row, in blocks of 1,024 rows.
+//! Delta encoding, in blocks of 1,024 rows.
 
 ghost use Rattle.std.specs.Prelude.{◌≡◌, ◌≢◌, ◌<◌, ◌≤◌, ◌+◌, ◌-◌, ◌*◌, ◌%◌, ◌∷◌, ℕ, pos, length, map, slice_index_or, IfOk, IsTrue, false};
 ghost use Rattle.std.specs.Bool.{OnTrue};
@@ -8,11 +8,11 @@ ghost use Rattle.vx_blocks.specs.Deltas.{bases, delta, deltas, filled};
 ghost use Rattle.vx_blocks.specs.Optional.{optional_rows};
 
 use crate::arithmetic::{difference, item_or};
-use crate::parts::rows_at_once;
+use crate::parts::{BLOCK_ROWS, rows_at_once};
 use std::alloc::{AllocError, Global};
 use vx_base::{Integer, Mask, VortexError, VortexResult};
 
-// Whether the rows from `start` to `end - 1` are all valid. It looks at all of them.
+// Whether the rows `start` to `end - 1` are all valid, by `&` over all of them: no branch per row.
 #[inline(always)]
 fn are_valid(valid: &[bool], start: usize, end: usize) -> bool
     requires rising { start ≤ end }
@@ -26,8 +26,9 @@ fn are_valid(valid: &[bool], start: usize, end: usize) -> bool
     all
 }
 
-// Writes the deltas of a part of a block, from `start` on, the first as the difference from `before`: the row before, or
-// the block's first row itself. Gives the last of the rows. Where all are valid, no row waits for the one before it.
+// Writes the deltas of a part of a block, from `start` on, the first from `before`: the row before it, or the first row of
+// the block itself. Returns the last row. Where all rows are valid, each delta is computed from the slice alone, so that
+// the loop carries nothing from row to row.
 #[inline(always)]
 fn delta_part<T: Integer>(
     values: &[T],
@@ -62,8 +63,8 @@ fn delta_part<T: Integer>(
     last
 }
 
-// Adds the deltas of a block's rows, from `start` to `end - 1`: part by part, so that what `resize` writes is still in the
-// cache when it is written over. Gives the base, and the last of the rows.
+// Appends the deltas of a block, rows `start` to `end - 1`: part by part, so that what `resize` writes is still in the
+// cache when it is written over. Returns the base and the last row.
 fn delta_block<T: Integer>(
     values: &[T],
     valid: &[bool],
@@ -106,21 +107,21 @@ fn deltas_of<T: Integer>(
     ensures bases { OrMemory result (λ made. map T.whole made.0.items ≡ bases (filled (optional_rows (map T.whole values.now) valid.now))) }
     ensures deltas { OrMemory result (λ made. map T.whole made.1.items ≡ deltas T.kind (filled (optional_rows (map T.whole values.now) valid.now))) }
 {
-    let blocks = values.len().div_ceil(1024);
-    let Some(size) = blocks.checked_mul(1024) else {
+    let blocks = values.len().div_ceil(BLOCK_ROWS);
+    let Some(size) = blocks.checked_mul(BLOCK_ROWS) else {
         return Err(VortexError::NoMemory);
     };
     let mut bases = Vec::with_capacity(alloc, blocks)?;
     let mut deltas = Vec::with_capacity(alloc, size)?;
     let mut last = T::zero();
     for block in 0..blocks {
-        let start = 1024 * block;
-        let end = start + (values.len() - start).min(1024);
+        let start = BLOCK_ROWS * block;
+        let end = start + (values.len() - start).min(BLOCK_ROWS);
         let made = delta_block(values, valid, start, end, last, &mut deltas)?;
         bases.push(made.0)?;
         last = made.1;
     }
-    // The rows that fill the last block.
+    // The padding of the last block.
     deltas.resize(size, T::zero())?;
     Ok((bases, deltas))
 }

@@ -1,20 +1,22 @@
-//! Bits put one behind the other, by words of 64 bits.
+//! A writer of bits, which fills words of 64 bits.
 
 ghost use Rattle.std.specs.Prelude.{◌≡◌, ◌<◌, ◌≤◌, ◌+◌, ◌*◌, ◌^◌, ◌++◌, ℕ, List, length, take, IfOk, IfSome};
-ghost use Rattle.vx_base.specs.Packed.{joined, kept_row, packed_size};
+ghost use Rattle.vx_base.specs.Packed.{packed_number, kept_row, packed_size};
 ghost use Rattle.vx_blocks.specs.Holds.{Holds};
 
+use crate::parts::BLOCK_ROWS;
 use std::alloc::AllocError;
 
-// The bytes of so many packed rows, none where a usize doesn't hold the number.
+// The size of packed rows in bytes, None where it overflows a usize.
 pub(crate) fn size_in_bytes(rows: usize, width: usize) -> Option<usize>
     requires { width ≤ 64 }
     ensures { IfSome result (λ size. size ≡ packed_size width rows) }
 {
-    rows.div_ceil(1024).checked_mul(128 * width)
+    rows.div_ceil(BLOCK_ROWS)
+        .checked_mul(BLOCK_ROWS / 8 * width)
 }
 
-// What is packed of a row.
+// What is packed of a row: its bits, or 0 where it is null or they don't fit the width.
 #[inline(always)]
 pub(crate) fn fit(bits: u64, valid: bool, width: u32) -> u64
     requires { width ≤ 64 }
@@ -29,7 +31,7 @@ pub(crate) fn fit(bits: u64, valid: bool, width: u32) -> u64
     }
 }
 
-// Puts some bits behind those that `out` and the word `acc` hold.
+// Appends `width` bits to `out` and the word `acc`, of which `fill` bits are taken. Returns the new word and fill.
 #[inline(always)]
 pub(crate) fn put(
     out: &mut Vec<u8>,
@@ -52,7 +54,7 @@ pub(crate) fn put(
     Ok((rest, fill + width - 64))
 }
 
-// The same where the whole words go to a buffer, of which `len` bytes are taken.
+// `put` into a buffer, of which `len` bytes are taken: no allocation, and so no error. Returns also the new length.
 #[inline(always)]
 pub(crate) fn put_in(
     buffer: &mut [u8],
@@ -78,14 +80,14 @@ pub(crate) fn put_in(
     (rest, fill + width - 64, len + 8)
 }
 
-// The bytes: what `out` and the word `acc` hold, and zeros up to `size` bytes.
+// The bytes of `out` and of the word `acc`, padded with zeros to `size`.
 pub(crate) fn finish(
     mut out: Vec<u8>,
     acc: u64,
     fill: u32,
     size: usize,
 ) -> Result<Vec<u8>, AllocError>
-    ensures number { IfOk result (λ bytes. (number place words : ℕ) → Holds number place out.items acc fill → place ≤ 8 * size → size ≡ 8 * words → joined 8 bytes.items ≡ number) }
+    ensures number { IfOk result (λ bytes. (number place words : ℕ) → Holds number place out.items acc fill → place ≤ 8 * size → size ≡ 8 * words → packed_number 8 bytes.items ≡ number) }
     ensures size { IfOk result (λ bytes. length bytes.items ≡ size) }
 {
     if fill != 0 {

@@ -1,15 +1,22 @@
-//! Groups of 64 rows, which fill whole words at each width.
+//! Groups of 64 rows, packed at a width that is known at compile time.
 
 ghost use Rattle.std.specs.Prelude.{◌≡◌, ◌<◌, ◌≤◌, ◌+◌, ◌*◌, ◌^◌, length, slice_index, map, take, drop};
 ghost use Rattle.std.specs.Bool.{OnTrue};
 ghost use Rattle.vx_base.specs.Integers.{bits_in};
-ghost use Rattle.vx_base.specs.Packed.{kept_rows, joined};
+ghost use Rattle.vx_base.specs.Packed.{kept_rows, packed_number};
 ghost use Rattle.vx_blocks.specs.AreKept.{AreKept};
 
 use crate::filling::{fit, put_in};
 use vx_base::Integer;
 
-// Whether the rows from `start` to `end - 1` are packed as they are. It tests them all at once.
+/// Rows of a group. Packed rows of any width fill whole words of 64 bits, so a group leaves no bits over; and a test of a group
+/// costs one branch for all of its rows.
+pub const GROUP_ROWS: usize = 64;
+
+const _: () = prove!(GROUP_ROWS == 64);
+
+// Whether the rows `start` to `end - 1` are packed unchanged: all valid, and the `|` of their bits fits the width. There is
+// one branch for all of them.
 #[inline(always)]
 fn are_kept<T: Integer, const W: usize>(
     values: &[T],
@@ -32,7 +39,7 @@ fn are_kept<T: Integer, const W: usize>(
     all && bits >> W == 0
 }
 
-// What is packed of a row, by the shorter way where it is known to be packed as it is.
+// What is packed of a row, without a test where it is known to be packed unchanged.
 #[inline(always)]
 fn row_bits<T: Integer, const W: usize>(values: &[T], valid: &[bool], row: usize, kept: bool) -> u64
     requires same { length valid.now ≡ length values.now }
@@ -50,7 +57,7 @@ fn row_bits<T: Integer, const W: usize>(values: &[T], valid: &[bool], row: usize
     }
 }
 
-// Writes 8 rows, which take `W` bytes. What lies in the 8 bytes behind them is lost.
+// Writes 8 rows, which take `W` bytes. The 8 bytes behind them are overwritten, since whole words are stored.
 #[inline(always)]
 fn write_eight<T: Integer, const W: usize>(
     out: &mut [u8],
@@ -64,7 +71,7 @@ fn write_eight<T: Integer, const W: usize>(
     requires room { at + 8 ≤ length values.now }
     requires bytes { W + 8 ≤ length out.old }
     requires kept { OnTrue kept (AreKept W (map (bits_in T.kind) (map T.whole values.now)) valid.now at (at + 8)) }
-    ensures { joined 8 (take W out.new) ≡ joined W (take 8 (drop at (kept_rows W (map (bits_in T.kind) (map T.whole values.now)) valid.now))) }
+    ensures { packed_number 8 (take W out.new) ≡ packed_number W (take 8 (drop at (kept_rows W (map (bits_in T.kind) (map T.whole values.now)) valid.now))) }
 {
     let mut acc = 0;
     let mut fill = 0;
@@ -76,7 +83,7 @@ fn write_eight<T: Integer, const W: usize>(
     out[len..len + 8].copy_from_slice(&acc.to_le_bytes());
 }
 
-// The same in two copies, each for rows of one kind, so that no row waits for a test of `kept`.
+// `write_eight` with `kept` as a constant in each of two inlined copies, so that no row tests it.
 #[inline(always)]
 fn write_either<T: Integer, const W: usize>(
     out: &mut [u8],
@@ -90,7 +97,7 @@ fn write_either<T: Integer, const W: usize>(
     requires room { at + 8 ≤ length values.now }
     requires bytes { W + 8 ≤ length out.old }
     requires kept { OnTrue kept (AreKept W (map (bits_in T.kind) (map T.whole values.now)) valid.now at (at + 8)) }
-    ensures { joined 8 (take W out.new) ≡ joined W (take 8 (drop at (kept_rows W (map (bits_in T.kind) (map T.whole values.now)) valid.now))) }
+    ensures { packed_number 8 (take W out.new) ≡ packed_number W (take 8 (drop at (kept_rows W (map (bits_in T.kind) (map T.whole values.now)) valid.now))) }
 {
     if kept {
         write_eight::<T, W>(out, values, valid, at, true);
@@ -99,8 +106,8 @@ fn write_either<T: Integer, const W: usize>(
     }
 }
 
-/// Writes a group, which takes 8 * `W` bytes: each 8 of its rows begin at a whole byte. What lies in the 8 bytes behind it
-/// is lost.
+/// Writes a group, which takes 8 * `W` bytes, 8 rows at a time: these begin at a whole byte at every width. The 8 bytes behind
+/// the group are overwritten.
 #[inline(always)]
 pub(crate) fn write_group<T: Integer, const W: usize>(
     buffer: &mut [u8],
@@ -112,7 +119,7 @@ pub(crate) fn write_group<T: Integer, const W: usize>(
     requires width { W < 64 }
     requires room { start + 64 ≤ length values.now }
     requires bytes { 8 * W + 8 ≤ length buffer.old }
-    ensures { joined 8 (take (8 * W) buffer.new) ≡ joined W (take 64 (drop start (kept_rows W (map (bits_in T.kind) (map T.whole values.now)) valid.now))) }
+    ensures { packed_number 8 (take (8 * W) buffer.new) ≡ packed_number W (take 64 (drop start (kept_rows W (map (bits_in T.kind) (map T.whole values.now)) valid.now))) }
 {
     let kept = are_kept::<T, W>(values, valid, start, start + 64);
     for unit in 0..8 {

@@ -4,26 +4,26 @@ ghost use Rattle.std.specs.Prelude.{ℕ, ◌<◌, ◌≤◌, ◌^◌, ◌↔◌}
 ghost use Rattle.vx_base.specs.Digits.{digits};
 ghost use Rattle.vx_blocks.specs.GivesBack.{GivesBackValues, GivesBackKeptRows, GivesBackDeltas, GivesBackZigZag};
 
-/// Does nothing; its contract holds the law. What `unpack` reads of what `pack` made is, row by row, each valid value
-/// that fits the width, and 0 of a null and of a row that is wider.
+/// Does nothing; its contract is a law. `unpack` after `pack` gives, row by row, each valid value that fits the width, and 0
+/// for a null and for a row that doesn't fit.
 pub fn unpack_gives_back()
     ensures values { GivesBackValues }
     ensures kept_rows { GivesBackKeptRows }
 {}
 
-/// Does nothing; its contract holds the law. A word's binary digits are the fewest that hold it: it has at most so many
-/// exactly where it lies below that power of 2.
+/// Does nothing; its contract is a law. A number has at most `count` binary digits exactly where it is below 2^`count`, so
+/// its digits are the fewest that hold it.
 pub fn digits_are_fewest()
-    ensures { (word count : ℕ) → word < 2 ^ 64 → ((digits word ≤ count) ↔ (word < 2 ^ count)) }
+    ensures { (number count : ℕ) → ((digits number ≤ count) ↔ (number < 2 ^ count)) }
 {}
 
-/// Does nothing; its contract holds the law. What `undelta` makes of the bases and deltas that `delta_blocks` made has each
-/// valid value in its row.
+/// Does nothing; its contract is a law. `undelta` of the bases and deltas that `delta_blocks` makes has each valid value in
+/// its row.
 pub fn undelta_gives_back()
     ensures { GivesBackDeltas }
 {}
 
-/// Does nothing; its contract holds the law. `unzigzag` of a number's `zigzag` is the number.
+/// Does nothing; its contract is a law. `unzigzag` inverts `zigzag`.
 pub fn unzigzag_gives_back()
     ensures { GivesBackZigZag }
 {}

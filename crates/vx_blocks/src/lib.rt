@@ -1,5 +1,5 @@
-//! Integer kernels over slices: packing at a width in bits, reading it back, which width or type is narrowest, and runs,
-//! sequences and deltas of rows.
+//! Integer kernels over slices: bit packing and unpacking, the cheapest width and the narrowest type, runs, arithmetic
+//! sequences and deltas.
 #![tactic(auto)]
 
 mod arithmetic;
@@ -21,9 +21,11 @@ mod zig_zag;
 
 pub use arithmetic::{difference, greater, item_or, lesser, sum};
 pub use deltas::delta_blocks;
+pub use groups::GROUP_ROWS;
 pub use laws::{digits_are_fewest, undelta_gives_back, unpack_gives_back, unzigzag_gives_back};
 pub use narrowing::narrow_type;
 pub use packing::pack;
+pub use parts::BLOCK_ROWS;
 pub use reading::get;
 pub use run_ends::runs;
 pub use runs_in_blocks::{BlockRuns, block_runs};

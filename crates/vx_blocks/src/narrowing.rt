@@ -1,12 +1,12 @@
-//! The narrowest type.
+//! The narrowest integer type.
 
 ghost use Rattle.std.specs.Prelude.{◌≡◌, Some, IsSome};
 ghost use Rattle.vx_base.specs.Narrow.{narrow_of};
 
 use vx_base::PType;
 
-/// The narrowest type for the whole numbers from `least` to `greatest`: where `least` is at least 0 the first of U8 to
-/// U64 that holds `greatest`, else the first of I8 to I64 that holds both. Some type has to.
+/// The narrowest type with `least` and `greatest` in range: unsigned where `least` is not negative, else signed. There has to
+/// be one.
 pub fn narrow_type(least: i128, greatest: i128) -> PType
     requires { IsSome (narrow_of least greatest) }
     ensures { narrow_of least greatest ≡ Some result }

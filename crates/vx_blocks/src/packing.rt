@@ -1,4 +1,4 @@
-//! Packing at a width.
+//! Bit packing.
 
 ghost use Rattle.std.specs.Prelude.{◌≡◌, ◌<◌, ◌≤◌, length, map};
 ghost use Rattle.vx_base.specs.Answers.{OrMemory};
@@ -7,11 +7,11 @@ ghost use Rattle.vx_base.specs.Packed.{kept_rows, packed_size};
 ghost use Rattle.vx_blocks.specs.IsPacked.{IsPacked};
 
 use crate::filling::{finish, fit, put, size_in_bytes};
-use crate::groups::write_group;
+use crate::groups::{GROUP_ROWS, write_group};
 use std::alloc::Global;
 use vx_base::{Integer, Mask, VortexError, VortexResult};
 
-// Packs a group of 64 rows at a time, at a width that is known when this is compiled.
+// Packs groups of 64 rows at a width that is known at compile time, so that shifts are constants, and then the rest.
 fn pack_by<T: Integer, const W: usize>(
     alloc: Global,
     values: &[T],
@@ -26,15 +26,16 @@ fn pack_by<T: Integer, const W: usize>(
         return Err(VortexError::NoMemory);
     };
     let mut out = Vec::with_capacity(alloc, size)?;
-    let groups = values.len() / 64;
+    let groups = values.len() / GROUP_ROWS;
+    // At the greatest width, 63, a group takes 8 * 63 bytes, and `write_group` overwrites 8 more.
     let mut buffer = [0u8; 512];
     for group in 0..groups {
-        write_group::<T, W>(&mut buffer, values, valid, 64 * group);
+        write_group::<T, W>(&mut buffer, values, valid, GROUP_ROWS * group);
         out.extend_from_slice(&buffer[..8 * W])?;
     }
     let mut acc = 0;
     let mut fill = 0;
-    for i in 64 * groups..values.len() {
+    for i in GROUP_ROWS * groups..values.len() {
         let bits = fit(values[i].to_bits(), valid[i], W as u32);
         (acc, fill) = put(&mut out, acc, fill, bits, W as u32)?;
     }
@@ -42,7 +43,7 @@ fn pack_by<T: Integer, const W: usize>(
     Ok(packed)
 }
 
-// Packs row by row, at any width.
+// Packs row by row, at a width that is known at run time: 0 and 64.
 fn pack_rows<T: Integer>(
     alloc: Global,
     values: &[T],
@@ -68,7 +69,7 @@ fn pack_rows<T: Integer>(
     Ok(packed)
 }
 
-// A body for each width below 64.
+// A copy of `pack_by` for each width from 1 to 63.
 macro_rules! by_width {
     ($values:ident, $valid:ident, $alloc:ident, $width:ident; $($w:literal),*) => {
         match $width {
@@ -78,9 +79,9 @@ macro_rules! by_width {
     };
 }
 
-/// Packs rows at a width in bits, 128 * `width` bytes for each block of 1,024 rows. Row r of a block has the bits from
-/// r * `width` on, the least significant first. A null, a row that is wider, and the rows that fill the last block are
-/// 0. Negative numbers are packed by their two's complement. `valid` has a truth value for each row.
+/// Packs rows at `width` bits: 128 * `width` bytes for each block of 1,024 rows, little-endian, with the bits r * `width` to
+/// (r + 1) * `width` - 1 for row r of a block. Nulls, rows that don't fit the width and the padding of the last block are 0.
+/// Negative numbers are packed as their two's complement. `valid` has a truth value per row.
 pub fn pack<T: Integer>(
     alloc: Global,
     values: &[T],

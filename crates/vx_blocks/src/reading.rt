@@ -1,17 +1,17 @@
-//! Rows read from packed bytes.
+//! Reading of packed rows.
 
 ghost use Rattle.std.specs.Prelude.{◌≡◌, ◌<◌, ◌≤◌, ◌+◌, ◌*◌, ◌/◌, ◌%◌, ◌^◌, ℕ, pos, length, map, slice_index_or};
-ghost use Rattle.vx_base.specs.Packed.{joined, packed_row, packed_size};
+ghost use Rattle.vx_base.specs.Packed.{packed_number, packed_row, packed_size};
 ghost use Rattle.vx_base.specs.Wrapping.{wrap};
 
 use vx_base::Integer;
 
-// Fewer than eight bytes as a word.
+// Fewer than eight bytes as a word, little-endian.
 #[cold]
 #[inline(never)]
 fn short_word(bytes: &[u8]) -> u64
     requires { length bytes.now < 8 }
-    ensures { result ≡ joined 8 bytes.now }
+    ensures { result ≡ packed_number 8 bytes.now }
 {
     let mut word = 0;
     for i in 0..bytes.len() {
@@ -20,11 +20,11 @@ fn short_word(bytes: &[u8]) -> u64
     word
 }
 
-// The eight bytes from `byte` on as a word, with zeros past the end.
+// The eight bytes from `byte` on as a word, little-endian, with zeros past the end.
 #[inline(always)]
 fn word_at(packed: &[u8], byte: usize) -> u64
     requires { byte ≤ length packed.now }
-    ensures { result ≡ joined 8 packed.now / 2 ^ (8 * byte) % 2 ^ 64 }
+    ensures { result ≡ packed_number 8 packed.now / 2 ^ (8 * byte) % 2 ^ 64 }
 {
     let rest = &packed[byte..];
     match rest.first_chunk::<8>() {
@@ -33,11 +33,11 @@ fn word_at(packed: &[u8], byte: usize) -> u64
     }
 }
 
-// The eight bytes from `byte` on as a word.
+// The eight bytes from `byte` on as a word, little-endian, all in bounds.
 #[inline(always)]
 fn whole_word(packed: &[u8], byte: usize) -> u64
     requires { byte + 8 ≤ length packed.now }
-    ensures { result ≡ joined 8 packed.now / 2 ^ (8 * byte) % 2 ^ 64 }
+    ensures { result ≡ packed_number 8 packed.now / 2 ^ (8 * byte) % 2 ^ 64 }
 {
     u64::from_le_bytes([
         packed[byte],
@@ -51,7 +51,7 @@ fn whole_word(packed: &[u8], byte: usize) -> u64
     ])
 }
 
-// The low bits of a word.
+// The low `width` bits of a word.
 #[inline(always)]
 fn low_bits(word: u64, width: u32) -> u64
     requires { width ≤ 64 }
@@ -64,12 +64,13 @@ fn low_bits(word: u64, width: u32) -> u64
     }
 }
 
-// The row whose bits begin at `shift` in a word, and go on in the byte behind it where the word is too short.
+// The row whose bits begin at `shift` in the word from `byte` on. Where the word is too short for it, they go on in the byte
+// behind.
 #[inline(always)]
 fn row_of(packed: &[u8], word: u64, byte: usize, shift: u32, width: u32) -> u64
     requires shift { shift < 8 }
     requires width { width ≤ 64 }
-    requires word { word ≡ joined 8 packed.now / 2 ^ (8 * byte) % 2 ^ 64 }
+    requires word { word ≡ packed_number 8 packed.now / 2 ^ (8 * byte) % 2 ^ 64 }
     requires room { 8 * byte + shift + width ≤ 8 * length packed.now }
     ensures { (row : ℕ) → 8 * byte + shift ≡ width * row → result ≡ packed_row packed.now width row }
 {
@@ -81,8 +82,7 @@ fn row_of(packed: &[u8], word: u64, byte: usize, shift: u32, width: u32) -> u64
     }
 }
 
-/// The bits of a row, the least significant first. `width` is in bits, at most 64, and the row's block of 1,024 rows
-/// lies in `packed`.
+/// The bits of a row, packed at `width` bits, at most 64. The row's whole block is in bounds of `packed`.
 #[inline(always)]
 pub fn get(packed: &[u8], width: u32, row: u64) -> u64
     requires width { width ≤ 64 }
@@ -95,7 +95,8 @@ pub fn get(packed: &[u8], width: u32, row: u64) -> u64
     row_of(packed, word_at(packed, byte), byte, (bit % 8) as u32, width)
 }
 
-// Reads eight rows at a time, from those in front of which there are `eight` eights. Each is wrapped into the type.
+// Reads the rows from 8 * `eight` on, as many as `out` has, eight at a time: these begin at a whole byte. Each is wrapped into
+// the type.
 #[inline(always)]
 pub(crate) fn read_eights<T: Integer, const W: usize>(packed: &[u8], eight: usize, out: &mut [T])
     requires some { 0 < W }

@@ -1,4 +1,4 @@
-//! Runs of equal rows.
+//! Ends of runs.
 
 ghost use Rattle.std.specs.Prelude.{◌≡◌, not, length, map};
 ghost use Rattle.vx_base.specs.Answers.{OrMemory};
@@ -8,7 +8,7 @@ ghost use Rattle.vx_blocks.specs.Runs.{run_ends};
 use std::alloc::Global;
 use vx_base::{Integer, Mask, VortexResult};
 
-// Whether two rows aren't equal, without a branch. What lies beneath a null doesn't count.
+// Whether two rows differ, without a branch. The value beneath a null doesn't count.
 #[inline(always)]
 pub(crate) fn is_other<T: Integer>(a: T, a_valid: bool, b: T, b_valid: bool) -> bool
     ensures { result ≡ not (same_row (optional_row (T.whole a) a_valid) (optional_row (T.whole b) b_valid)) }
@@ -33,8 +33,8 @@ fn run_ends<T: Integer>(alloc: Global, values: &[T], valid: &[bool]) -> VortexRe
     Ok(ends)
 }
 
-/// The end of each run of equal rows, which is the row after its last. A null equals a null, whatever lies beneath.
-/// `valid` has a truth value for each row.
+/// The exclusive end of each run of equal rows, ascending. A null equals a null, whatever the values beneath. `valid` has a
+/// truth value per row.
 pub fn runs<T: Integer>(alloc: Global, values: &[T], valid: &Mask) -> VortexResult<Vec<u64>>
     requires { length valid.now ≡ length values.now }
     ensures { OrMemory result (λ ends. ends.items ≡ run_ends (optional_rows (map T.whole values.now) valid.now)) }

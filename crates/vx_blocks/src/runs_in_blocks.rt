@@ -1,26 +1,27 @@
-//! Runs of equal rows in blocks of 1,024 rows.
+//! Runs within blocks of 1,024 rows.
 
 ghost use Rattle.std.specs.Prelude.{◌≡◌, ◌<◌, ◌≤◌, ◌+◌, ◌%◌, ℕ, length, map, slice_index_or};
 ghost use Rattle.vx_base.specs.Answers.{OrMemory};
 ghost use Rattle.vx_blocks.specs.Optional.{optional_rows};
 ghost use Rattle.vx_blocks.specs.Runs.{heads, heads_before, offsets, run_number, run_numbers};
 
+use crate::parts::BLOCK_ROWS;
 use crate::run_ends::is_other;
 use std::alloc::Global;
 use vx_base::{Integer, Mask, VortexError, VortexResult, Words};
 
-/// Runs of equal rows, which end with their block.
+/// Runs of equal rows, each within one block.
 #[derive(Debug, Drop)]
 pub struct BlockRuns {
     /// The first row of each run.
     pub heads: Words,
-    /// The number of each row's run in its block, and 0 for the rows that fill the last block.
+    /// For each row the number of its run within its block, from 0; 0 in the padding of the last block.
     pub numbers: Words,
-    /// The number of runs before each block.
+    /// For each block the number of runs that begin before it.
     pub offsets: Words,
 }
 
-// Numbers a block's rows, from `start` on, by their runs. Adds the first row of each run to those before.
+// Writes the run numbers of a block, from row `start` on, and appends the first row of each of its runs to `heads`.
 #[inline(always)]
 fn number_block<T: Integer>(
     heads: &mut Vec<u64>,
@@ -58,22 +59,22 @@ fn block_runs_of<T: Integer>(alloc: Global, values: &[T], valid: &[bool]) -> Vor
     ensures numbers { OrMemory result (λ made. made.numbers ≡ run_numbers (optional_rows (map T.whole values.now) valid.now)) }
     ensures offsets { OrMemory result (λ made. made.offsets ≡ offsets (optional_rows (map T.whole values.now) valid.now)) }
 {
-    let blocks = values.len().div_ceil(1024);
-    let Some(size) = blocks.checked_mul(1024) else {
+    let blocks = values.len().div_ceil(BLOCK_ROWS);
+    let Some(size) = blocks.checked_mul(BLOCK_ROWS) else {
         return Err(VortexError::NoMemory);
     };
     let mut heads = Vec::new(alloc);
     let mut numbers = Vec::with_capacity(alloc, size)?;
     let mut offsets = Vec::with_capacity(alloc, blocks)?;
     for block in 0..blocks {
-        let start = 1024 * block;
-        let rows = (values.len() - start).min(1024);
+        let start = BLOCK_ROWS * block;
+        let rows = (values.len() - start).min(BLOCK_ROWS);
         offsets.push(heads.len() as u64)?;
         // What `resize` writes is still in the cache when it is written over.
         numbers.resize(start + rows, 0)?;
         number_block(&mut heads, values, valid, start, numbers.slice_mut(start..))?;
     }
-    // The rows that fill the last block.
+    // The padding of the last block.
     numbers.resize(size, 0)?;
     Ok(BlockRuns {
         heads: Words::from_vec(heads),
@@ -82,8 +83,8 @@ fn block_runs_of<T: Integer>(alloc: Global, values: &[T], valid: &[bool]) -> Vor
     })
 }
 
-/// The runs of equal rows, which also end with each block of 1,024 rows. A null equals a null, whatever lies beneath.
-/// `valid` has a truth value for each row.
+/// The runs of equal rows within blocks of 1,024 rows. A null equals a null, whatever the values beneath. `valid` has a truth
+/// value per row.
 pub fn block_runs<T: Integer>(alloc: Global, values: &[T], valid: &Mask) -> VortexResult<BlockRuns>
     requires { length valid.now ≡ length values.now }
     ensures heads { OrMemory result (λ made. made.heads ≡ heads (optional_rows (map T.whole values.now) valid.now)) }

@@ -1,4 +1,4 @@
-//! Whether integers are a sequence.
+//! Arithmetic sequences.
 
 ghost use Rattle.std.specs.Prelude.{◌≡◌, ◌≤◌, ◌<◌, ◌-◌, ◌↔◌, ◌&&◌, ◌+ℤ◌, ◌-ℤ◌, ◌*ℤ◌, ℕ, IsTrue, length, map, pos};
 ghost use Rattle.vx_base.specs.Integers.{lies_in};
@@ -6,9 +6,10 @@ ghost use Rattle.vx_base.specs.Wrapping.{wrap};
 ghost use Rattle.vx_blocks.specs.Sequence.{IsWrappedStep, sequence_of};
 
 use crate::arithmetic::sum;
+use crate::groups::GROUP_ROWS;
 use vx_base::Integer;
 
-// How far one integer lies above another.
+// `b - a` as a whole number, which 128 bits hold.
 #[inline(always)]
 fn step_between<T: Integer>(a: T, b: T) -> i128
     ensures { result ≡ T.whole b -ℤ T.whole a }
@@ -16,7 +17,7 @@ fn step_between<T: Integer>(a: T, b: T) -> i128
     b.to_whole() - a.to_whole()
 }
 
-// Whether so many steps lie between two integers.
+// Whether `b - a = count * step`.
 fn are_apart<T: Integer>(a: T, b: T, step: i128, count: usize) -> bool
     ensures apart { IsTrue result ↔ (T.whole b -ℤ T.whole a ≡ pos count *ℤ step) }
     ensures held { IsTrue (lies_in T.kind (T.whole a) && lies_in T.kind (T.whole b)) }
@@ -29,7 +30,7 @@ fn are_apart<T: Integer>(a: T, b: T, step: i128, count: usize) -> bool
     }
 }
 
-// Whether an integer is another one and a step, wrapped.
+// Whether `b = a + step`, wrapping.
 #[inline(always)]
 fn is_step<T: Integer>(a: T, b: T, step: T) -> bool
     ensures { IsTrue result ↔ (T.whole b ≡ wrap T.kind (T.whole a +ℤ T.whole step)) }
@@ -37,7 +38,8 @@ fn is_step<T: Integer>(a: T, b: T, step: T) -> bool
     b == sum(a, step)
 }
 
-// Whether each row from `start` to `end - 1` is the one before it and a step, wrapped. It looks at all of them.
+// Whether each of the rows `start` to `end - 1` is the row before it plus the step, wrapping; by `&` over all of them: no
+// branch per row.
 #[inline(always)]
 fn few_step<T: Integer>(values: &[T], step: T, start: usize, end: usize) -> bool
     requires begins { 0 < start }
@@ -52,13 +54,13 @@ fn few_step<T: Integer>(values: &[T], step: T, start: usize, end: usize) -> bool
     all
 }
 
-// The same of each row behind the first: one test for 64 rows.
+// Whether that holds of each row after the first. There is one branch for each group of rows.
 fn each_steps<T: Integer>(values: &[T], step: T) -> bool
     ensures { IsTrue result ↔ ((k : ℕ) → 0 < k → k < length values.now → IsWrappedStep T.kind (map T.whole values.now) (T.whole step) k) }
 {
     let mut start = 1;
     while start < values.len() {
-        let end = start + (values.len() - start).min(64);
+        let end = start + (values.len() - start).min(GROUP_ROWS);
         if !few_step(values, step, start, end) {
             return false;
         }
@@ -67,8 +69,8 @@ fn each_steps<T: Integer>(values: &[T], step: T) -> bool
     true
 }
 
-/// First and step of a sequence, in whole numbers: row i is first + i * step. None where there are fewer than two rows,
-/// where some row isn't the sequence's, and where the type doesn't hold the step.
+/// First and step of an arithmetic sequence, as whole numbers: row i is first + i * step. None of fewer than two rows, of rows
+/// that are no sequence, and of a step out of the range of the type.
 pub fn sequence_of<T: Integer>(values: &[T]) -> Option<(i128, i128)>
     ensures { result ≡ sequence_of T.kind (map T.whole values.now) }
 {
@@ -84,7 +86,7 @@ pub fn sequence_of<T: Integer>(values: &[T]) -> Option<(i128, i128)>
     if !are_apart(values[0], values[last], step, last) {
         return None;
     }
-    // Where first and last are the sequence's, all of it lies in the type: no row of it wraps.
+    // All rows of the sequence lie between the first and the last, so they are in range, and wrapping steps are exact.
     if !each_steps(values, wrapped) {
         return None;
     }

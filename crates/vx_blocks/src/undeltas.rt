@@ -1,4 +1,4 @@
-//! Rows from the bases and deltas of blocks of 1,024 rows.
+//! Delta decoding, in blocks of 1,024 rows.
 
 ghost use Rattle.std.specs.Prelude.{◌≡◌, ◌<◌, ◌+◌, ◌*◌, ◌+ℤ◌, ℕ, pos, length, map, take, slice_index_or, IfOk};
 ghost use Rattle.std.specs.List.{range_with_len};
@@ -7,11 +7,11 @@ ghost use Rattle.vx_base.specs.Wrapping.{wrap};
 ghost use Rattle.vx_base.specs.Undelta.{total, undelta, undelta_row};
 
 use crate::arithmetic::sum;
-use crate::parts::rows_at_once;
+use crate::parts::{BLOCK_ROWS, rows_at_once};
 use std::alloc::{AllocError, Global};
 use vx_base::{Integer, VortexResult};
 
-// Writes the rows of a part of a block: each is `before` and the deltas up to its own. Gives the last of them.
+// Writes the rows of a part of a block: `before` plus the prefix sums of the deltas, wrapping. Returns the last row.
 #[inline(always)]
 fn undelta_part<T: Integer>(before: T, deltas: &[T], rows: &mut [T]) -> T
     requires { length rows.old ≡ length deltas.now }
@@ -27,7 +27,7 @@ fn undelta_part<T: Integer>(before: T, deltas: &[T], rows: &mut [T]) -> T
     last
 }
 
-// Adds the rows of a block, part by part, so that what `resize` writes is still in the cache when it is written over.
+// Appends the rows of a block, part by part, so that what `resize` writes is still in the cache when it is written over.
 fn undelta_block<T: Integer>(
     bases: &[T],
     deltas: &[T],
@@ -40,9 +40,9 @@ fn undelta_block<T: Integer>(
     ensures { IfOk result (λ _. map T.whole rows.new.items ≡ map (undelta_row T.kind (map T.whole bases.now) (map T.whole deltas.now)) (range_with_len 0 (1024 * (block + 1)))) }
 {
     let most = rows_at_once::<T>();
-    let end = 1024 * (block + 1);
+    let end = BLOCK_ROWS * (block + 1);
     let mut last = bases[block];
-    let mut at = 1024 * block;
+    let mut at = BLOCK_ROWS * block;
     while at < end {
         let next = at + (end - at).min(most);
         rows.resize(next, T::zero())?;
@@ -52,8 +52,8 @@ fn undelta_block<T: Integer>(
     Ok(())
 }
 
-/// The rows of blocks of 1,024 rows: row r of a block is its base and the block's deltas up to the one of row r, wrapped
-/// into the type. There are 1,024 deltas for each base.
+/// The rows from bases and deltas: row r of a block is its base plus the sum of the block's deltas 0 to r, wrapping. There are
+/// 1,024 deltas for each base.
 pub fn undelta<T: Integer>(alloc: Global, bases: &[T], deltas: &[T]) -> VortexResult<Vec<T>>
     requires { length deltas.now ≡ 1024 * length bases.now }
     ensures size { OrMemory result (λ rows. length rows.items ≡ length deltas.now) }

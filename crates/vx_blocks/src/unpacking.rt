@@ -1,4 +1,4 @@
-//! Many rows read at once.
+//! Bit unpacking.
 
 ghost use Rattle.std.specs.Prelude.{◌≡◌, ◌<◌, ◌≤◌, ◌+◌, ◌*◌, ◌/◌, ◌%◌, ℕ, pos, length, map, IfOk, IfSome};
 ghost use Rattle.vx_base.specs.Answers.{OrMemory};
@@ -11,8 +11,8 @@ use crate::reading::{get, read_eights};
 use std::alloc::{AllocError, Global};
 use vx_base::{Integer, VortexResult};
 
-// Reads the rows from `start` to `end - 1` behind those that are read, each wrapped into the type. It isn't inlined, since
-// the bodies of all widths call it.
+// Appends the rows `start` to `end - 1`, read one by one, each wrapped into the type. It isn't inlined, since the bodies of
+// all 64 widths call it.
 #[inline(never)]
 fn read_each<T: Integer>(
     rows: &mut Vec<T>,
@@ -32,8 +32,8 @@ fn read_each<T: Integer>(
     Ok(())
 }
 
-// The first eight rows of the range that begin at a multiple of 8, and the end of the last such: counted in eights, and
-// where eight bytes follow them in so many bytes. None where the range has no such rows.
+// The range of eights (rows 8e to 8e + 7) that lie in `start..end` and may be read by whole words, which takes 8 bytes behind
+// them. None where it is empty.
 fn eights_within(bytes: usize, width: usize, start: u64, end: u64) -> Option<(usize, usize)>
     requires { 0 < width }
     ensures first { IfSome result (λ range. start ≤ 8 * range.0) }
@@ -50,7 +50,7 @@ fn eights_within(bytes: usize, width: usize, start: u64, end: u64) -> Option<(us
     }
 }
 
-// Reads some eights behind the rows that are read.
+// Appends some eights, read by whole words.
 fn read_part<T: Integer, const W: usize>(
     rows: &mut Vec<T>,
     packed: &[u8],
@@ -69,7 +69,8 @@ fn read_part<T: Integer, const W: usize>(
     Ok(())
 }
 
-// Reads the eights up to `last`, 32 at a time, so that what `resize` writes is still in the cache when it is read over.
+// Appends the eights `first` to `last - 1`, a part at a time, so that what `resize` writes is still in the cache when it is
+// written over.
 fn read_whole<T: Integer, const W: usize>(
     rows: &mut Vec<T>,
     packed: &[u8],
@@ -130,7 +131,7 @@ fn unpack_rows<T: Integer>(
     Ok(rows)
 }
 
-// A body for each width.
+// A copy of `unpack_by` for each width from 1 to 64.
 macro_rules! by_width {
     ($type:ident, $alloc:ident, $packed:ident, $width:ident, $start:ident, $end:ident; $($w:literal),*) => {
         match $width {
@@ -140,7 +141,7 @@ macro_rules! by_width {
     };
 }
 
-// The rows from `start` to `end - 1`, each wrapped into the type.
+// The rows `start` to `end - 1`, each wrapped into the type.
 fn unpack_wrapped<T: Integer>(
     alloc: Global,
     packed: &[u8],
@@ -156,8 +157,8 @@ fn unpack_wrapped<T: Integer>(
     by_width!(T, alloc, packed, width, start, end; 1, 2, 3, 4, 5, 6, 7, 8, 9, 10, 11, 12, 13, 14, 15, 16, 17, 18, 19, 20, 21, 22, 23, 24, 25, 26, 27, 28, 29, 30, 31, 32, 33, 34, 35, 36, 37, 38, 39, 40, 41, 42, 43, 44, 45, 46, 47, 48, 49, 50, 51, 52, 53, 54, 55, 56, 57, 58, 59, 60, 61, 62, 63, 64)
 }
 
-/// The rows from `start` to `end - 1`, each as `get` reads it. `width` is in bits, at most 64, and the blocks of the rows
-/// lie in `packed`.
+/// The rows `start` to `end - 1`, each as `get` reads it. `width` is in bits, at most 64, and the blocks of the rows are in
+/// bounds of `packed`.
 pub fn unpack(
     alloc: Global,
     packed: &[u8],
@@ -174,8 +175,8 @@ pub fn unpack(
     Ok(rows)
 }
 
-/// The same rows as integers of a type. `width` is in bits, at most those of the numbers from 0 on that the type holds, so
-/// that each row is a value of the type.
+/// The rows `start` to `end - 1` as integers of a type. `width` is in bits, at most those of the type's greatest value, so that
+/// each row is a value of the type.
 #[tactic(auto, using(crate::proofs::RowsRead::naturals_read))]
 pub fn unpack_integers<T: Integer>(
     alloc: Global,

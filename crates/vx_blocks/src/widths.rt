@@ -1,4 +1,4 @@
-//! How wide rows are, which rows a width leaves out, and which width costs least.
+//! Histograms of rows by bit width, the cheapest width, and the rows that don't fit one.
 
 ghost use Rattle.std.specs.Prelude.{◌≡◌, ◌<◌, ◌≤◌, ◌+◌, ◌-◌, ◌^◌, ◌++◌, ◌∷◌, [], ℕ, List, length, map, filter, slice_index, slice_index_or, sum, true, false, replicate};
 ghost use Rattle.std.specs.List.{range_with_len};
@@ -8,10 +8,11 @@ ghost use Rattle.vx_base.specs.Packed.{is_wide, kept_row, kept_rows, wide_rows};
 ghost use Rattle.vx_blocks.specs.Cost.{IsBest, cost};
 ghost use Rattle.vx_blocks.specs.Histogram.{AreByZeros, IsHistogram};
 
+use crate::groups::GROUP_ROWS;
 use std::alloc::Global;
 use vx_base::{Integer, Mask, PType, VortexResult};
 
-// Counts one row more by its leading zeros. A null adds nothing, so that there is no branch.
+// Counts a row by its leading zeros. A null adds 0, so that there is no branch.
 #[inline(always)]
 fn count_row<T: Integer>(counts: &mut [u64; 65], value: T, valid: bool)
     requires { sum counts.old < 2 ^ 64 - 1 }
@@ -20,7 +21,7 @@ fn count_row<T: Integer>(counts: &mut [u64; 65], value: T, valid: bool)
     counts[value.to_bits().leading_zeros() as usize] += valid as u64;
 }
 
-// The sum of the entries.
+// The sum of the counts.
 fn total(counts: &[u64]) -> u64
     requires { sum counts.now < 2 ^ 64 }
     ensures { result ≡ sum counts.now }
@@ -28,7 +29,7 @@ fn total(counts: &[u64]) -> u64
     counts.iter().sum()
 }
 
-// The histogram of rows that two tables count by their leading zeros.
+// The histogram by digits, from two tables by leading zeros.
 fn by_digits(
     alloc: Global,
     first: &[u64; 65],
@@ -44,7 +45,7 @@ fn by_digits(
     for w in 0..width + 1 {
         counts[w] = first[64 - w] + second[64 - w];
     }
-    // The rows that are left are null.
+    // The rows that aren't counted are null.
     counts[0] += rows - total(&counts);
     Ok(counts)
 }
@@ -58,7 +59,7 @@ fn count_widths<T: Integer>(alloc: Global, values: &[T], valid: &[bool]) -> Vort
     let start = values.len() - half;
     let mut first = [0u64; 65];
     let mut second = [0u64; 65];
-    // Both halves at once, so that a row doesn't wait for the count of the row before it.
+    // A table for each half of the rows, so that a row doesn't wait for the count of the row before it.
     for i in 0..half {
         count_row(&mut first, values[i], valid[i]);
         count_row(&mut second, values[start + i], valid[start + i]);
@@ -72,7 +73,7 @@ fn count_widths<T: Integer>(alloc: Global, values: &[T], valid: &[bool]) -> Vort
     Ok(counts)
 }
 
-// The same of rows none of which is null.
+// `count_widths` of rows without null.
 fn count_all_widths<T: Integer>(alloc: Global, values: &[T]) -> VortexResult<Vec<u64>>
     ensures total { OrMemory result (λ counts. sum counts.items ≡ length values.now) }
     ensures widths { OrMemory result (λ counts. IsHistogram (bits_of T.kind) (kept_rows 64 (map (bits_in T.kind) (map T.whole values.now)) (replicate (length values.now) true)) counts.items) }
@@ -93,8 +94,8 @@ fn count_all_widths<T: Integer>(alloc: Global, values: &[T]) -> VortexResult<Vec
     Ok(counts)
 }
 
-/// How many rows have exactly w binary digits, as entry w, for w from 0 to the type's bits. A null has none, and a
-/// negative number those of its two's complement. `valid` has a truth value for each row.
+/// The number of rows of exactly w binary digits, as entry w, for w from 0 to the type's bits. A null has 0 digits, a negative
+/// number those of its two's complement. `valid` has a truth value per row.
 pub fn bit_width_histogram<T: Integer>(
     alloc: Global,
     values: &[T],
@@ -107,7 +108,7 @@ pub fn bit_width_histogram<T: Integer>(
     count_widths(alloc, values, valid.as_slice())
 }
 
-/// The same of rows none of which is null, without a truth value for each.
+/// `bit_width_histogram` of rows without null, for which no mask is read.
 pub fn bit_widths_of_all<T: Integer>(alloc: Global, values: &[T]) -> VortexResult<Vec<u64>>
     ensures total { OrMemory result (λ counts. sum counts.items ≡ length values.now) }
     ensures widths { OrMemory result (λ counts. IsHistogram (bits_of T.kind) (kept_rows 64 (map (bits_in T.kind) (map T.whole values.now)) (replicate (length values.now) true)) counts.items) }
@@ -115,9 +116,9 @@ pub fn bit_widths_of_all<T: Integer>(alloc: Global, values: &[T]) -> VortexResul
     count_all_widths(alloc, values)
 }
 
-/// The first width of least cost, from 0 bits to the type's. A width costs the bytes of the rows packed at it, and for
-/// each row that is wider the bytes of a value and 4 more. `histogram` has an entry for each width, the number of rows
-/// that have exactly so many digits; there are at most 2^32 rows.
+/// The narrowest of the cheapest widths, from 0 bits to the type's. A width costs the bytes of the packed rows, and for each row
+/// that doesn't fit the bytes of a value and 4 of a patch index. Entry w of `histogram` is the number of rows of exactly w
+/// digits; there are at most 2^32 rows.
 pub fn best_width(histogram: &[u64], ptype: PType) -> u32
     requires size { length histogram.now ≡ bits_of ptype + 1 }
     requires room { sum histogram.now ≤ 2 ^ 32 }
@@ -153,7 +154,7 @@ fn is_wide(bits: u64, valid: bool, width: u32) -> bool
     }
 }
 
-// False only where none of the rows from `start` to `end - 1` is wider, null or not. It tests them all at once.
+// False only where all rows `start` to `end - 1` fit the width, null or not: one branch for the `|` of their bits.
 #[inline(always)]
 fn may_be_wide<T: Integer>(values: &[T], width: u32, start: usize, end: usize) -> bool
     requires within { width ≤ 64 }
@@ -168,7 +169,7 @@ fn may_be_wide<T: Integer>(values: &[T], width: u32, start: usize, end: usize) -
     is_wide(bits, true, width)
 }
 
-// Adds those of the rows from `start` to `end - 1` to those before.
+// Appends the numbers of the rows `start` to `end - 1` that are valid and don't fit the width.
 fn push_wide<T: Integer>(
     rows: &mut Vec<u64>,
     values: &[T],
@@ -203,19 +204,26 @@ fn wide_rows_of<T: Integer>(
     ensures { OrMemory result (λ rows. rows.items ≡ wide_rows width (map (bits_in T.kind) (map T.whole values.now)) valid.now) }
 {
     let mut rows = Vec::new(alloc);
-    let groups = values.len() / 64;
+    let groups = values.len() / GROUP_ROWS;
     for group in 0..groups {
-        let start = 64 * group;
-        if may_be_wide(values, width, start, start + 64) {
-            push_wide(&mut rows, values, valid, width, start, start + 64)?;
+        let start = GROUP_ROWS * group;
+        if may_be_wide(values, width, start, start + GROUP_ROWS) {
+            push_wide(&mut rows, values, valid, width, start, start + GROUP_ROWS)?;
         }
     }
-    push_wide(&mut rows, values, valid, width, 64 * groups, values.len())?;
+    push_wide(
+        &mut rows,
+        values,
+        valid,
+        width,
+        GROUP_ROWS * groups,
+        values.len(),
+    )?;
     Ok(rows)
 }
 
-/// The numbers of the rows that are valid and wider than `width` bits, in their order: those that `pack` leaves out.
-/// Negative numbers are as wide as their two's complement. `valid` has a truth value for each row.
+/// The numbers of the rows that are valid and don't fit `width` bits, ascending: those that `pack` writes as 0, so that they
+/// become patches. Negative numbers are as wide as their two's complement. `valid` has a truth value per row.
 pub fn wide_rows<T: Integer>(
     alloc: Global,
     values: &[T],

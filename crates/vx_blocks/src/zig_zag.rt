@@ -1,9 +1,9 @@
-//! Zigzag: signed integers as unsigned ones, small where they are near 0.
+//! Zigzag encoding: signed integers as unsigned ones, small where they are near 0.
 
 ghost use Rattle.std.specs.Prelude.{◌≡◌};
 ghost use Rattle.vx_base.specs.ZigZag.{zigzag, unzigzag};
 
-/// v as 2v, or as -2v - 1 where v is negative.
+/// 2v, or -2v - 1 where v is negative.
 #[inline(always)]
 pub fn zigzag(value: i64) -> u64
     ensures { result ≡ zigzag value }
@@ -15,7 +15,7 @@ pub fn zigzag(value: i64) -> u64
     }
 }
 
-/// The number that `zigzag` makes a word of.
+/// The inverse of `zigzag`.
 #[inline(always)]
 pub fn unzigzag(value: u64) -> i64
     ensures { result ≡ unzigzag value }

@@ -1,8 +1,13 @@
--- What any of the shipped schemes means, or a caller's own.
-use Rattle.std.specs.Prelude.{◌≡◌, Bool, refl}
+-- What a shipped scheme or a caller's means, as one type.
+use Rattle.std.specs.Prelude.{◌≡◌, Bool, Option, Result, Ok, refl}
+use Rattle.vx_base.specs.Answers.{Answers, OrMemory}
 use Rattle.vx_base.specs.declared.array_id.ArrayId.{ArrayId}
+use Rattle.vx_base.specs.declared.error.VortexError.{VortexError}
+use Rattle.vx_base.specs.declared.fraction.Fraction.{Fraction}
 use Rattle.vx_scheme.specs.Lawful.{Lawful}
 use Rattle.vx_scheme.specs.Meaning.{Meaning}
+use Rattle.vx_scheme.specs.Resolved.{IsResolved}
+use Rattle.vx_scheme.specs.declared.estimate.EstimateVerdict.{EstimateVerdict}
 use Rattle.vx_schemes.specs.BitPacking.Meaning.{bit_packing_meaning, bit_packing_lawful}
 use Rattle.vx_schemes.specs.Dictionary.Meaning.{int_dict_meaning, int_dict_lawful}
 use Rattle.vx_schemes.specs.FrameOfReference.Meaning.{for_meaning, for_meaning_lawful}
@@ -12,10 +17,11 @@ use Rattle.vx_schemes_runs.specs.RunEnd.Meaning.{run_end_meaning, run_end_lawful
 use Rattle.vx_schemes_runs.specs.RunLength.Meaning.{int_rle_meaning, int_rle_lawful}
 use Rattle.vx_schemes_runs.specs.Sequence.Meaning.{sequence_meaning, sequence_lawful}
 use Rattle.vx_schemes_runs.specs.Sparse.Meaning.{sparse_meaning, sparse_lawful}
+use Rattle.vx_schemes_runs.specs.Thresholds.{above}
 use Rattle.vx_btrblocks.specs.declared.any_scheme.AnyScheme.{AnyScheme}
 use Rattle.vx_btrblocks.specs.declared.any_scheme.AnyScheme.TheVariants.{FoR, ZigZag, BitPacking, Sparse, IntDict, RunEnd, Sequence, IntRLE, Delta, Own}
 
--- by its variant
+-- the meaning of the scheme inside
 abbrev pub any_meaning : {X : Type 0} → (X → Meaning) → AnyScheme X → Meaning
 any_meaning own (FoR s) = for_meaning s
 any_meaning own (ZigZag s) = zig_zag_meaning s
@@ -28,7 +34,7 @@ any_meaning own (IntRLE s) = int_rle_meaning s
 any_meaning own (Delta s) = delta_meaning s
 any_meaning own (Own x) = own x
 
--- where only these encodings are allowed
+-- the scheme inside refined to these encodings; the shipped ones stay as they are
 abbrev pub any_refined : {X : Type 0} → (X → (ArrayId → Bool) → X) → AnyScheme X → (ArrayId → Bool) → AnyScheme X
 any_refined own (FoR s) allowed = FoR s
 any_refined own (ZigZag s) allowed = ZigZag s
@@ -40,6 +46,19 @@ any_refined own (Sequence s) allowed = Sequence s
 any_refined own (IntRLE s) allowed = IntRLE s
 any_refined own (Delta s) allowed = Delta s
 any_refined own (Own x) allowed = Own (own x allowed)
+
+-- what the scheme inside answers at a threshold, by its meaning's verdict: exactly `above` of it for the sequence and the delta scheme, of which delta takes memory; else what the trait admits
+abbrev pub IsResolvedBy : {X : Type 0} → AnyScheme X → Option Fraction → EstimateVerdict → Result EstimateVerdict VortexError → Type 0
+IsResolvedBy (FoR s) threshold verdict result = OrMemory result (IsResolved threshold verdict)
+IsResolvedBy (ZigZag s) threshold verdict result = OrMemory result (IsResolved threshold verdict)
+IsResolvedBy (BitPacking s) threshold verdict result = OrMemory result (IsResolved threshold verdict)
+IsResolvedBy (Sparse s) threshold verdict result = OrMemory result (IsResolved threshold verdict)
+IsResolvedBy (IntDict s) threshold verdict result = OrMemory result (IsResolved threshold verdict)
+IsResolvedBy (RunEnd s) threshold verdict result = OrMemory result (IsResolved threshold verdict)
+IsResolvedBy (Sequence s) threshold verdict result = result ≡ Ok (above threshold verdict)
+IsResolvedBy (IntRLE s) threshold verdict result = OrMemory result (IsResolved threshold verdict)
+IsResolvedBy (Delta s) threshold verdict result = Answers result (above threshold verdict)
+IsResolvedBy (Own x) threshold verdict result = OrMemory result (IsResolved threshold verdict)
 
 pub any_lawful : {X : Type 0} (own : X → Meaning) → ((x : X) → Lawful (own x)) → (s : AnyScheme X) → Lawful (any_meaning own s)
 any_lawful own law (FoR s) = for_meaning_lawful s

@@ -1,4 +1,15 @@
-//! The shipped schemes and one of the caller's own, as one type.
+//! The shipped schemes and a caller's, as one type.
+
+ghost use Rattle.std.specs.Prelude.{◌≡◌, true};
+ghost use Rattle.vx_base.specs.Answers.{OrMemory};
+ghost use Rattle.vx_model.specs.Column.{column_of};
+ghost use Rattle.vx_model.specs.TreeType.{tree_type};
+ghost use Rattle.vx_scheme.specs.Asked.{HasPutOff, HasValue, IsSiteTree};
+ghost use Rattle.vx_scheme.specs.Bundle.{SameArray};
+ghost use Rattle.vx_scheme.specs.Contexts.{site_of};
+ghost use Rattle.vx_scheme.specs.Resolved.{IsResolved};
+ghost use Rattle.vx_stats.specs.Options.{includes};
+ghost use Rattle.vx_btrblocks.specs.AnyMeaning.{any_meaning, IsResolvedBy};
 
 use std::alloc::Global;
 use std::sync::ledger::Ledger;
@@ -11,7 +22,7 @@ use vx_scheme::{
 use vx_schemes::{BitPackingScheme, FoRScheme, IntDictScheme, ZigZagScheme};
 use vx_schemes_runs::{DeltaScheme, IntRLEScheme, RunEndScheme, SequenceScheme, SparseScheme};
 
-/// A shipped scheme, or one of the caller's own. It does in each call what the scheme in it does.
+/// A shipped scheme, or one of a caller's. Every call hands its arguments to the scheme inside and answers what that answers.
 #[derive(Clone, Copy, Debug, PartialEq, Eq)]
 pub enum AnyScheme<X> {
     FoR(FoRScheme),
@@ -26,7 +37,7 @@ pub enum AnyScheme<X> {
     Own(X),
 }
 
-// Evaluates an expression over the scheme of any variant.
+// Evaluates an expression over the scheme inside, whichever variant it is.
 macro_rules! with_scheme {
     ($any:expr, $scheme:ident => $call:expr) => {
         match $any {
@@ -107,13 +118,22 @@ impl<X: Scheme> Scheme for AnyScheme<X> {
         with_scheme!(self, scheme => scheme.expected_compression_ratio(column, site, ctx))
     }
 
+    // `exact`: the scheme inside is handed the threshold. Without it the verdict would be as good, but take a pass over the rows.
     fn resolve_estimate(
         &self,
         column: &mut ArrayAndStats,
         threshold: Option<Fraction>,
         site: &CompressorContext,
         ctx: &mut ExecutionCtx,
-    ) -> VortexResult<EstimateVerdict> {
+    ) -> VortexResult<EstimateVerdict>
+        requires column { IsSiteTree column.old.array }
+        requires value { HasValue (column_of column.old.array) }
+        requires options { includes column.old.options (any_meaning X.meaning self.now).options ≡ true }
+        ensures answer { (any_meaning X.meaning self.now).takes (tree_type column.old.array) ≡ true → HasPutOff (any_meaning X.meaning self.now) (column_of column.old.array) (site_of site.now) → OrMemory result (IsResolved threshold ((any_meaning X.meaning self.now).resolve (column_of column.old.array) (site_of site.now))) }
+        ensures exact { (any_meaning X.meaning self.now).takes (tree_type column.old.array) ≡ true → HasPutOff (any_meaning X.meaning self.now) (column_of column.old.array) (site_of site.now) → IsResolvedBy self.now threshold ((any_meaning X.meaning self.now).resolve (column_of column.old.array) (site_of site.now)) result }
+        ensures column { SameArray column.old column.new }
+        ensures ctx { ctx.new ≡ ctx.old }
+    {
         with_scheme!(self, scheme => scheme.resolve_estimate(column, threshold, site, ctx))
     }
 

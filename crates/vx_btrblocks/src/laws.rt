@@ -1,9 +1,9 @@
-//! What holds of the shipped schemes, whichever column they are given.
+//! Laws of the shipped schemes, for any column.
 
 ghost use Rattle.vx_schemes.specs.BitPacking.Meaning.{bit_packing_meaning};
 ghost use Rattle.vx_schemes.specs.Dictionary.Meaning.{int_dict_meaning};
 ghost use Rattle.vx_schemes.specs.FrameOfReference.Meaning.{for_meaning};
-ghost use Rattle.vx_schemes.specs.Produced.{MakesProduced};
+ghost use Rattle.vx_schemes_common.specs.Produced.{MakesProduced};
 ghost use Rattle.vx_schemes.specs.ZigZag.Meaning.{zig_zag_meaning};
 ghost use Rattle.vx_schemes.specs.declared.integer.bit_packing.BitPackingScheme.{BitPackingScheme};
 ghost use Rattle.vx_schemes.specs.declared.integer.dictionary.IntDictScheme.{IntDictScheme};
@@ -20,8 +20,8 @@ ghost use Rattle.vx_schemes_runs.specs.declared.integer.run_length.IntRLEScheme.
 ghost use Rattle.vx_schemes_runs.specs.declared.integer.sequence.SequenceScheme.{SequenceScheme};
 ghost use Rattle.vx_schemes_runs.specs.declared.integer.sparse.SparseScheme.{SparseScheme};
 
-/// The root of each tree that a shipped scheme finishes or joins has an encoding that the scheme produces, or is plain.
-/// Does nothing: a caller learns the clauses.
+/// Does nothing; its contract holds the law: the root of each tree that a shipped scheme finishes or joins has an encoding
+/// that the scheme declares as produced, or is the column's plain tree.
 pub fn laws_of_shipped_schemes()
     ensures frames { (scheme : FoRScheme) → MakesProduced (for_meaning scheme) }
     ensures zigzags { (scheme : ZigZagScheme) → MakesProduced (zig_zag_meaning scheme) }

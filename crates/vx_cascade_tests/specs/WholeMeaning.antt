@@ -1,5 +1,5 @@
--- What the scheme of the tests means: its one part is the column itself, whose tree is then its tree.
-use Rattle.std.specs.Prelude.{◌≡◌, ◌≤◌, true, false, List, [], ◌∷◌, length, map, All, Option, Some, None, slice_get, codes}
+-- What the scheme of the tests means: its one part is the column itself, whose tree is its tree.
+use Rattle.std.specs.Prelude.{◌≡◌, ◌≤◌, ℕ, Bool, true, false, if◌then◌else◌, List, [], ◌∷◌, length, map, All, Option, Some, None, slice_get, codes}
 use Rattle.std.proofs.Common.{arith, subst, ◌∙◌}
 use Rattle.std.proofs.lemmas.List.Elements.{All-from_recursion, recursion_from_All}
 use Rattle.vx_base.specs.PlainType.{is_leaf}
@@ -17,10 +17,14 @@ abbrev pub tree_or_plain : Column → Option Tree → Tree
 tree_or_plain c None = plain c
 tree_or_plain c (Some t) = t
 
+-- the root's name, or its own
+abbrev pub whole_name : Bool → List ℕ
+whole_name is_root = if is_root then codes "vortex.compressor.root" else codes "test.whole"
+
 -- what a scheme means whose one part is the column itself
-abbrev pub whole_meaning : CompressionEstimate → Meaning
-whole_meaning estimate = record {
-  name = codes "test.whole";
+abbrev pub whole_meaning : Bool → CompressionEstimate → Meaning
+whole_meaning is_root estimate = record {
+  name = whole_name is_root;
   takes = is_leaf;
   children = 1;
   options = record { count_distinct_values = false };
@@ -42,8 +46,8 @@ one_part c columns fits leaf e =
     subst (λ cs. (length cs ≤ 1) × All (IsPart c) cs) e
     (omega arith, All-from_recursion (IsPart c) (c ∷ []) (record { column = fits; leaf = leaf; rows = omega arith }, tt))
 
-pub whole_lawful : (estimate : CompressionEstimate) → Lawful (whole_meaning estimate)
-whole_lawful estimate = record {
+pub whole_lawful : (is_root : Bool) (estimate : CompressionEstimate) → Lawful (whole_meaning is_root estimate)
+whole_lawful is_root estimate = record {
   finished_well = λ c site tree asked e. absurd cc;
   joined_well = λ c site columns trees asked e well fit. first_well c trees well (fit ∙ cc);
   few_parts = λ c site columns asked e. (one_part c columns asked.column asked.taken cc).0;

@@ -1,4 +1,4 @@
-//! What a compressor makes of a column, as plain data.
+//! The form of the tree that a compressor makes of a column, as plain data.
 
 use std::alloc::Global;
 use vx_array::ArrayRef;
@@ -7,26 +7,26 @@ use vx_btrblocks::BtrBlocksCompressor;
 use vx_fixtures::{column, context, flat, made_of};
 use vx_scheme::{NoScheme, Scheme};
 
-/// The root's encoding, the bytes, and the encoding of the first child.
+/// The root's encoding, the bytes of the whole tree, and the encoding of child 0.
 pub(crate) type Form = (ArrayId, u128, Option<ArrayId>);
 
 pub(crate) fn form_of(tree: &ArrayRef) -> Form {
     (tree.encoding_id(), tree.nbytes(), encoding_inside(tree))
 }
 
-// The encoding of the first child.
+// The encoding of child 0.
 fn encoding_inside(tree: &ArrayRef) -> Option<ArrayId> {
     let child = tree.child(0)?;
     Some(child.encoding_id())
 }
 
-// The encoding and the bytes of the tree inside at a place.
+// The encoding and the bytes of a child.
 pub(crate) fn inside(tree: &ArrayRef, place: usize) -> Option<(ArrayId, u128)> {
     let child = tree.child(place)?;
     Some((child.encoding_id(), child.nbytes()))
 }
 
-// How many parts a scheme makes of a column, and the form of its tree with the parts as they are.
+// The number of parts that a scheme makes of a column, and the form of its tree over the plain parts.
 pub(crate) fn made_form<S: Scheme>(
     alloc: Global,
     scheme: &S,
@@ -60,7 +60,7 @@ pub(crate) fn by_both<X: Scheme>(
     Ok((without, with))
 }
 
-// The same of a column without nulls, and of one with nulls.
+// Both forms of a column without nulls.
 pub(crate) fn wholes_by_both<X: Scheme>(
     alloc: Global,
     compressor: &BtrBlocksCompressor<X>,
@@ -71,6 +71,7 @@ pub(crate) fn wholes_by_both<X: Scheme>(
     by_both(alloc, compressor, &array)
 }
 
+// Both forms of a column, None for null.
 pub(crate) fn rows_by_both<X: Scheme>(
     alloc: Global,
     compressor: &BtrBlocksCompressor<X>,
@@ -81,7 +82,7 @@ pub(crate) fn rows_by_both<X: Scheme>(
     by_both(alloc, compressor, &array)
 }
 
-// The same of a thousand rows, ten numbers in turn from the first on.
+// Both forms of a thousand rows: `first` to `first` + 9 in turn.
 pub(crate) fn tens_by_both<X: Scheme>(
     alloc: Global,
     compressor: &BtrBlocksCompressor<X>,
@@ -91,7 +92,7 @@ pub(crate) fn tens_by_both<X: Scheme>(
     wholes_by_both(alloc, compressor, PType::I32, wholes.as_slice())
 }
 
-// The same of waves from the least on.
+// Both forms of `waves`.
 pub(crate) fn waves_by_both<X: Scheme>(
     alloc: Global,
     compressor: &BtrBlocksCompressor<X>,
@@ -101,7 +102,7 @@ pub(crate) fn waves_by_both<X: Scheme>(
     wholes_by_both(alloc, compressor, PType::I32, wholes.as_slice())
 }
 
-// So many rows of whole numbers, ten in turn from the first on.
+// `first` to `first` + 9 in turn.
 pub(crate) fn tens(alloc: Global, rows: u16, first: i128) -> VortexResult<Vec<i128>> {
     let mut wholes = Vec::new(alloc);
     for row in 0..rows {
@@ -110,7 +111,7 @@ pub(crate) fn tens(alloc: Global, rows: u16, first: i128) -> VortexResult<Vec<i1
     Ok(wholes)
 }
 
-// 2,048 rows: of each 128 the first 64, which are the sample by the word 0, are the least, and then 1 to 7 more come.
+// 2,048 rows. Of each 128 the first 64, which are the slice by the word 0, have the least value; the others are 1 to 7 above it.
 fn waves(alloc: Global, least: i128) -> VortexResult<Vec<i128>> {
     let mut wholes = Vec::new(alloc);
     for row in 0..2048_u16 {

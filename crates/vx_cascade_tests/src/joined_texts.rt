@@ -1,4 +1,4 @@
-//! What becomes of texts where they may be joined, with ample memory.
+//! Texts by a compressor with joined texts, with ample memory.
 
 use crate::comparing::{Form, by_both};
 use std::alloc::Global;
@@ -11,7 +11,7 @@ use vx_examples::{JoinedTexts, compressor_with_texts};
 use vx_fixtures::{accepted, byte_rows, rules_of};
 use vx_scheme::Scheme;
 
-// Two letters, others for each of 1,024 rows.
+// Two letters, different for each of 1,024 rows.
 fn pair(alloc: Global, row: u16) -> VortexResult<Bytes> {
     let letters = [48 + (row / 32 % 32) as u8, 48 + (row % 32) as u8];
     Ok(Bytes::from_vec(Vec::from_slice(alloc, letters.as_slice())?))
@@ -26,7 +26,7 @@ fn pairs(alloc: Global) -> VortexResult<ByteRows> {
     Ok(ByteRows::from_vec(rows))
 }
 
-// Bits that are false in every fourth of so many rows.
+// 1,023 bits, false in every fourth row.
 fn three_of_four(alloc: Global) -> VortexResult<Mask> {
     let mut bits = Vec::new(alloc);
     for row in 0..1023_u16 {
@@ -46,9 +46,9 @@ fn texts_by_both(
     by_both(alloc, &compressor_with_texts(alloc)?, &array)
 }
 
-// 1,024 offsets, each two more than the one before, are a sequence, and 2,046 bytes stand below; plain each text takes 16. Of
-// 768 valid rows 1,536 bytes stand below, 128 bytes of validity, and the offsets as differences of 0 and 2: 8 bytes of a base,
-// and a block of 2 bits each, 256 bytes.
+// The 1,024 offsets are a sequence of step 2 and take no byte, beside 2,046 bytes of text; plain, each text takes 16. Of 768
+// valid rows: 1,536 bytes of text, 128 bytes of validity, and offsets as differences of 0 and 2: a base of 8 bytes and a block
+// of 2 bits a row, 256 bytes.
 #[test]
 fn offsets_become_less_than_a_byte_each(rt: HostRuntime) -> Result<(), Fail> {
     let all = texts_by_both(
@@ -66,7 +66,7 @@ fn offsets_become_less_than_a_byte_each(rt: HostRuntime) -> Result<(), Fail> {
     Ok(())
 }
 
-// Four offsets of 8 bytes and 36 bytes are more than three times 16. Binaries aren't taken, however short.
+// Four offsets of 8 bytes and 36 bytes of text are more than three times 16. The scheme takes texts alone, not binaries.
 #[test]
 fn no_tree_is_larger_than_the_plain_one(rt: HostRuntime) -> Result<(), Fail> {
     let twelves = byte_rows(

@@ -18,7 +18,7 @@ fn compressed(alloc: Global, array: &ArrayRef) -> VortexResult<ArrayRef> {
     compressor.compress(array, &mut context(alloc)?)
 }
 
-// The lists of 1 and 2, of nothing, null, and of 3.
+// [1, 2], [], null, [3].
 fn lists(alloc: Global) -> VortexResult<ArrayRef> {
     let elements = flat(alloc, I32, Nullable, &[1, 2, 3])?;
     let offsets = flat(alloc, U64, NonNullable, &[0, 2, 2, 2, 3])?;
@@ -26,7 +26,7 @@ fn lists(alloc: Global) -> VortexResult<ArrayRef> {
     accepted(ArrayRef::list(alloc, elements, offsets, valid, Nullable))
 }
 
-// Offsets of 64 bits become offsets of 8. The elements 1, 2 and 3 are a sequence; 1 byte is the lists' validity.
+// Five offsets of 64 bits become five of 8 bits. The elements 1, 2, 3 are a sequence; the lists' validity takes 1 byte.
 #[test]
 fn the_offsets_of_lists_are_narrowed(rt: HostRuntime) -> Result<(), Fail> {
     let tree = compressed(rt.alloc(), &lists(rt.alloc())?)?;
@@ -39,7 +39,7 @@ fn the_offsets_of_lists_are_narrowed(rt: HostRuntime) -> Result<(), Fail> {
     Ok(())
 }
 
-// Whether so many nulls stay nulls alone.
+// Whether `len` nulls stay a node of nulls.
 fn stay(alloc: Global, len: u64) -> VortexResult<bool> {
     let tree = compressed(alloc, &ArrayRef::null(len))?;
     Ok(tree.encoding_id() == Null && tree.len() == len)

@@ -12,20 +12,20 @@ use vx_btrblocks::BtrBlocksCompressor;
 use vx_fixtures::{accepted, context, flat};
 use vx_scheme::NoScheme;
 
-// What an array becomes that is given up.
+// The form of the tree of an array that is given up.
 fn form_of_owned(alloc: Global, array: ArrayRef) -> VortexResult<Form> {
     let compressor = BtrBlocksCompressor::<NoScheme>::shipped(alloc)?;
     let tree = compressor.compress_owned(array, &mut context(alloc)?)?;
     Ok(form_of(&tree))
 }
 
-// A thousand whole numbers, ten in turn: 4 bits each above the least.
+// A thousand integers, 1,000 to 1,009 in turn: 4 bits a row above the least.
 fn wholes(alloc: Global) -> VortexResult<ArrayRef> {
     let wholes = tens(alloc, 1000, 1000)?;
     flat(alloc, I64, NonNullable, wholes.as_slice())
 }
 
-// The same as moments.
+// Those numbers as timestamps in seconds.
 fn moments(alloc: Global) -> VortexResult<ArrayRef> {
     let kind = accepted(TimestampType::new(TimeUnit::Seconds, None))?;
     accepted(ArrayRef::timestamp(alloc, wholes(alloc)?, kind))

@@ -1,4 +1,4 @@
-//! What quick packing tells and makes of columns, and where it is chosen, with ample memory.
+//! Quick packing: its verdicts, its trees, and where it is chosen, with ample memory.
 
 use crate::comparing::{made_form, tens_by_both, waves_by_both};
 use std::test::Fail;

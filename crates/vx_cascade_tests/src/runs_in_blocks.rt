@@ -1,4 +1,4 @@
-//! Runs in blocks by a compressor over their scheme alone, with ample memory.
+//! Runs within blocks, by a compressor over their scheme alone, with ample memory.
 
 use crate::comparing::inside;
 use std::alloc::Global;
@@ -28,8 +28,8 @@ fn compressed(alloc: Global, array: &ArrayRef) -> VortexResult<ArrayRef> {
     compressor.compress(array, &mut context(alloc)?)
 }
 
-// A run of the first block, and two of the second: three values of 4 bytes, a number of one byte for each row of two
-// blocks, and where the runs of each block begin.
+// One run in the first block, and two in the second: three values of 4 bytes, a run number of 1 byte for each row of the two
+// blocks, and 1 byte a block for where its runs begin.
 #[test]
 fn a_run_ends_with_its_block(rt: HostRuntime) -> Result<(), Fail> {
     let tree = compressed(rt.alloc(), &two_runs(rt.alloc())?)?;

@@ -12,7 +12,7 @@ use vx_btrblocks::BtrBlocksCompressor;
 use vx_fixtures::{context, flat};
 use vx_scheme::NoScheme;
 
-// What an array becomes, and what its tree becomes.
+// The form of an array's tree, and of the tree's tree.
 fn forms_of(alloc: Global, array: &ArrayRef) -> VortexResult<(Form, Form)> {
     let mut ctx = context(alloc)?;
     let compressor = BtrBlocksCompressor::<NoScheme>::shipped(alloc)?;
@@ -31,7 +31,7 @@ fn a_tree_becomes_the_same_tree_again(rt: HostRuntime) -> Result<(), Fail> {
     Ok(())
 }
 
-// What whole numbers become.
+// The form of integers.
 fn form_of_wholes(alloc: Global, ptype: PType, wholes: &[i128]) -> VortexResult<Form> {
     let compressor = BtrBlocksCompressor::<NoScheme>::shipped(alloc)?;
     let array = flat(alloc, ptype, NonNullable, wholes)?;
@@ -48,7 +48,7 @@ fn ramp(alloc: Global) -> VortexResult<Vec<i128>> {
     Ok(wholes)
 }
 
-// So many rows of one number, and then so many of another.
+// A run of one number, and then a run of another: each its rows and its number.
 fn two_runs(alloc: Global, first: (u16, i128), second: (u16, i128)) -> VortexResult<Vec<i128>> {
     let mut wholes = Vec::new(alloc);
     for _ in 0..first.0 {
@@ -78,7 +78,7 @@ fn numbers_in_steps_are_a_sequence(rt: HostRuntime) -> Result<(), Fail> {
     Ok(())
 }
 
-// One row of a thousand is a place of one byte and a value of 8, and the fill takes 9.
+// One patch has an index of 1 byte and a value of 8, and the fill takes 9.
 #[test]
 fn a_rare_number_is_a_patch(rt: HostRuntime) -> Result<(), Fail> {
     let rare = two_runs(rt.alloc(), (1, 0), (999, 999))?;
@@ -87,7 +87,7 @@ fn a_rare_number_is_a_patch(rt: HostRuntime) -> Result<(), Fail> {
     Ok(())
 }
 
-// Two ends of a byte and two values of 4.
+// Two ends of 1 byte and two values of 4.
 #[test]
 fn two_long_runs_have_two_ends_and_two_values(rt: HostRuntime) -> Result<(), Fail> {
     let runs = two_runs(rt.alloc(), (50, 0), (50, 7))?;
@@ -96,7 +96,7 @@ fn two_long_runs_have_two_ends_and_two_values(rt: HostRuntime) -> Result<(), Fai
     Ok(())
 }
 
-// Squares differ by at most 4,093: two bases of 8 bytes, and two blocks of 12 bits a row.
+// The differences are at most 4,093: two bases of 8 bytes, and two blocks of 12 bits a row.
 #[test]
 fn a_slow_series_is_its_differences(rt: HostRuntime) -> Result<(), Fail> {
     let squares = squares(rt.alloc())?;

@@ -1,4 +1,4 @@
-//! What span frames tell of columns, and what becomes of their part, with ample memory.
+//! Span frames: their verdicts, and the trees of their part, with ample memory.
 
 use crate::comparing::{
     Form, made_form, rows_by_both, tens_by_both, waves_by_both, wholes_by_both,
@@ -33,8 +33,8 @@ fn differences_are_one_part(rt: HostRuntime) -> Result<(), Fail> {
     Ok(())
 }
 
-// The shipped frame packs without a trial. In the last row bit packing takes no byte on the sample of the part, so it
-// has no score, and a dictionary stands: a byte a row, and the values 0 to 7 are a sequence.
+// The shipped frame always packs its differences. In the last case the packed sample of the part takes no byte, so bit packing
+// has no score and the dictionary stands: a byte a row, and the values 0 to 7 are a sequence.
 #[test]
 fn the_part_becomes_whatever_is_best_for_its_sample(rt: HostRuntime) -> Result<(), Fail> {
     let compressor = compressor_with_frames(rt.alloc())?;
@@ -50,7 +50,7 @@ fn the_part_becomes_whatever_is_best_for_its_sample(rt: HostRuntime) -> Result<(
     Ok(())
 }
 
-// 10^12 and the nineteen tens behind it, five times.
+// 10^12 + 0, 10, .., 190, five times.
 fn twenties(alloc: Global) -> VortexResult<Vec<i128>> {
     let mut wholes = Vec::new(alloc);
     for row in 0..100_u16 {
@@ -67,9 +67,9 @@ fn twenties_by_both<X: Scheme>(
     wholes_by_both(alloc, compressor, I64, wholes.as_slice())
 }
 
-// The differences of the first column would fill a block of 1,024 bytes, more than they take plain; their dictionary has
-// 100 codes of one byte, and its 20 values are a sequence. That of the second, 1,000 to 1,002 and a null, has 9 codes and 2
-// bytes of bits, and its values are a sequence too.
+// Packed, the differences of the first column fill a block of 1,024 bytes, more than the plain column; their dictionary has
+// 100 codes of one byte, and its 20 values are a sequence. The dictionary of the second column, 1,000 to 1,002 and a null, has 9
+// codes and 2 bytes of validity, and its values are a sequence too.
 #[test]
 fn the_part_becomes_a_dictionary(rt: HostRuntime) -> Result<(), Fail> {
     let compressor = compressor_with_frames(rt.alloc())?;

@@ -12,7 +12,7 @@ use vx_btrblocks::BtrBlocksCompressor;
 use vx_fixtures::{accepted, context, flat};
 use vx_scheme::NoScheme;
 
-// What moments become, given in seconds.
+// The form of timestamps in seconds.
 fn form_of_moments(alloc: Global, seconds: &[i128]) -> VortexResult<Form> {
     let kind = accepted(TimestampType::new(TimeUnit::Seconds, None))?;
     let storage = flat(alloc, I64, NonNullable, seconds)?;
@@ -22,7 +22,7 @@ fn form_of_moments(alloc: Global, seconds: &[i128]) -> VortexResult<Form> {
     form_by(&compressor, &moments, &mut ctx)
 }
 
-// A constant of the moments' own type takes 1 byte and 8. Ten moments in turn take 4 bits each above the least.
+// A constant timestamp takes 1 + 8 bytes. A thousand rows of ten moments in turn take 4 bits each above the least.
 #[test]
 fn moments_are_a_constant_or_their_whole_numbers(rt: HostRuntime) -> Result<(), Fail> {
     let equal = form_of_moments(rt.alloc(), &[60, 60, 60])?;

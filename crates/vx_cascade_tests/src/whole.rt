@@ -1,4 +1,7 @@
-//! A scheme of a caller's own, which is always judged of leaf columns: its one part is the column itself.
+//! A scheme of a caller's own that takes every leaf column and answers one estimate: its one part is the column itself.
+
+ghost use Rattle.std.specs.Prelude.{◌≡◌};
+ghost use Rattle.vx_cascade_tests.specs.WholeMeaning.{whole_name};
 
 use std::alloc::Global;
 use std::sync::ledger::Ledger;
@@ -9,28 +12,49 @@ use vx_scheme::{
     DescendantRules, EstimateVerdict, GenerateStatsOptions, Scheme, Split,
 };
 
-// A scheme that tells this of every leaf column. Its tree is the column's own, so it never is smaller.
+// A scheme that answers this estimate of every leaf column. Its tree is that of the column, so it is never smaller than plain.
 #[derive(Clone, Copy, Debug)]
 pub(crate) struct Whole {
     pub(crate) estimate: CompressionEstimate,
-    // The threshold that it awaits where it is asked later. With any other it tells that memory is wanting.
+    // The threshold that it awaits where it defers. With any other it refuses NoMemory, so that a test can tell.
     pub(crate) awaits: Option<Fraction>,
+    // Whether its name is the root's, which no compressor accepts.
+    pub(crate) is_root: bool,
+}
+
+// The scheme with the root's name.
+pub(crate) fn named_as_root() -> Whole {
+    Whole {
+        estimate: CompressionEstimate::Verdict(EstimateVerdict::Skip),
+        awaits: None,
+        is_root: true,
+    }
+}
+
+fn name_of(is_root: bool) -> &'static str
+    ensures { result.now ≡ whole_name is_root }
+{
+    if is_root {
+        "vortex.compressor.root"
+    } else {
+        "test.whole"
+    }
 }
 
 impl Scheme for Whole {
     ghost use Rattle.vx_cascade_tests.specs.WholeMeaning.{whole_meaning, whole_lawful};
     ghost use Rattle.std.specs.Prelude.{refl};
 
-    ghost meaning = { λ s. whole_meaning s.estimate };
+    ghost meaning = { λ s. whole_meaning s.is_root s.estimate };
 
     ghost refined = { λ s allowed. s };
 
-    ghost lawful = { λ s. whole_lawful s.estimate };
+    ghost lawful = { λ s. whole_lawful s.is_root s.estimate };
 
     ghost keeps_name = { λ s allowed. refl };
 
     fn scheme_name(&self) -> &'static str {
-        "test.whole"
+        name_of(self.is_root)
     }
 
     fn matches(&self, dtype: &DType) -> bool {

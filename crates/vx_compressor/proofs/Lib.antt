@@ -1,3 +1,4 @@
+pub mod AnswerExtents
 pub mod BanLemmas
 pub mod ByValueLemmas
 pub mod CascadeLemmas

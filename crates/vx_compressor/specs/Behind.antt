@@ -1,4 +1,4 @@
--- A tree behind a node's validity.
+-- A tree under a mask where some row isn't valid.
 use Rattle.std.specs.Prelude.{Option, None, Some}
 use Rattle.vx_base.specs.declared.error.VortexError.{VortexError}
 use Rattle.vx_model.specs.Tree.{Tree, Validity, masked}

@@ -1,4 +1,4 @@
--- What the values of a column alone decide of its tree.
+-- Where the values of a column alone decide its tree, whichever scheme would be chosen.
 use Rattle.std.specs.Prelude.{◌≡◌, ◌<◌, length, Option, None, Some}
 use Rattle.vx_model.specs.Column.{Column}
 use Rattle.vx_model.specs.Leaf.{Chooses, leaf, chosen_or_plain}
@@ -6,7 +6,7 @@ use Rattle.vx_model.specs.Site.{Site}
 use Rattle.vx_model.specs.Tree.{Tree}
 use Rattle.vx_scheme.specs.Asked.{HasValue}
 
--- the scheme that is chosen decides: the column has a value
+-- the chosen scheme decides: the column has rows and a value
 pub record IsOpen (c : Column) (site : Site) : Type 0 where
   pub value : HasValue c
   pub some : 0 < length c.values

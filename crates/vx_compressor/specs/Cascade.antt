@@ -1,5 +1,5 @@
--- The tree of a leaf column at a site: each scheme that may stand there is scored, and the tree of the chosen one stands where it
--- is smaller than the plain tree.
+-- The tree of a leaf column at a site: each eligible scheme gets a score, and the tree of the chosen one stands where it is smaller
+-- than the plain tree.
 use Rattle.std.specs.Prelude.{ℕ, zero, suc, true, false, ◌+◌, ◌==◌, nat_le, Bool, not, ◌&&◌, List, [], ◌∷◌, ◌++◌, map, filter, Option, Some, None, option_map, if◌then◌else◌}
 use Rattle.std.proofs.Common.{zero-lt-suc}
 use Rattle.vx_base.specs.PlainType.{PlainType}
@@ -24,7 +24,7 @@ use Rattle.vx_compressor.specs.declared.choice.Score.TheVariants.{Always, Finite
 use Rattle.vx_compressor.specs.Choice.{choice_of}
 use Rattle.vx_compressor.specs.Sampling.{sample}
 
--- what stays the same throughout: the schemes, and the words that place the samples
+-- what is fixed throughout a compression: the schemes, and the words that place the slices of samples
 pub record Setting : Type 0 where
   pub schemes : List Meaning
   pub words : List ℕ
@@ -33,7 +33,7 @@ pub record Setting : Type 0 where
 abbrev pub setting : {S : Type 0} → (S → Meaning) → List S → List ℕ → Setting
 setting meaning schemes words = record { schemes = map meaning schemes; words = words }
 
--- ---- what a scheme makes of a column, where its parts become trees by `child`
+-- ---- the tree that a scheme makes of a column, where its parts become trees by `child`
 
 -- the trees of the parts, from a child number on
 abbrev pub part_trees : Leaves → List ℕ → Site → ℕ → List Column → List Tree
@@ -58,16 +58,16 @@ verdict_score Skip = None
 verdict_score AlwaysUse = Some Always
 verdict_score (Ratio f) = Some (Finite f)
 
--- how many times smaller the tree is; nothing where it takes no byte, or isn't smaller
+-- the ratio before / after of two sizes; none where the tree takes no byte, or isn't smaller
 abbrev pub size_score : ℕ → ℕ → Option Score
 size_score before zero = None
 size_score before (suc after) = if nat_le before (suc after) then None else Some (Finite (record { num = before; den = suc after; positive = zero-lt-suc after }))
 
--- by the scheme's trial on a sample
+-- the score of a trial: the plain sample's size to that of the tree which the scheme makes of it
 abbrev pub sample_score : Leaves → Meaning → Column → Site → Option Score
 sample_score child m s site = size_score (size (plain s)) (size (trial child m s (sample_site site)))
 
--- the score that is found by a trial on the sample, or by asking the scheme again
+-- the score of a deferred verdict: by a trial on the sample, or by asking the scheme again
 abbrev pub deferred_score : Leaves → List ℕ → Meaning → Column → Site → DeferredEstimate → Option Score
 deferred_score child words m c site Sample = sample_score child m (sample site.sampled words c) site
 deferred_score child words m c site Callback = verdict_score (m.resolve c site)
@@ -77,39 +77,39 @@ abbrev pub estimate_score : Leaves → List ℕ → Meaning → Column → Site 
 estimate_score child words m c site (Verdict v) = verdict_score v
 estimate_score child words m c site (Deferred d) = deferred_score child words m c site d
 
--- how good a scheme is for a column at a site; none where it can't serve it
+-- the score of a scheme for a column at a site; none where it is skipped
 abbrev pub score : Leaves → List ℕ → Meaning → Column → Site → Option Score
 score child words m c site = estimate_score child words m c site (m.estimate c site)
 
 -- ---- the choice
 
--- the scheme takes the type, and no rule forbids it below those that stand above
+-- the scheme takes the type, and isn't excluded below this history
 abbrev pub is_eligible : List Meaning → PlainType → History → Meaning → Bool
 is_eligible schemes dtype history m = m.takes dtype && not (excluded schemes m.name history)
 
--- the schemes that take the type and may stand below this history
+-- the eligible schemes, in the order of the list
 abbrev pub eligible : List Meaning → PlainType → History → List Meaning
 eligible schemes dtype history = filter (is_eligible schemes dtype history) schemes
 
--- the estimate is a verdict that comes at once
+-- the estimate is an immediate verdict
 abbrev pub is_verdict : CompressionEstimate → Bool
 is_verdict (Verdict v) = true
 is_verdict (Deferred d) = false
 
--- those with a verdict, and those that put it off
+-- the schemes with an immediate verdict
 abbrev pub with_verdict : Column → Site → List Meaning → List Meaning
 with_verdict c site ms = filter (λ m. is_verdict (m.estimate c site)) ms
 
--- the schemes whose estimate is put off
+-- the schemes that defer
 abbrev pub deferring : Column → Site → List Meaning → List Meaning
 deferring c site ms = filter (λ m. not (is_verdict (m.estimate c site))) ms
 
--- in the order of the list, those with a verdict before the others
+-- each in the order of the list, those with an immediate verdict before the others
 abbrev pub judged : List Meaning → Column → Site → List Meaning
 judged schemes c site =
     with_verdict c site (eligible schemes c.dtype site.history) ++ deferring c site (eligible schemes c.dtype site.history)
 
--- the first always-use, else the first with the greatest ratio above one
+-- the chosen scheme: the first always-use, else the first of the greatest ratios above one
 abbrev pub choice : Leaves → Setting → Column → Site → Option Meaning
 choice child set c site = choice_of (map (λ m. (m, score child set.words m c site)) (judged set.schemes c site))
 
@@ -135,7 +135,7 @@ abbrev pub child_tree : Setting → ℕ → Leaves
 child_tree set zero = plain_parts
 child_tree set (suc budget) = site_tree (child_tree set budget) set
 
--- the same, by the column's site
+-- by the column's site
 abbrev pub children_of : Setting → Site → Leaves
 children_of set site = child_tree set site.budget
 
@@ -143,6 +143,6 @@ children_of set site = child_tree set site.budget
 abbrev pub leaf_tree : Setting → Leaves
 leaf_tree set c site = site_tree (children_of set site) set c site
 
--- what a child of a site becomes: where no scheme may follow it stays as it is, else it becomes the tree of its own site
+-- what a child of a site becomes: itself where the parent's budget is 0, else the tree of its own site
 abbrev pub compressed_child : Setting → Tree → Site → List ℕ → ℕ → Tree
 compressed_child set child parent name number = if parent.budget == 0 then child else leaf_tree set (column_of child) (down parent name number)

@@ -1,4 +1,4 @@
--- Which scheme is chosen, by the scores of all, and how the best so far goes from scheme to scheme.
+-- Which scheme is chosen by the scores of all, and the best so far of one pass over them.
 use Rattle.std.specs.Prelude.{◌≡◌, Bool, true, false, not, ◌&&◌, if◌then◌else◌, List, [], ◌∷◌, Option, Some, None, option_map}
 use Rattle.std.specs.List.{find, list_all}
 use Rattle.vx_base.specs.declared.fraction.Fraction.{Fraction}

@@ -17,7 +17,7 @@ are_distinct (name ∷ names) = not (list_any (same_name name) names) && are_dis
 abbrev pub names_of : List Meaning → List (List ℕ)
 names_of schemes = map (λ m. m.name) schemes
 
--- each scheme has a name of its own, which the root hasn't
+-- the names are distinct, and none is the root's
 abbrev pub have_own_names : List Meaning → Bool
 have_own_names schemes = are_distinct (root_name ∷ names_of schemes)
 

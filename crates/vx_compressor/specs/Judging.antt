@@ -1,4 +1,4 @@
--- What the two passes over the schemes of a site have found, and what they rest on.
+-- What the two passes over the schemes of a site find: first the immediate verdicts, then the deferred ones.
 use Rattle.std.specs.Prelude.{◌≡◌, ◌<◌, ◌≤◌, ℕ, true, List, [], ◌∷◌, map, length, Option, Some, None, option_map}
 use Rattle.vx_base.specs.declared.fraction.Fraction.{Fraction}
 use Rattle.vx_base.specs.PlainType.{is_flat}
@@ -25,7 +25,7 @@ pub record Holds (b : Bundle) (c : Column) (opts : GenerateStatsOptions) : Type 
   pub array : b.array ≡ plain c
   pub options : b.options ≡ opts
 
--- a column that schemes may split: of a leaf type or timestamps, its values fit the type, and it has rows, but not too many
+-- a column that schemes may be asked about: of a leaf type or timestamps, its values fit the type, with 1 to `most_rows` rows
 pub record IsAskable (c : Column) : Type 0 where
   pub column : IsColumn c
   pub flat : is_flat c.dtype ≡ true
@@ -37,54 +37,54 @@ pub record IsReady (c : Column) (opts : GenerateStatsOptions) (m : Meaning) : Ty
   pub taken : m.takes c.dtype ≡ true
   pub included : includes opts m.options ≡ true
 
--- the scheme put its verdict off, to be found in this way
+-- the scheme defers its verdict, to be found in this way
 abbrev pub WasPutOff : Column → Site → Meaning → DeferredEstimate → Type 0
 WasPutOff c site m how = m.estimate c site ≡ Deferred how
 
 -- ---- the first pass
 
--- the scores of the verdicts that schemes tell at once
+-- a scheme's score before others, where its verdict is immediate
 abbrev pub told_by : {A : Type 0} → A → CompressionEstimate → List (A × Option Score) → List (A × Option Score)
 told_by x (Verdict v) rest = (x, verdict_score v) ∷ rest
 told_by x (Deferred d) rest = rest
 
--- the schemes with a verdict that comes at once, and their scores
+-- the schemes with an immediate verdict, and their scores
 abbrev pub told : Column → Site → List Meaning → List (Meaning × Option Score)
 told c site [] = []
 told c site (m ∷ ms) = told_by m (m.estimate c site) (told c site ms)
 
--- the schemes that put theirs off, each with how it is found
+-- a scheme before others with how its verdict is found, where it defers
 abbrev pub put_off_by : {A : Type 0} → A → CompressionEstimate → List (A × DeferredEstimate) → List (A × DeferredEstimate)
 put_off_by x (Verdict v) rest = rest
 put_off_by x (Deferred d) rest = (x, d) ∷ rest
 
--- the schemes whose estimate is put off, and how it is found
+-- the schemes that defer, each with how its verdict is found
 abbrev pub put_off : Column → Site → List Meaning → List (Meaning × DeferredEstimate)
 put_off c site [] = []
 put_off c site (m ∷ ms) = put_off_by m (m.estimate c site) (put_off c site ms)
 
 -- ---- the second pass
 
--- the scores that are found later
+-- the scores of the deferred verdicts
 abbrev pub found : Leaves → List ℕ → Column → Site → List (Meaning × DeferredEstimate) → List (Meaning × Option Score)
 found child words c site ps = map (λ p. (p.0, deferred_score child words p.0 c site p.1)) ps
 
--- the ratio that a later scheme has to pass; none where there is no best, or an always-use
+-- the ratio that a later scheme has to exceed; none where there is no best yet, or it is an always-use
 abbrev pub threshold_of : {A : Type 0} → Option (A × Score) → Option Fraction
 threshold_of (Some (x, Finite f)) = Some f
 threshold_of (Some (x, Always)) = None
 threshold_of None = None
 
--- where this is the best so far, what is told of a scheme does as well as its score
+-- beside this best so far, what is told of a scheme leaves the same best as its score would
 abbrev pub DoesFor : {A : Type 0} → Option (A × Score) → A → Option Score → Option Score → Type 0
 DoesFor best x score told = better best x told ≡ better best x score
 
 -- ---- schemes by what they mean
 
--- a scheme with anything, by what the scheme means
+-- a pair with a scheme, with the scheme's meaning in its place
 abbrev pub meant_pair : {S A : Type 0} → (S → Meaning) → S × A → Meaning × A
 meant_pair meaning p = (meaning p.0, p.1)
 
--- a choice of the code, with the meaning of the scheme in its place
+-- the best so far, with the scheme's meaning in its place
 abbrev pub meant : {S : Type 0} → (S → Meaning) → Option (S × Score) → Option (Meaning × Score)
 meant meaning best = option_map (meant_pair meaning) best

@@ -1,9 +1,9 @@
--- What holds of partitions and slices, whatever the words.
+-- What holds of partitions and slices, for any sample words.
 use Rattle.std.specs.Prelude.{◌≡◌, ◌<◌, ◌≤◌, ℕ, ◌+◌, ◌-◌, ◌*◌, ◌%◌, ◌/◌, false, List}
 use Rattle.vx_compressor.specs.Sampling.{partition, slice_count, is_short, slice_of}
 
--- so many partitions cover so many rows in order: the first begins at row 0, each begins where the one before ends, and the last ends
--- behind the last row
+-- n partitions cover the rows in order: the first begins at row 0, each begins where the one before ends, and the last ends behind
+-- the last row
 pub record Covers (rows n : ℕ) : Type 0 where
   pub from_first : (partition rows n 0).0 ≡ 0
   pub in_order : (i : ℕ) → (partition rows n (i + 1)).0 ≡ (partition rows n i).1
@@ -18,7 +18,7 @@ pub record LiesIn (inner outer : ℕ × ℕ) : Type 0 where
   pub not_before : outer.0 ≤ inner.0
   pub not_beyond : inner.1 ≤ outer.1
 
--- where a column is not short, each slice has 64 rows and lies in its own partition, whatever the words
+-- where a column is not short, each slice has 64 rows and lies in its own partition, for any sample words
 abbrev pub SlicesLieInPartitions : Type 0
 SlicesLieInPartitions = (rows : ℕ) (words : List ℕ) (i : ℕ) → is_short rows ≡ false
     → ((slice_of rows words i).1 ≡ (slice_of rows words i).0 + 64) × LiesIn (slice_of rows words i) (partition rows (slice_count rows) i)

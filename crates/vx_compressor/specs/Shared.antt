@@ -1,4 +1,4 @@
--- What the valid rows of a column share.
+-- Whether the valid rows of a column share one value.
 use Rattle.std.specs.Prelude.{◌≡◌, ◌<◌, true, false, List, length, Some, None}
 use Rattle.vx_base.specs.PlainValue.{PlainValue}
 use Rattle.vx_model.specs.Leaf.{first_valid, each_null_or}

@@ -1,4 +1,4 @@
-//! The rules of a list of schemes, collected once.
+//! The exclusion rules of a list of schemes, collected once when a compressor is made.
 
 ghost use Rattle.std.specs.Prelude.{◌≡◌, ◌++◌, map};
 ghost use Rattle.vx_base.specs.Answers.{OrMemory};
@@ -10,7 +10,8 @@ use std::alloc::Global;
 use vx_base::VortexResult;
 use vx_scheme::{ChildSelection, Scheme, SchemeId};
 
-/// A rule as it is looked up: `banned` may not stand anywhere below these children of `above`.
+/// An exclusion rule as it is looked up: `banned` may not stand anywhere below these children of `above`. Rules against
+/// others and against the scheme itself have this one form.
 #[derive(Clone, Copy, Debug)]
 pub(crate) struct Ban {
     banned: SchemeId,
@@ -19,7 +20,7 @@ pub(crate) struct Ban {
 }
 
 impl Ban {
-    /// Whether it keeps the scheme from a site with these schemes above, each with its child number.
+    /// Whether it bars the scheme from a site with these schemes above, each with its child number.
     pub(crate) fn forbids(&self, id: SchemeId, history: &[(SchemeId, usize)]) -> bool
         ensures { result ≡ is_banned (name_of id) (entries_of history.now) (ban_of self.now) }
     {
@@ -35,7 +36,7 @@ fn stands_below(above: SchemeId, children: ChildSelection, history: &[(SchemeId,
         .any(|entry| entry.0 == above && children.contains(entry.1))
 }
 
-/// The rules of the schemes, those of the first scheme first.
+/// The bans that the schemes declare, in the order of the list.
 pub(crate) fn bans_of<S: Scheme>(alloc: Global, schemes: &[S]) -> VortexResult<Vec<Ban>>
     ensures { OrMemory result (λ bans. map ban_of bans.items ≡ all_bans (map S.meaning schemes.now)) }
 {

@@ -1,4 +1,4 @@
-//! The cases of a leaf column's tree that its values alone decide.
+//! Columns whose values alone decide the tree: empty, all null, or constant. No scheme is asked about them.
 
 ghost use Rattle.std.specs.Prelude.{◌≡◌, ◌<◌, ◌^◌, true, length};
 ghost use Rattle.vx_base.specs.Answers.{Answers, OrMemory};
@@ -17,9 +17,9 @@ use vx_array::ArrayRef;
 use vx_base::VortexResult;
 use vx_scheme::CompressorContext;
 
-/// The tree that the values of a plain tree decide alone, whatever schemes there are. An empty column stays plain, and
-/// nulls alone become a constant. Outside samples one value becomes a constant, masked where rows are null, if that is
-/// smaller. None where schemes are to be asked.
+/// The tree that a plain tree's values alone decide, or None where schemes are to be asked. An empty column stays plain, and
+/// nulls alone become a constant. Outside samples equal valid rows become a constant, masked where rows are null, if that
+/// is smaller; a constant sample says nothing of the whole column.
 pub(crate) fn by_value(
     alloc: Global,
     plain: &ArrayRef,
@@ -45,7 +45,7 @@ pub(crate) fn by_value(
     }
 }
 
-// The tree where it is smaller than the plain one, else a copy of the plain one.
+// The tree where it is smaller than the plain tree, else a copy of the plain tree.
 fn smaller_or_copy(alloc: Global, tree: ArrayRef, plain: &ArrayRef) -> VortexResult<ArrayRef>
     requires flat { is_flat (tree_type plain.now) ≡ true }
     requires plain { IsPlain plain.now }
@@ -59,7 +59,7 @@ fn smaller_or_copy(alloc: Global, tree: ArrayRef, plain: &ArrayRef) -> VortexRes
     Ok(tree)
 }
 
-/// The tree where it is smaller than the plain one, else the plain one.
+/// The tree where it is smaller than the plain tree, else the plain tree: nothing that is compressed grows.
 pub(crate) fn smaller(tree: ArrayRef, plain: ArrayRef) -> ArrayRef
     requires flat { is_flat (tree_type plain) ≡ true }
     requires plain { IsPlain plain }

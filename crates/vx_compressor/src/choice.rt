@@ -1,4 +1,4 @@
-//! The choice of a scheme among those that have a score.
+//! The choice among schemes by their scores.
 
 ghost use Rattle.std.specs.Prelude.{◌≡◌, option_map};
 ghost use Rattle.vx_compressor.specs.Choice.{better, is_always, BestIsChoice};
@@ -6,21 +6,21 @@ ghost use Rattle.vx_compressor.specs.Judging.{threshold_of};
 
 use vx_base::Fraction;
 
-/// How good a scheme is for a column. Any fraction gives way to Always.
+/// How good a scheme is for a column. Always beats any ratio.
 #[derive(Clone, Copy, Debug)]
 pub enum Score {
     Always,
-    /// How many times smaller the tree is. What is not above one never counts.
+    /// The ratio size(plain) / size(tree). A ratio of at most 1 never wins.
     Finite(Fraction),
 }
 
-/// Does nothing; its contract holds the law. What is best once each scheme was held against the best so far is
-/// the choice.
+/// Does nothing; its contract holds the law: the best that `better` leaves after one pass is the choice, which is the first
+/// always-use, else the first of the greatest ratios above 1.
 pub fn best_is_choice<S: Copy>()
     ensures { BestIsChoice S }
 {}
 
-// The best so far, once one more scheme has its score.
+// The best so far after one more scheme's score. A tie stays with the earlier scheme.
 pub(crate) fn better<S: Copy>(
     best: Option<(S, Score)>,
     scheme: S,
@@ -40,7 +40,7 @@ pub(crate) fn better<S: Copy>(
     if better { Some((scheme, score)) } else { best }
 }
 
-// The scheme of the best.
+// The best scheme.
 pub(crate) fn scheme_of<S: Copy>(best: Option<(S, Score)>) -> Option<S>
     ensures { result ≡ option_map (λ p. p.0) best }
 {
@@ -48,7 +48,7 @@ pub(crate) fn scheme_of<S: Copy>(best: Option<(S, Score)>) -> Option<S>
     Some(scheme)
 }
 
-// The ratio that a later scheme has to pass, where the best so far has one.
+// The ratio that a later scheme has to exceed. None where nothing has a score yet, or nothing can beat the best.
 pub(crate) fn threshold<S: Copy>(best: Option<(S, Score)>) -> Option<Fraction>
     ensures { result ≡ threshold_of best }
 {

@@ -1,19 +1,22 @@
 //! The compressor over any lawful schemes.
 
-ghost use Rattle.std.specs.Prelude.{◌≡◌, ◌<◌, ◌≤◌, true, IfOk, length, map};
+ghost use Rattle.std.specs.Prelude.{◌≡◌, ◌<◌, ◌≤◌, ℕ, true, IfOk, List, length, map};
 ghost use Rattle.vx_base.specs.Answers.{Answers, Decided, Makes};
 ghost use Rattle.vx_base.specs.PlainType.{is_flat, is_leaf};
 ghost use Rattle.vx_model.specs.Cascade.{cascade};
 ghost use Rattle.vx_model.specs.Column.{column_of};
-ghost use Rattle.vx_model.specs.Plain.{IsPlain};
+ghost use Rattle.vx_model.specs.Extents.{extents_fit};
+ghost use Rattle.vx_model.specs.Plain.{plain, IsPlain};
 ghost use Rattle.vx_model.specs.Refusals.{compress_refusal};
 ghost use Rattle.vx_model.specs.Rows.{rows};
 ghost use Rattle.vx_model.specs.Site.{fresh, max_cascade};
+ghost use Rattle.vx_model.specs.Size.{size};
 ghost use Rattle.vx_model.specs.TreeType.{tree_type};
 ghost use Rattle.vx_scheme.specs.Contexts.{site_of};
 ghost use Rattle.vx_scheme.specs.Excluded.{excluded};
 ghost use Rattle.vx_scheme.specs.Names.{name_of};
 ghost use Rattle.vx_compressor.specs.Cascade.{setting, leaf_tree, compressed_child};
+ghost use Rattle.vx_compressor.specs.CascadeLaws.{AnswersAreFixed};
 ghost use Rattle.vx_compressor.specs.Distinct.{have_own_names, schemes_refusal};
 ghost use Rattle.vx_compressor.specs.Reach.{IsInReach, most_part_rows};
 
@@ -33,9 +36,9 @@ use vx_scheme::{CompressorContext, Scheme, SchemeId};
 /// Schemes in the order in which they are judged.
 pub type Schemes<S> = Items<S>;
 
-/// Makes a column's tree: at each site every scheme that may stand there is scored, and the tree of the best stands
-/// where it is smaller than the plain one. No two schemes have one name, and none has `vortex.compressor.root`. Contracts
-/// see the list of schemes.
+/// Compresses columns with a list of schemes: at each site every eligible scheme gets a score, and the tree of the best
+/// one stands where it is smaller than the plain tree. Names are distinct, and none is `vortex.compressor.root`.
+/// Contracts see the list of schemes.
 #[derive(Drop)]
 pub struct CascadingCompressor<S: Scheme> {
     schemes: Schemes<S>,
@@ -55,8 +58,9 @@ impl<S: Scheme> Model for CascadingCompressor<S> {
 }
 
 impl<S: Scheme> CascadingCompressor<S> {
-    /// A compressor over the schemes, whose rules of exclusion it collects. Refuses DuplicateScheme exactly where two
-    /// schemes have the same name or one has `vortex.compressor.root`, and NoMemory; the schemes come back.
+    /// A compressor over the schemes, judged in this order. Collects their exclusion rules once. Refuses DuplicateScheme
+    /// exactly where two schemes share a name or one is named `vortex.compressor.root`, and NoMemory; the schemes come
+    /// back.
     pub fn new(alloc: Global, schemes: Schemes<S>) -> Result<Self, Refused<Schemes<S>>>
         ensures { Makes (schemes_refusal (map S.meaning schemes)) schemes schemes result }
     {
@@ -75,7 +79,7 @@ impl<S: Scheme> CascadingCompressor<S> {
         }
     }
 
-    /// The schemes, in the order in which they are judged. Each has a name of its own, which the root hasn't.
+    /// The schemes, in the order in which they are judged. Their names are distinct, and none is the root's.
     pub fn schemes(&self) -> &Schemes<S>
         ensures schemes { result.now ≡ self.now }
         ensures names { have_own_names (map S.meaning self.now) ≡ true }
@@ -83,19 +87,23 @@ impl<S: Scheme> CascadingCompressor<S> {
         &self.schemes
     }
 
-    /// Whether the candidate may not stand at the site: a scheme of its name stands above, or a rule of the list
-    /// forbids it below one that does, or it is `vortex.int.dict` and the column is a list's offsets.
+    /// Whether the candidate is excluded at the site: a scheme of its name stands above, or an exclusion rule of the list
+    /// bars it below one that does, or it is `vortex.int.dict` and the column is a list's offsets.
     pub fn is_excluded(&self, candidate: &S, site: &CompressorContext) -> bool
         ensures { result ≡ excluded (map S.meaning self.now) (S.meaning candidate.now).name (site_of site.now).history }
     {
         is_excluded(self.bans.as_slice(), candidate.id(), site.cascade_history())
     }
 
-    /// The tree of the array's column: its type and rows decide, its own encodings don't, and the tree has both. Refuses
-    /// TooManyRows exactly where an extent of the array passes 2^31 rows, and NoMemory. The context stays as it was.
+    /// Compresses the array's column. The answer depends on its type and rows and on the context's sample words, and not on
+    /// its encodings. It is lossless (same type and rows), no larger than the plain tree, and accepted again: compressing
+    /// it answers it unchanged. Refuses TooManyRows exactly where an extent of the array passes 2^31 rows, and NoMemory.
+    /// The context stays as it was.
     pub fn compress(&self, array: &ArrayRef, ctx: &mut ExecutionCtx) -> VortexResult<ArrayRef>
         ensures answer { Decided (compress_refusal array.now) (λ tree. tree ≡ cascade (leaf_tree (setting S.meaning self.now ctx.old)) (column_of array.now)) result }
         ensures kept { IfOk result (λ tree. column_of tree ≡ column_of array.now) }
+        ensures fits { IfOk result (λ tree. extents_fit tree ≡ true) }
+        ensures smaller { IfOk result (λ tree. size tree ≤ size (plain (column_of array.now))) }
         ensures ctx { ctx.new ≡ ctx.old }
     {
         if !array.extents_fit() {
@@ -105,12 +113,14 @@ impl<S: Scheme> CascadingCompressor<S> {
         column_tree(self, array, ctx)
     }
 
-    /// The same tree of an array that is given up, also where that is refused. A plain one moves to its site and isn't
-    /// copied first. Refuses TooManyRows exactly where an extent of the array passes 2^31 rows, and NoMemory. The context
-    /// stays as it was.
+    /// `compress` of an array that is given up, also where it is refused. A plain array moves to its site, which saves its
+    /// copy. Refuses TooManyRows exactly where an extent of the array passes 2^31 rows, and NoMemory. The context stays as
+    /// it was.
     pub fn compress_owned(&self, array: ArrayRef, ctx: &mut ExecutionCtx) -> VortexResult<ArrayRef>
         ensures answer { Decided (compress_refusal array) (λ tree. tree ≡ cascade (leaf_tree (setting S.meaning self.now ctx.old)) (column_of array)) result }
         ensures kept { IfOk result (λ tree. column_of tree ≡ column_of array) }
+        ensures fits { IfOk result (λ tree. extents_fit tree ≡ true) }
+        ensures smaller { IfOk result (λ tree. size tree ≤ size (plain (column_of array))) }
         ensures ctx { ctx.new ≡ ctx.old }
     {
         if !array.is_plain() || !array.extents_fit() {
@@ -120,10 +130,17 @@ impl<S: Scheme> CascadingCompressor<S> {
         plain_tree(self, array, ctx)
     }
 
-    /// The tree of a child of a site, in place of its parent's scheme: a copy of the child where no scheme may follow the
-    /// parent, else the tree of its type and rows one level below. The child has a leaf type, and at most
-    /// 2^31 + 1 + 1,024 * (`MAX_CASCADE` + 1 - budget) rows, by the parent's budget. Refuses NoMemory alone. The context
-    /// stays as it was.
+    /// Does nothing; its contract holds the law on calls of `compress` and `compress_owned`, whatever the sample words: what
+    /// they answer they accept, and answer again.
+    pub fn laws_of_answers(&self)
+        ensures { (words : List ℕ) → AnswersAreFixed (setting S.meaning self.now words) }
+    {}
+
+    /// Compresses a child of a site, for a scheme that builds its tree itself: a copy of the child where the parent's budget
+    /// is 0, else the tree of its column at its own site, one level below. The answer has the child's type and rows, and
+    /// is within the row limit exactly where the child is. The child has a leaf type, and at most
+    /// 2^31 + 1 + 1,024 * (`MAX_CASCADE` + 1 - budget) rows, with the parent's budget: a part has at most 1,024 rows more
+    /// than its column. Refuses NoMemory alone. The context stays as it was.
     pub fn compress_child(
         &self,
         child: &ArrayRef,
@@ -135,8 +152,11 @@ impl<S: Scheme> CascadingCompressor<S> {
         requires leaf { is_leaf (tree_type child.now) ≡ true }
         requires few { length (rows child.now) ≤ most_part_rows (site_of parent_ctx.now).budget }
         ensures answer { Answers result (compressed_child (setting S.meaning self.now ctx.old) child.now (site_of parent_ctx.now) (name_of parent_id) child_index) }
+        ensures kept { IfOk result (λ tree. column_of tree ≡ column_of child.now) }
+        ensures fits { IfOk result (λ tree. extents_fit tree ≡ extents_fit child.now) }
         ensures ctx { ctx.new ≡ ctx.old }
     {
+        child.known();
         if parent_ctx.finished_cascading() {
             return child.copy(ctx.alloc());
         }
@@ -145,7 +165,7 @@ impl<S: Scheme> CascadingCompressor<S> {
     }
 }
 
-/// The tree of the array's column, which is a leaf column or one of timestamps.
+/// The tree of a leaf column or of timestamps.
 pub(crate) fn flat_tree<S: Scheme>(
     compressor: &CascadingCompressor<S>,
     array: &ArrayRef,
@@ -162,7 +182,7 @@ pub(crate) fn flat_tree<S: Scheme>(
     by_type(compressor, tree, &site, ctx)
 }
 
-/// The same of a plain tree, which moves to the fresh site.
+/// `flat_tree` of a plain tree, which moves to the fresh site.
 pub(crate) fn flat_plain_tree<S: Scheme>(
     compressor: &CascadingCompressor<S>,
     plain: ArrayRef,
@@ -180,7 +200,7 @@ pub(crate) fn flat_plain_tree<S: Scheme>(
     by_type(compressor, tree, &site, ctx)
 }
 
-// The tree of a column, by the one that its fresh site makes: the same, but where timestamps have a smaller one.
+// The tree of a column, from the one that its fresh site made. Timestamps have a second candidate: the tree of their storage.
 fn by_type<S: Scheme>(
     compressor: &CascadingCompressor<S>,
     made: ArrayRef,
@@ -201,8 +221,8 @@ fn by_type<S: Scheme>(
     }
 }
 
-// The tree of the array's column at a site, with a count of its own. A plain array is copied only where its values alone
-// don't decide.
+// The tree of the array's column at a site, with a step counter of its own. A plain array is copied only where its values
+// alone don't decide the tree.
 fn counted<L: Ledger, S: Scheme>(
     compressor: &CascadingCompressor<S>,
     blank: Blank,
@@ -230,7 +250,7 @@ fn counted<L: Ledger, S: Scheme>(
     plain_counted::<L, S>(compressor, blank, plain, site, ctx)
 }
 
-/// The tree of a plain tree's column at a site, with a count of its own.
+/// The tree of a plain tree's column at a site, with a step counter of its own.
 pub(crate) fn plain_counted<L: Ledger, S: Scheme>(
     compressor: &CascadingCompressor<S>,
     blank: Blank,

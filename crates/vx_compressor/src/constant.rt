@@ -1,4 +1,4 @@
-//! Columns of nulls alone, and columns whose valid rows are all equal.
+//! Constants: columns of nulls alone, and columns whose valid rows are all equal.
 
 ghost use Rattle.std.specs.Prelude.{◌≡◌, ◌<◌, ◌≢◌, None, Some, length, true};
 ghost use Rattle.vx_base.specs.Answers.{Answers};
@@ -21,15 +21,15 @@ use vx_base::{Mask, Scalar, VortexResult};
 /// What the valid rows of a column share.
 #[derive(Clone, Copy, Debug)]
 pub enum Shared {
-    /// There are none.
+    /// There is no valid row.
     Nothing,
-    /// Each has the value of this row, which is the first of them.
+    /// Every valid row has the value of this row, the first valid one.
     One(u64),
-    /// Two of them differ.
+    /// Two valid rows differ.
     Many,
 }
 
-/// What the valid rows of a plain tree share.
+/// Whether the valid rows of a plain tree share one value, and the first row that has it.
 pub(crate) fn shared_of(plain: &ArrayRef) -> Shared
     requires flat { is_flat (tree_type plain.now) ≡ true }
     requires plain { IsPlain plain.now }
@@ -45,7 +45,7 @@ pub(crate) fn shared_of(plain: &ArrayRef) -> Shared
     }
 }
 
-/// The constant null in every row.
+/// The constant null of a column that has rows, all of them null.
 pub(crate) fn null_tree(alloc: Global, plain: &ArrayRef) -> VortexResult<ArrayRef>
     requires rows { length (rows plain.now) ≢ 0 }
     requires nulls { first_valid (rows plain.now) ≡ None }
@@ -59,7 +59,7 @@ pub(crate) fn null_tree(alloc: Global, plain: &ArrayRef) -> VortexResult<ArrayRe
     }
 }
 
-/// The value of the first valid row in every row, masked where rows are null.
+/// The constant of the first valid row's value, under a mask where some row is null.
 pub(crate) fn value_tree(alloc: Global, plain: &ArrayRef, row: u64) -> VortexResult<ArrayRef>
     requires flat { is_flat (tree_type plain.now) ≡ true }
     requires plain { IsPlain plain.now }
@@ -73,7 +73,7 @@ pub(crate) fn value_tree(alloc: Global, plain: &ArrayRef, row: u64) -> VortexRes
     behind(alloc, every, plain.validity())
 }
 
-// The child, masked where some row isn't valid.
+// The child under a mask, or alone where every row is valid.
 fn behind(alloc: Global, child: ArrayRef, valid: &Option<Mask>) -> VortexResult<ArrayRef>
     requires { behind_refusal valid.now child ≡ None }
     ensures { Answers result (behind valid.now child) }

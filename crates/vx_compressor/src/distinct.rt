@@ -1,16 +1,14 @@
-//! Whether schemes have names of their own.
+//! Whether the schemes of a list have distinct names.
 
 ghost use Rattle.std.specs.Prelude.{◌≡◌, map};
 ghost use Rattle.std.specs.List.{list_any};
 ghost use Rattle.vx_scheme.specs.Names.{name_of, same_name};
 ghost use Rattle.vx_compressor.specs.Distinct.{are_distinct, have_own_names, names_of};
 
+use crate::root::ROOT;
 use vx_scheme::{Scheme, SchemeId};
 
-/// The name of what stands above every scheme.
-pub(crate) const ROOT: &str = "vortex.compressor.root";
-
-/// Whether no two schemes have the same name, and none has the root's.
+/// Whether the schemes have distinct names, and none has the root's.
 pub(crate) fn have_own_names<S: Scheme>(schemes: &[S]) -> bool
     ensures { result ≡ have_own_names (map S.meaning schemes.now) }
 {

@@ -1,4 +1,4 @@
-//! Which schemes may stand at a site, and what statistics they ask for.
+//! The eligible schemes of a site, and the statistics that they need.
 
 ghost use Rattle.std.specs.Prelude.{◌≡◌, true, All, map};
 ghost use Rattle.std.specs.List.{list_any};
@@ -14,7 +14,7 @@ use vx_base::{DType, VortexResult};
 use vx_scheme::{CompressorContext, GenerateStatsOptions, Scheme};
 
 impl<S: Scheme> CascadingCompressor<S> {
-    /// The schemes that take the type and that no rule forbids at the site, in the order of the list.
+    /// The schemes that match the type and aren't excluded at the site, in the order of the list.
     pub(crate) fn eligible(
         &self,
         alloc: Global,
@@ -40,7 +40,7 @@ impl<S: Scheme> CascadingCompressor<S> {
     }
 }
 
-/// All that the schemes ask for together, and nothing else.
+/// The union of the schemes' statistics options, so that a column's statistics are counted once for all of them.
 pub(crate) fn merged_options<S: Scheme>(schemes: &[S]) -> GenerateStatsOptions
     ensures all { All (λ s. includes result (S.meaning s).options ≡ true) schemes.now }
     ensures exact { result.count_distinct_values ≡ list_any (λ s. (S.meaning s).options.count_distinct_values) schemes.now }

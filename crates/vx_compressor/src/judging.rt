@@ -1,4 +1,4 @@
-//! What schemes tell of a column, one by one.
+//! Asking schemes for their estimates of a column, and the scores of what they answer.
 
 ghost use Rattle.std.specs.Prelude.{◌≡◌, ◌<◌, ◌^◌, ◌++◌, [], None, All, IfOk, map, false};
 ghost use Rattle.vx_base.specs.Answers.{Answers, OrMemory};
@@ -19,16 +19,16 @@ use vx_scheme::{
     Scheme,
 };
 
-/// What the schemes of a site have told so far.
+/// The estimates of a site's schemes so far.
 #[derive(Drop)]
 pub(crate) struct Told<S> {
-    /// The best of the verdicts.
+    /// The best of the immediate verdicts, with its scheme.
     pub(crate) best: Option<(S, Score)>,
-    /// The schemes that put theirs off, each with how it is found.
+    /// The schemes whose verdict is deferred, each with how it is found.
     pub(crate) deferred: Vec<(S, DeferredEstimate)>,
 }
 
-// What a scheme tells of the column that the bundle holds.
+// A scheme's estimate of the column that the bundle holds.
 fn ask<S: Scheme>(
     scheme: &S,
     column: &mut ArrayAndStats,
@@ -46,7 +46,7 @@ fn ask<S: Scheme>(
     scheme.expected_compression_ratio(column, site, ctx)
 }
 
-/// The verdict that a scheme put off, or Skip where it is a ratio that isn't above the threshold.
+/// A scheme's deferred verdict. Skip may stand for a ratio that isn't above the threshold, since it can't win.
 pub(crate) fn resolve<S: Scheme>(
     scheme: &S,
     column: &mut ArrayAndStats,
@@ -67,7 +67,7 @@ pub(crate) fn resolve<S: Scheme>(
 }
 
 impl<S: Scheme> Told<S> {
-    // Asks one more scheme.
+    // Asks one more scheme: keeps its verdict where that is the best so far, or defers it.
     fn hear(
         &mut self,
         scheme: &S,
@@ -94,7 +94,7 @@ impl<S: Scheme> Told<S> {
     }
 }
 
-/// What the schemes of a site tell at once. With an always-use no later scheme is asked.
+/// The best immediate verdict of the schemes, and the schemes that defer. After an always-use no later scheme is asked.
 pub(crate) fn first_pass<S: Scheme>(
     schemes: &[S],
     column: &mut ArrayAndStats,
@@ -133,7 +133,8 @@ pub(crate) fn verdict_score(verdict: EstimateVerdict) -> Option<Score>
     }
 }
 
-/// How many times smaller a tree is than the plain one. None where it takes no byte, or isn't smaller.
+/// The ratio size(plain) / size(tree). None where the tree isn't smaller, or takes no byte: such a tree of a sample says
+/// nothing of the whole column.
 pub(crate) fn size_score(plain: &ArrayRef, tree: ArrayRef) -> Option<Score>
     requires { size plain.now < 2 ^ 64 }
     ensures { result ≡ size_score (size plain.now) (size tree) }

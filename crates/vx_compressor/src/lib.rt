@@ -1,5 +1,4 @@
-//! The compressor over any lawful schemes: which rows a sample has, which scheme is chosen by its score, and the tree of a
-//! column.
+//! The compressor over any list of lawful schemes: samples, the choice of a scheme by its score, and the tree of a column.
 #![tactic(auto)]
 
 mod bans;
@@ -14,7 +13,7 @@ mod judging;
 mod laws;
 mod nested;
 mod offsets;
-mod plain_sample;
+mod root;
 mod sampling;
 mod site;
 mod timestamps;
@@ -22,8 +21,8 @@ mod trials;
 
 pub use choice::{Score, best_is_choice};
 pub use compressor::{CascadingCompressor, Schemes};
-pub use excluded::{OFFSETS, SIZES};
 pub use laws::laws_of_compression;
+pub use root::{OFFSETS, SIZES};
 pub use sampling::{
     SAMPLE_COUNT, SAMPLE_SIZE, laws_of_sampling, partition_indices,
     sample_count_approx_one_percent, stratified_slices,

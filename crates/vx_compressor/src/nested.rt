@@ -1,5 +1,4 @@
-//! The tree of a column of any type. The plain trees of structs and lists are taken apart, and the columns within become
-//! trees of their own.
+//! The tree of a column of any type. Structs and lists are taken apart, and the columns within become trees of their own.
 
 ghost use Rattle.std.specs.Prelude.{◌≡◌, All, map};
 ghost use Rattle.vx_base.specs.Answers.{Answers};
@@ -49,7 +48,7 @@ fn plain_copy(alloc: Global, array: &ArrayRef) -> VortexResult<ArrayRef>
     }
 }
 
-/// The tree of a plain tree's column. The parts of a plain tree of structs or lists move to where they become trees.
+/// The tree of a plain tree's column. The children of structs and lists move to where they become trees, without a copy.
 #[cycle(nested)]
 pub(crate) fn plain_tree<S: Scheme>(
     compressor: &CascadingCompressor<S>,
@@ -83,7 +82,7 @@ pub(crate) fn plain_tree<S: Scheme>(
     }
 }
 
-// The trees of the columns of plain trees.
+// The trees of the fields' columns, in order.
 #[cycle(nested)]
 fn field_trees<S: Scheme>(
     compressor: &CascadingCompressor<S>,
@@ -102,7 +101,7 @@ fn field_trees<S: Scheme>(
     Ok(trees)
 }
 
-// Structs over trees that may stand in one.
+// A struct over field trees that its constructor accepts.
 fn struct_over(
     alloc: Global,
     names: Names,
@@ -120,7 +119,7 @@ fn struct_over(
     }
 }
 
-// Lists over trees that may stand in one.
+// Lists over an element tree and an offset tree that their constructor accepts.
 fn list_over(
     alloc: Global,
     elements: ArrayRef,
@@ -137,7 +136,7 @@ fn list_over(
     }
 }
 
-// Lists of one size over a tree that may stand in one.
+// Fixed-size lists over an element tree that their constructor accepts.
 fn fixed_size_list_over(
     alloc: Global,
     elements: ArrayRef,

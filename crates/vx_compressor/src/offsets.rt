@@ -1,4 +1,4 @@
-//! The offsets of lists, which are a column of their own.
+//! The offsets of lists, which are a column of their own below the root.
 
 ghost use Rattle.std.specs.List.{list_all};
 ghost use Rattle.std.specs.Prelude.{◌≡◌, IsTrue, map, pos};
@@ -13,8 +13,7 @@ ghost use Rattle.vx_values.specs.IntsOf.{ptype_of, wholes_of};
 ghost use Rattle.vx_compressor.specs.Cascade.{setting, leaf_tree};
 
 use crate::compressor::{CascadingCompressor, plain_counted};
-use crate::distinct::ROOT;
-use crate::excluded::OFFSETS;
+use crate::root::{OFFSETS, ROOT};
 use std::alloc::Global;
 use std::marker::Brand;
 use std::sync::ledger::Blank;
@@ -24,7 +23,8 @@ use vx_blocks::narrow_type;
 use vx_scheme::{CompressorContext, Scheme, SchemeId};
 use vx_values::Ints;
 
-/// The tree of plain offsets up to an end, in the narrowest type that holds the end. They stand below the root.
+/// The tree of plain offsets whose last is `end`, in the narrowest unsigned type that holds `end`. Their site is one level
+/// below the root, so a budget of `MAX_CASCADE` - 1 is left to them.
 pub(crate) fn offsets_tree<S: Scheme>(
     compressor: &CascadingCompressor<S>,
     offsets: ArrayRef,
@@ -40,27 +40,27 @@ pub(crate) fn offsets_tree<S: Scheme>(
     plain_counted::<Brand, S>(compressor, Blank::new(1), narrow, &site, ctx)
 }
 
-// The plain tree of the offsets in that type.
+// The plain tree of the offsets in the narrowest unsigned type that holds `end`.
 fn narrow(alloc: Global, offsets: &ArrayRef, end: u64) -> VortexResult<ArrayRef>
     requires { ArePlainOffsets offsets.now end }
     ensures { Answers result (plain (narrowed end (rows offsets.now))) }
 {
-    let (words, _, _) = offsets.as_primitive();
-    let ints = in_type(alloc, words, narrow_type(0, i128::from(end)))?;
+    let (wide, _, _) = offsets.as_primitive();
+    let ints = in_type(alloc, wide, narrow_type(0, i128::from(end)))?;
     match ArrayRef::primitive(ints, None, Nullability::NonNullable) {
         Ok(tree) => Ok(tree),
         Err(_) => unreachable!(),
     }
 }
 
-// The same words in an unsigned type that holds each.
-fn in_type(alloc: Global, words: &Ints, ptype: PType) -> VortexResult<Ints>
-    requires words { ptype_of words.now ≡ U64 }
+// Unsigned 64-bit integers in an unsigned type that holds each of them.
+fn in_type(alloc: Global, wide: &Ints, ptype: PType) -> VortexResult<Ints>
+    requires wide { ptype_of wide.now ≡ U64 }
     requires unsigned { unsigned_of ptype ≡ ptype }
-    requires held { IsTrue (list_all (lies_in ptype) (wholes_of words.now)) }
-    ensures { OrMemory result (λ ints. (ptype_of ints ≡ ptype) × (wholes_of ints ≡ wholes_of words.now)) }
+    requires held { IsTrue (list_all (lies_in ptype) (wholes_of wide.now)) }
+    ensures { OrMemory result (λ ints. (ptype_of ints ≡ ptype) × (wholes_of ints ≡ wholes_of wide.now)) }
 {
-    let Ints::U64(items) = words else {
+    let Ints::U64(items) = wide else {
         unreachable!();
     };
     let items = items.as_slice();
@@ -73,7 +73,7 @@ fn in_type(alloc: Global, words: &Ints, ptype: PType) -> VortexResult<Ints>
     }
 }
 
-// The numbers in a type that holds each.
+// The integers in a type that holds each of them.
 fn converted<T: Integer>(alloc: Global, items: &[u64]) -> VortexResult<IntList<T>>
     requires { IsTrue (list_all (lies_in T.kind) (map pos items.now)) }
     ensures { OrMemory result (λ list. map T.whole list ≡ map pos items.now) }

@@ -1,5 +1,5 @@
-//! The tree of a leaf column at a site. A scheme's parts are sites of their own, so the methods call one another in a
-//! circle, which ends by the budget.
+//! The tree of a leaf column at a site. A scheme's parts have sites of their own, so the methods are mutually recursive; the
+//! recursion ends since each part's site has a budget one less.
 
 ghost use Rattle.std.specs.Prelude.{◌≡◌, ◌<◌, All, length, map, option_map, true};
 ghost use Rattle.vx_base.specs.Answers.{Answers, OrMemory};
@@ -50,7 +50,7 @@ impl<S: Scheme> CascadingCompressor<S> {
         }
     }
 
-    // The tree of the scheme that is chosen for a column with a value, where it is smaller than the plain one.
+    // The tree of the chosen scheme where it is smaller than the plain tree, else the plain tree. Some row has a value.
     #[cycle(site)]
     fn best_tree<L: Ledger>(
         &self,
@@ -80,7 +80,8 @@ impl<S: Scheme> CascadingCompressor<S> {
         Ok(smaller(tree, column.into_array()))
     }
 
-    // The scheme that is chosen at a site, among those that may stand there.
+    // The chosen one of the eligible schemes. Those with an immediate verdict are scored first, since an always-use among them
+    // saves every trial.
     #[cycle(site)]
     fn choose<L: Ledger>(
         &self,
@@ -111,7 +112,8 @@ impl<S: Scheme> CascadingCompressor<S> {
         Ok(scheme_of(best))
     }
 
-    // The best so far, once the schemes are judged that put their verdicts off, up to the first always-use.
+    // The best scheme and score once the deferred schemes are scored too, up to the first always-use. Every sampling at the
+    // site takes its slices by the same words, so the scores compare trees of the same rows.
     #[cycle(site)]
     fn judge<L: Ledger>(
         &self,
@@ -145,7 +147,7 @@ impl<S: Scheme> CascadingCompressor<S> {
         Ok(best)
     }
 
-    // The score that a scheme put off. None may stand in its place where it is no better than the best so far.
+    // The score of a deferred scheme. None may stand for a score that doesn't beat the best so far.
     #[cycle(site)]
     fn deferred_score<L: Ledger>(
         &self,

@@ -1,4 +1,4 @@
-//! Timestamps: the tree that their site makes, or that of their whole numbers.
+//! Timestamps: the tree that their site makes, or the tree of their storage.
 
 ghost use Rattle.std.specs.Prelude.{◌≡◌, ◌<◌, ◌^◌, nat_lt, None, true, if◌then◌else◌};
 ghost use Rattle.vx_base.specs.Answers.{Answers};
@@ -22,8 +22,9 @@ use vx_array::ArrayRef;
 use vx_base::{ArrayId, ExecutionCtx, TimestampType, VortexResult};
 use vx_scheme::{CompressorContext, Scheme};
 
-/// The tree that the fresh site made of timestamps, where it is a constant, masked or not, or a scheme's and smaller
-/// than the other: the tree of the whole numbers, as timestamps. Else that one. A plain tree gives up its whole numbers.
+/// The better one of two trees of timestamps: the one that their fresh site made, and a Timestamp node over the tree of
+/// their 64-bit storage. The first stands where it is a constant, masked or not, or a scheme's and smaller; else the second.
+/// A plain tree moves its storage out, which saves the decoding.
 pub(crate) fn site_or_storage<S: Scheme>(
     compressor: &CascadingCompressor<S>,
     made: ArrayRef,
@@ -57,7 +58,7 @@ fn is_one_value(tree: &ArrayRef) -> bool
     matches!(tree.encoding_id(), ArrayId::Constant | ArrayId::Masked)
 }
 
-// The tree of whole numbers at a site, as timestamps.
+// A Timestamp node over the tree of the storage at a site.
 fn storage_tree<S: Scheme>(
     compressor: &CascadingCompressor<S>,
     storage: ArrayRef,
@@ -80,7 +81,7 @@ fn storage_tree<S: Scheme>(
     }
 }
 
-// The tree where it is smaller than the other, else the other.
+// The first tree where it is smaller, else the other.
 fn smaller_of(tree: ArrayRef, other: ArrayRef) -> ArrayRef
     requires { size other < 2 ^ 100 }
     ensures { result ≡ (if nat_lt (size tree) (size other) then tree else other) }

@@ -1,4 +1,4 @@
-//! What a scheme makes of a column, on a sample or on the whole, and how its parts become trees.
+//! Trials of schemes: the tree that a scheme makes of a column or of its sample, and the trees of the parts.
 
 ghost use Rattle.std.specs.Prelude.{◌≡◌, ◌<◌, ◌++◌, [], ◌∷◌, All, length, map, true};
 ghost use Rattle.vx_base.specs.Answers.{Answers};
@@ -18,14 +18,14 @@ ghost use Rattle.vx_compressor.specs.Reach.{IsInReach, IsPartInReach};
 use crate::choice::Score;
 use crate::compressor::CascadingCompressor;
 use crate::judging::size_score;
-use crate::plain_sample::sample;
+use crate::sampling::sample;
 use std::sync::ledger::Ledger;
 use vx_array::{ArrayRef, Arrays};
 use vx_base::{ExecutionCtx, Steps, VortexError, VortexResult};
 use vx_scheme::{ArrayAndStats, CompressorContext, DeferredEstimate, Scheme, SchemeId, Split};
 
 impl<S: Scheme> CascadingCompressor<S> {
-    /// The score of a scheme's trial on a sample of a plain tree.
+    /// The score of a scheme by its trial on a sample of a plain tree.
     #[cycle(site)]
     pub(crate) fn sample_score<L: Ledger>(
         &self,
@@ -52,7 +52,7 @@ impl<S: Scheme> CascadingCompressor<S> {
         Ok(size_score(before, tree))
     }
 
-    /// What a scheme makes of the column that the bundle holds.
+    /// The tree that a scheme makes of the column that the bundle holds.
     #[cycle(site)]
     pub(crate) fn trial<L: Ledger>(
         &self,
@@ -82,7 +82,7 @@ impl<S: Scheme> CascadingCompressor<S> {
         }
     }
 
-    // The trees of the parts of a column at a site, the first of which is child 0 of the scheme.
+    // The trees of a column's parts, in order. Part n is child n of the scheme.
     #[cycle(site)]
     fn part_trees<L: Ledger>(
         &self,
@@ -109,7 +109,7 @@ impl<S: Scheme> CascadingCompressor<S> {
         Ok(trees)
     }
 
-    // The tree of a part, which is plain: the part itself where no scheme may follow, else the tree of a site of its own.
+    // The tree of a plain part: the part itself where the parent's budget is 0, else the tree of its own site below the parent.
     #[cycle(site)]
     fn part_tree<L: Ledger>(
         &self,
@@ -136,7 +136,7 @@ impl<S: Scheme> CascadingCompressor<S> {
     }
 }
 
-/// The trees with one more, last.
+/// The trees with one more behind them. Refuses NoMemory alone, which gives the trees up.
 pub(crate) fn with_tree(mut trees: Arrays, tree: ArrayRef) -> VortexResult<Arrays>
     ensures { Answers result (trees ++ tree ∷ []) }
 {

@@ -1,4 +1,4 @@
--- A row of any type, by the rows within.
+-- A row of any type, by the values within.
 use Rattle.std.proofs.Common.{◌≡◌, ℕ, suc, List, [], ◌∷◌, ◌++◌, length, Bool, true, false, cond, Option, Some, None, option_map, refl, sym, ap, ◌∙◌}
 use Rattle.std.specs.Prelude.{◌&&◌, ◌==◌, is_some}
 use Rattle.std.proofs.lemmas.Bool.{eq-eqb, ne_eqb}
@@ -14,7 +14,7 @@ use Rattle.vx_base.specs.declared.dtype.Nullability.TheVariants.{NonNullable}
 use Rattle.vx_base.specs.declared.ptype.PType.{PType}
 use Rattle.vx_base.specs.declared.ptype.PType.TheVariants.{I64}
 use Rattle.vx_base.specs.PlainScalar.{fits, fields_fit, items_fit}
-use Rattle.vx_base.specs.PlainType.{PlainType, null_type, boolean, primitive, utf8, binary, timestamp, structure, list, fixed_size_list, of_fields, is_nullable, nullability_of}
+use Rattle.vx_base.specs.PlainType.{PlainType, null_type, boolean, primitive, utf8, binary, timestamp, structure, list, fixed_size_list, of_fields, is_nullable}
 use Rattle.vx_base.specs.PlainValue.{PlainValue, PlainValues, null, truth, int, bytes}
 use Rattle.vx_base.specs.PlainValue as vals
 use Rattle.vx_base.specs.Timestamps.{PlainTimestamp}
@@ -29,7 +29,7 @@ is-null : (d : Data) → is_some (as_null d) ≡ true → d ≡ json.null
 is-null json.null e = refl
 is-null d e = absurd cc
 
--- null is a row of a nullable type alone
+-- null is a row of nullable types alone
 pub row_of-null : (t : PlainType) (b : Bool) → is_nullable t ≡ b → row_of t json.null ≡ cond b (Some null) None
 unfolding row_of
 row_of-null t b e = null-row t b e
@@ -37,7 +37,7 @@ row_of-null t b e = null-row t b e
 pub row_of-is_null : (t : PlainType) (d : Data) → is_some (as_null d) ≡ true → row_of t d ≡ row_of t json.null
 row_of-is_null t d e = ap (row_of t) (is-null d e)
 
--- ---- what isn't null, by a type whose values hold no others
+-- ---- flat rows that aren't null
 
 same_fitting : (k : PlainTimestamp) (n : Nullability) (v : PlainValue) → fits (timestamp k n) v ≡ fits (primitive I64 n) v
 same_fitting k n null = refl
@@ -87,9 +87,9 @@ module _ (d : Data) (some : is_some (as_null d) ≡ false) where
   pub row-timestamp : (k : PlainTimestamp) (n : Nullability) → row_of (timestamp k n) d ≡ row_of (primitive I64 NonNullable) d
   row-timestamp k n = row-stamp k n d ∙ row-primitive I64 n
 
--- ---- values that fit, of those within
+-- ---- values within that fit
 
--- what fits of what is read
+-- a value that is read and fits
 abbrev fitting_within : (PlainValues → Bool) → Option PlainValues → Option PlainValues
 fitting_within fit o = o >>= (λ vs. when (fit vs) >>= (λ u. Some vs))
 
@@ -174,9 +174,9 @@ row-list (json.string s) some t n = refl
 row-list (json.array ds) some t n = array-list t n ds
 row-list (json.object ms) some t n = refl
 
--- ---- lists of one size
+-- ---- fixed-size lists
 
--- as many values are read as stand in the list
+-- reading keeps the number of values
 length-next : (first : Option PlainValue) (rest : Option PlainValues) (vs : PlainValues) (len : ℕ) → ((ws : PlainValues) → rest ≡ Some ws → length (vals.list_of ws) ≡ len) → (first >>= (λ v. option_map (vals.more v) rest)) ≡ Some vs
     → length (vals.list_of vs) ≡ suc len
 length-next None rest vs len h e = absurd cc
@@ -218,7 +218,7 @@ row-fixed_list (json.object ms) some t size n = refl
 
 -- ---- a row for each field, one at a time
 
--- the rows so far, and then those that are left of the fields that are left
+-- the rows so far, and then those of the fields that are left
 abbrev pub fields_left : List (List ℕ × PlainType) → List PlainValue → List Value → Option (List PlainValue)
 fields_left fs done vs = option_map (λ xs. done ++ xs) (field_rows fs (items_view vs))
 
@@ -233,7 +233,7 @@ field_rows-other [] (v ∷ vs) h = refl
 field_rows-other (f ∷ fs) [] h = refl
 field_rows-other (f ∷ fs) (v ∷ vs) h = bind-none (row_of f.1 (view v)) _ (λ v. ap (option_map (λ ws. v ∷ ws)) (field_rows-other fs vs (λ e. h (ap suc e))))
 
--- ---- a list of one size, as the code has it
+-- ---- a fixed-size list, as the code reads it
 
 module _ (t : PlainType) (size : ℕ) (d : Data) (vs : List Value) (e : as_array d ≡ Some (items_view vs)) where
   by_size : fixed_list_row t size d ≡ (when (length vs == size) >>= (λ u. option_map list_value (all_by (row_of t) (items_view vs))))

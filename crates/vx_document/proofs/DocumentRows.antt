@@ -1,4 +1,4 @@
--- A document's rows as items and truth values, one row at a time.
+-- A document's rows as items and a validity, one row at a time.
 use Rattle.std.proofs.Common.{◌≡◌, ℕ, List, [], ◌∷◌, ◌++◌, length, map, Bool, true, false, cond, Option, Some, None, option_map, refl, sym, ap, ◌∙◌}
 use Rattle.std.specs.Prelude.{Vec, ◌&&◌, not, is_some, unwrap_or, Result, Ok, Err}
 use Rattle.std.specs.Str.{is_utf8}
@@ -21,12 +21,12 @@ use Rattle.vx_model.specs.Tree.{Validity}
 use Rattle.vx_document.specs.declared.document.unread.Unread.{Unread}
 use Rattle.vx_document.specs.declared.document.unread.Unread.TheVariants.{NoMemory, BadDocument}
 use Rattle.vx_document.specs.Reading.{◌>>=◌, when, all_by, Gives}
-use Rattle.vx_document.specs.RowsOf.{AreRows, bits_of, bytes_of_digits, cell_of, field_cells, item_cells, row_of, some_of, whole_of}
+use Rattle.vx_document.specs.RowsOf.{AreReadRows, bits_of, bytes_of_digits, cell_of, field_cells, item_cells, row_of, some_of, whole_of}
 use Rattle.vx_document.proofs.Documents.{with_left, with_left_first, with_left_more, with_left_none, with_left_last}
 
 -- ---- a row, by whether it is null
 
--- what fits of what is read
+-- a value that is read and fits
 abbrev pub fitting : PlainType → Option PlainValue → Option PlainValue
 fitting t o = o >>= (λ v. when (fits t v) >>= (λ u. Some v))
 
@@ -57,7 +57,7 @@ array-row (structure fs m) n ds = fitting-some vals.items (λ vs. refl) (structu
 array-row (list t m) n ds = fitting-some vals.items (λ vs. refl) (list t m) n (item_cells t ds)
 array-row (fixed_size_list t size m) n ds = fitting-some vals.items (λ vs. refl) (fixed_size_list t size m) n (item_cells t ds)
 
--- nulls alone have one nullability
+-- only the type of nulls has one nullability
 nullability-with : (t : PlainType) (n : Nullability) → nullability_of t ≡ NonNullable → nullability_of (with_nullability t n) ≡ n
 nullability-with null_type n e = absurd cc
 nullability-with (boolean m) n e = refl
@@ -73,7 +73,7 @@ pub null-row : (t : PlainType) (b : Bool) → allows_null (nullability_of t) ≡
 null-row t true e = rw e refl
 null-row t false e = rw e refl
 
--- null is a row of a nullable type
+-- null is a row of nullable types
 pub row-null : (t : PlainType) (n : Nullability) (d : Data) → is_some (as_null d) ≡ true → allows_null n ≡ true → row_of (with_nullability t n) d ≡ Some null
 unfolding row_of
 row-null t n json.null e f = null-row (with_nullability t n) true (is_nullable-with t n f)
@@ -115,9 +115,9 @@ bits_of-push : (n : Nullability) (values : List PlainValue) (x : PlainValue) →
 bits_of-push NonNullable values x = refl
 bits_of-push Nullable values x = ap Some (map-append (λ v. not (is_null v)) values (x ∷ []))
 
-AreRows-push : (default : PlainValue) (n : Nullability) (items : List PlainValue) (valid : Validity) (values : List PlainValue) (x : PlainValue) → AreRows default n items valid values
-    → AreRows default n (items ++ or_default default x ∷ []) (with_bit (not (is_null x)) valid) (values ++ x ∷ [])
-AreRows-push default n items valid values x h =
+AreReadRows-push : (default : PlainValue) (n : Nullability) (items : List PlainValue) (valid : Validity) (values : List PlainValue) (x : PlainValue) → AreReadRows default n items valid values
+    → AreReadRows default n (items ++ or_default default x ∷ []) (with_bit (not (is_null x)) valid) (values ++ x ∷ [])
+AreReadRows-push default n items valid values x h =
     (ap (λ vs. vs ++ or_default default x ∷ []) h.0 ∙ sym (map-append (or_default default) values (x ∷ [])), ap (with_bit (not (is_null x))) h.1 ∙ sym (bits_of-push n values x))
 
 -- the value of a row, null where there is no item
@@ -142,7 +142,7 @@ items-with_bit b (Some v) = refl
 module _ (f : Data → Option PlainValue) (default : PlainValue) (n : Nullability) where
   -- the rows so far are these items and truth values, and with those that are left they are all
   abbrev pub SoFar : List Value → List PlainValue → Validity → List Value → Type 0
-  SoFar all items valid vs = (values : List PlainValue) × (with_left f values vs ≡ all_by f (items_view all)) × AreRows default n items valid values
+  SoFar all items valid vs = (values : List PlainValue) × (with_left f values vs ≡ all_by f (items_view all)) × AreReadRows default n items valid values
 
   pub so_far_first : (vs : List Value) → SoFar vs [] (bits_of n []) vs
   so_far_first vs = ([], with_left_first f vs, (refl, refl))
@@ -150,7 +150,7 @@ module _ (f : Data → Option PlainValue) (default : PlainValue) (n : Nullabilit
   so_far_more : (all : List Value) (items : List PlainValue) (valid : Validity) (vs ws : List Value) (v : Value) (x : PlainValue) → vs ≡ v ∷ ws → f (view v) ≡ Some x → SoFar all items valid vs
       → SoFar all (items ++ or_default default x ∷ []) (with_bit (not (is_null x)) valid) ws
   so_far_more all items valid vs ws v x is fe h =
-      (h.0 ++ x ∷ [], sym (with_left_more f h.0 vs ws v x is fe) ∙ h.1, AreRows-push default n items valid h.0 x h.2)
+      (h.0 ++ x ∷ [], sym (with_left_more f h.0 vs ws v x is fe) ∙ h.1, AreReadRows-push default n items valid h.0 x h.2)
 
   -- the same as the code has it, over the lists that a row is pushed to
   pub so_far_row : {T : Type 0} (seen : T → PlainValue) → ((x : T) → is_null (seen x) ≡ false) → (all : List Value) (old new : List T) (item : T) (row : Option T) (bit : Bool) (before after : Option (Vec Bool Global)) (vs ws : List Value) (v : Value)
@@ -166,5 +166,5 @@ module _ (f : Data → Option PlainValue) (default : PlainValue) (n : Nullabilit
   pub so_far_none : (all : List Value) (items : List PlainValue) (valid : Validity) (vs ws : List Value) (v : Value) → vs ≡ v ∷ ws → f (view v) ≡ None → SoFar all items valid vs → all_by f (items_view all) ≡ None
   so_far_none all items valid vs ws v is fe h = sym h.1 ∙ with_left_none f h.0 vs ws v is fe
 
-  pub so_far_last : (all : List Value) (items : List PlainValue) (valid : Validity) (vs : List Value) → length vs ≡ 0 → SoFar all items valid vs → (values : List PlainValue) × (all_by f (items_view all) ≡ Some values) × AreRows default n items valid values
+  pub so_far_last : (all : List Value) (items : List PlainValue) (valid : Validity) (vs : List Value) → length vs ≡ 0 → SoFar all items valid vs → (values : List PlainValue) × (all_by f (items_view all) ≡ Some values) × AreReadRows default n items valid values
   so_far_last all items valid vs past h = (h.0, sym h.1 ∙ with_left_last f h.0 vs past, h.2)

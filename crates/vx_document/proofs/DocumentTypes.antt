@@ -1,9 +1,8 @@
 -- A document's type, one member or field at a time, and what reading it ends by.
-use Rattle.std.proofs.Common.{◌≡◌, ◌<◌, ◌≤◌, ◌+◌, ℕ, List, [], ◌∷◌, map, Bool, true, false, cond, Option, Some, None, option_map, String, Vec, Global, string_bytes, Ordering, Less, Equal, Greater, is_eq, nat_cmp, refl, sym, ap, ◌∙◌, arith}
+use Rattle.std.proofs.Common.{◌≡◌, ◌≤◌, ◌+◌, ℕ, List, [], ◌∷◌, Option, Some, None, option_map, String, Vec, Global, string_bytes, Ordering, Less, Equal, Greater, is_eq, nat_cmp, refl, ap, arith}
 use Rattle.std.specs.Prelude.{if◌then◌else◌}
 use Rattle.std.specs.Ordering.{match_ordering}
 use Rattle.std.specs.Cmp.Lexicographic.{slice_cmp}
-use Rattle.std.specs.Str.{bytes_eq}
 use Rattle.std.proofs.lemmas.Map.Text.{is_eq-slice_cmp}
 use Rattle.serde_json.specs.Data.{Data, null, boolean, number, string, array, object, Items, no_items, item, Members, no_members, member}
 use Rattle.serde_json.specs.Find.{get_member, as_str}
@@ -11,7 +10,6 @@ use Rattle.serde_json.specs.View.{view, items_view}
 use Rattle.serde_json.specs.declared.value.Value.{Value, Array}
 use Rattle.serde_json.specs.declared.value.Value as values
 use Rattle.serde_json.proofs.Views.{view-Array}
-use Rattle.vx_base.specs.PlainType.{PlainType}
 use Rattle.vx_document.proofs.Documents.{view-String}
 use Rattle.vx_document.specs.Reading.{◌>>=◌, all_by, pair_of}
 use Rattle.vx_document.specs.Types.{type_read, type_at, fields_at, fields_in, fields_read, field_read}

@@ -34,7 +34,7 @@ use Rattle.vx_model.proofs.ViewLemmas.{plain_of-bytes}
 use Rattle.vx_document.specs.declared.document.unread.Unread.{Unread}
 use Rattle.vx_document.specs.declared.document.unread.Unread.TheVariants.{NoMemory, BadDocument}
 use Rattle.vx_document.specs.Reading.{◌>>=◌, when, all_by, Gives}
-use Rattle.vx_document.specs.RowsOf.{AreRows, bits_of, cell_of, plain_rows, row_of, rows_of}
+use Rattle.vx_document.specs.RowsOf.{AreReadRows, bits_of, cell_of, plain_rows, row_of, rows_of}
 use Rattle.vx_document.proofs.DocumentCells.{row-stamp}
 
 -- ---- what is read fits its type
@@ -124,7 +124,7 @@ views_admitted t vs typed h =
 
 -- the values are read, and these are their items
 abbrev pub AreRead : PlainType → Items → PlainValue → List PlainValue → Validity → Type 0
-AreRead t ds default items valid = (vs : List PlainValue) × (all_by (row_of t) ds ≡ Some vs) × AreRows default (nullability_of t) items valid vs
+AreRead t ds default items valid = (vs : List PlainValue) × (all_by (row_of t) ds ≡ Some vs) × AreReadRows default (nullability_of t) items valid vs
 
 -- and a constructor makes their plain tree of these
 pub record IsMade (t : PlainType) (ds : Items) (refusal : Option VortexError) (made : Tree) : Type 0 where

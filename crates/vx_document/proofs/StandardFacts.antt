@@ -4,7 +4,7 @@ use Rattle.hex.proofs.OnLiterals.{hex_on_literals}
 use Rattle.rand_core.specs.Pcg32Seed.{pcg32_seed}
 use Rattle.rand_core.specs.Steps.{first_words, u32_at, word_bytes}
 use Rattle.rand_pcg.specs.Pcg.{pcg32, pcg32_of_seed}
-use Rattle.serde_json.specs.Data.{Data, unsigned, negative, null, boolean, number, string, array, object, Items, no_items, item, Members, no_members, member}
+use Rattle.serde_json.specs.Data.{Data, unsigned, negative, null, boolean, number, string, array, object, no_items, item, Members, no_members, member}
 use Rattle.vx_base.specs.declared.dtype.Nullability.TheVariants.{NonNullable, Nullable}
 use Rattle.vx_base.specs.declared.ptype.PType.TheVariants.{U8}
 use Rattle.vx_base.specs.declared.timestamp.TimeUnit.TheVariants.{Microseconds, Seconds}

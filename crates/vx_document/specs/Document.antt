@@ -1,4 +1,4 @@
--- What a document is: a column, and the words that place its samples, as JSON.
+-- What a document is: a column, and the sample words that place its samples, as JSON.
 use Rattle.std.specs.Prelude.{ℕ, List, [], ◌∷◌, Option, Some, codes}
 use Rattle.serde_json.specs.Data.{Data}
 use Rattle.serde_json.specs.Find.{get_member, as_object}
@@ -8,12 +8,12 @@ use Rattle.vx_document.specs.RowsOf.{rows_of}
 use Rattle.vx_document.specs.Types.{type_read}
 use Rattle.vx_document.specs.Words.{words_in}
 
--- a column, and the sample words
+-- a column with its sample words
 pub record PlainDocument : Type 0 where
   pub column : Column
   pub words : List ℕ
 
--- an object with a type, rows, and words or a seed
+-- an object with a type, rows, and sample words or a seed, and no other key
 unfoldable pub document_of : Data → Option PlainDocument
 document_of d = do
   members ← as_object d
@@ -25,6 +25,6 @@ document_of d = do
   words ← words_in (get_member (codes "words") members) (get_member (codes "seed") members)
   Some (record { column = column t rows; words = words })
 
--- the document that the bytes are, or none
+-- the document that the bytes are, or None
 unfoldable pub document : List ℕ → Option PlainDocument
 document bytes = value_of bytes >>= document_of

@@ -8,13 +8,13 @@ use Rattle.vx_model.specs.Tree.{Tree, Trees, bool, primitive, var_bin_view, var_
 use Rattle.vx_model.specs.Nodes.{encoding}
 use Rattle.vx_model.specs.TreeType.{tree_type}
 use Rattle.vx_model.specs.Rows.{rows}
-use Rattle.vx_model.specs.Size.{size}
+use Rattle.vx_model.specs.Size.{nbytes}
 
--- the numbers of packed integers: the bits of a row, and how many patches there are
+-- the numbers of packed integers: bits of a row, number of patches
 abbrev pub packed_numbers : ℕ → ℕ → List ℕ
 packed_numbers width patches = codes " width=" ++ decimal width ++ codes " patches=" ++ decimal patches
 
--- the numbers that only the root's encoding has
+-- the numbers that the root's encoding has beside those of every node
 abbrev pub own_numbers : Tree → List ℕ
 own_numbers (bool bs valid n) = []
 own_numbers (primitive p xs valid n) = []
@@ -38,20 +38,20 @@ own_numbers (rle values indices offsets len) = []
 own_numbers (sequence p n first step len) = codes " first=" ++ signed_decimal first ++ codes " step=" ++ signed_decimal step
 own_numbers (delta bases deltas len valid n) = []
 
--- the root's encoding, type, rows and bytes
+-- the root's encoding, type, rows and bytes; the bytes are those that 128 bits count, at most 2^128 - 1
 unfoldable pub heading : Tree → List ℕ
 heading tree =
-    concat (id_name (encoding tree) ∷ codes " " ∷ type_text (tree_type tree) ∷ codes " len=" ∷ decimal (length (rows tree)) ∷ codes " size=" ∷ decimal (size tree) ∷ [])
+    concat (id_name (encoding tree) ∷ codes " " ∷ type_text (tree_type tree) ∷ codes " len=" ∷ decimal (length (rows tree)) ∷ codes " size=" ∷ decimal (nbytes tree) ∷ [])
 
 -- the root's line
 unfoldable pub line : List ℕ → Tree → List ℕ
 line indent tree = concat (indent ∷ heading tree ∷ own_numbers tree ∷ codes "\n" ∷ [])
 
--- two spaces more
+-- an indent of two spaces more
 abbrev pub deeper : List ℕ → List ℕ
 deeper indent = concat (indent ∷ codes "  " ∷ [])
 
--- the root's line, and then the deeper listings of the trees inside
+-- in preorder: the root's line, then the listings of its children, indented by two spaces more
 abbrev mutual
   pub listing : List ℕ → Tree → List ℕ
   listing indent (bool bs valid n) = line indent (bool bs valid n)
@@ -79,7 +79,7 @@ abbrev mutual
   listing indent (sequence p n first step len) = line indent (sequence p n first step len)
   listing indent (delta bases deltas len valid n) = line indent (delta bases deltas len valid n) ++ listing (deeper indent) bases ++ listing (deeper indent) deltas
 
-  -- of several trees, one after the other
+  -- the listings of several trees, one after the other
   pub listings : List ℕ → Trees → List ℕ
   listings indent none = []
   listings indent (more t ts) = listing indent t ++ listings indent ts

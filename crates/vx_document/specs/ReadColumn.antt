@@ -1,4 +1,4 @@
--- The column that is read of a document, as its reader holds it.
+-- The column of a document, as its reader holds it.
 use Rattle.std.specs.Prelude.{List, map, refl}
 use Rattle.std.specs.Coded.{Coded, code_by, coded×}
 use Rattle.vx_base.specs.PlainType.{PlainType, stored_type}
@@ -10,12 +10,12 @@ use Rattle.vx_model.specs.Plain.{IsPlain}
 use Rattle.vx_document.specs.declared.document.column.ReadRows.{ReadRows}
 use Rattle.vx_document.specs.declared.document.column.ReadRows.TheVariants.{Plain, Values}
 
--- its plain data
+-- the column as plain data
 abbrev pub column_read : ReadRows → Column
 column_read (Plain tree) = column_of tree
 column_read (Values t vs) = column (type_of t) (map value_of vs.items)
 
--- a plain tree is its own column's, and values fit their type
+-- a tree that is held is plain, and values that are held fit their type
 abbrev pub IsHeld : ReadRows → Type 0
 IsHeld (Plain tree) = IsPlain tree
 IsHeld (Values t vs) = IsColumn (column_read (Values t vs))

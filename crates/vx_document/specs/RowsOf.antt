@@ -1,11 +1,11 @@
--- The rows of a document, each by the type.
-use Rattle.std.specs.Prelude.{◌≡◌, ◌==◌, ℤ, ℕ, List, [], ◌∷◌, map, Option, Some, None, is_some, option_map, if◌then◌else◌}
+-- The rows of a document, each read by the column's type.
+use Rattle.std.specs.Prelude.{◌≡◌, ◌==◌, ℤ, ℕ, List, [], ◌∷◌, map, Option, Some, None, option_map}
 use Rattle.std.specs.Result.{result_ok}
 use Rattle.hex.specs.Hex.{decode_of}
 use Rattle.serde_json.specs.Data.{Data, Items, no_items, item, number, string, array, object}
 use Rattle.serde_json.specs.Data as json
 use Rattle.serde_json.specs.Events.{items_len}
-use Rattle.serde_json.specs.Find.{as_null, as_bool, as_number, as_str, as_array, as_integer}
+use Rattle.serde_json.specs.Find.{as_bool, as_number, as_str, as_array, as_integer}
 use Rattle.vx_base.specs.declared.dtype.Nullability.{Nullability}
 use Rattle.vx_base.specs.declared.dtype.Nullability.TheVariants.{NonNullable, Nullable}
 use Rattle.vx_base.specs.Defaults.{or_default}
@@ -19,15 +19,15 @@ use Rattle.vx_model.specs.Plain.{valid_bits, plain_of}
 use Rattle.vx_model.specs.Rows.{list_value}
 use Rattle.vx_document.specs.Reading.{◌>>=◌, when, all_by}
 
--- a number that is read as a whole one: `-0`, `1.0` and what 64 bits don't hold are read as floats
+-- a whole number. The reader of JSON holds `-0`, `1.0` and what exceeds 64 bits as floats, which are none
 abbrev pub whole_of : Data → Option ℤ
 whole_of d = as_number d >>= as_integer
 
--- the bytes whose digits a text is, in either case
+-- the bytes that a text writes in hexadecimal, with digits of either case
 abbrev pub bytes_of_digits : List ℕ → Option (List ℕ)
 bytes_of_digits text = result_ok (decode_of text)
 
--- what stands for a value that isn't null, by a type whose values hold no others
+-- a value that isn't null, of a type without values within
 abbrev pub some_of : PlainType → Data → Option PlainValue
 some_of (boolean n) d = option_map truth (as_bool d)
 some_of (primitive p n) d = option_map int (whole_of d)
@@ -36,7 +36,7 @@ some_of (binary n) d = option_map bytes (as_str d >>= bytes_of_digits)
 some_of (timestamp k n) d = option_map int (whole_of d)
 some_of _ d = None
 
--- null, or such a value; of a struct a list of one value for each field, of lists a list
+-- a value or null: for a struct a list of one value for each field, for lists a list of values
 abbrev mutual
   pub cell_of : PlainType → Data → Option PlainValue
   cell_of t json.null = Some null
@@ -55,19 +55,19 @@ abbrev mutual
   field_cells (types.more name t fs) (item d ds) = cell_of t d >>= (λ v. option_map (vals.more v) (field_cells fs ds))
   field_cells _ _ = None
 
-  -- each value, by one type
+  -- values of one type
   pub item_cells : PlainType → Items → Option PlainValues
   item_cells t no_items = Some vals.none
   item_cells t (item d ds) = cell_of t d >>= (λ v. option_map (vals.more v) (item_cells t ds))
 
--- a value that fits the type
+-- a value that fits the type: within the type's range, null only where it is nullable, lists of a fixed size of that size
 unfoldable pub row_of : PlainType → Data → Option PlainValue
 row_of t d = do
   value ← cell_of t d
   _ ← when (fits t value)
   Some value
 
--- the rows of a list, where each is one of the type
+-- a list of rows of the type
 unfoldable pub rows_of : PlainType → Data → Option (List PlainValue)
 rows_of t d = as_array d >>= all_by (row_of t)
 
@@ -75,16 +75,16 @@ rows_of t d = as_array d >>= all_by (row_of t)
 abbrev pub plain_rows : PlainType → Items → Option Tree
 plain_rows t ds = option_map (plain_of t) (all_by (row_of t) ds)
 
--- ---- as the readers have them
+-- ---- as the readers hold them
 
--- a truth value for each value, true where it isn't null; none where the type has no null
+-- the validity of values: a truth value for each, true where it isn't null; None where the type has no null
 abbrev pub bits_of : Nullability → List PlainValue → Validity
 bits_of NonNullable values = None
 bits_of Nullable values = Some (valid_bits values)
 
--- items for the values, the default in place of null, and their truth values
-abbrev pub AreRows : PlainValue → Nullability → List PlainValue → Validity → List PlainValue → Type 0
-AreRows default n held valid values = (held ≡ map (or_default default) values) × (valid ≡ bits_of n values)
+-- a reader holds these items and this validity for the values: the default beneath each null
+abbrev pub AreReadRows : PlainValue → Nullability → List PlainValue → Validity → List PlainValue → Type 0
+AreReadRows default n held valid values = (held ≡ map (or_default default) values) × (valid ≡ bits_of n values)
 
 -- a row for each field, by its type
 abbrev pub field_rows : List (List ℕ × PlainType) → Items → Option (List PlainValue)
@@ -96,10 +96,10 @@ field_rows _ _ = None
 abbrev pub struct_row : List (List ℕ × PlainType) → Data → Option PlainValue
 struct_row fs d = as_array d >>= (λ ds. option_map list_value (field_rows fs ds))
 
--- a list, of a list of rows
+-- a list of rows
 abbrev pub list_row : PlainType → Data → Option PlainValue
 list_row t d = as_array d >>= (λ ds. option_map list_value (all_by (row_of t) ds))
 
--- the same where there are so many
+-- a list of `size` rows
 abbrev pub fixed_list_row : PlainType → ℕ → Data → Option PlainValue
 fixed_list_row t size d = as_array d >>= (λ ds. when (items_len ds == size) >>= (λ u. option_map list_value (all_by (row_of t) ds)))

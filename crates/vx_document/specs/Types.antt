@@ -1,4 +1,4 @@
--- The type that a document names: a text, or an object for structs, lists, lists of fixed size and timestamps.
+-- The type of a document: a text, or an object for structs, lists, fixed-size lists and timestamps.
 use Rattle.std.specs.Prelude.{ℕ, ◌^◌, nat_lt, List, [], ◌∷◌, ◌++◌, find, Bool, true, false, if◌then◌else◌, Option, Some, None, is_some, option_map, codes}
 use Rattle.std.specs.Str.{bytes_eq}
 use Rattle.serde_json.specs.Data.{Data, string, array, object, Items, no_items, item, Members, no_members, member}
@@ -19,34 +19,34 @@ named_types n =
     boolean n ∷ primitive U8 n ∷ primitive U16 n ∷ primitive U32 n ∷ primitive U64 n ∷ primitive I8 n ∷ primitive I16 n ∷ primitive I32 n ∷ primitive I64 n
     ∷ utf8 n ∷ binary n ∷ timestamp (kind Seconds None) n ∷ timestamp (kind Milliseconds None) n ∷ timestamp (kind Microseconds None) n ∷ timestamp (kind Nanoseconds None) n ∷ []
 
--- the one whose text it is
+-- the type whose text it is
 unfoldable pub type_named : List ℕ → Option PlainType
 type_named text = find (λ t. bytes_eq text (type_text t)) (null_type ∷ named_types NonNullable ++ named_types Nullable)
 
--- the unit whose text it is; days are none
+-- the unit whose text it is; days have no timestamps
 unfoldable pub unit_named : List ℕ → Option TimeUnit
 unit_named text = find (λ u. bytes_eq text (unit_text u)) (Seconds ∷ Milliseconds ∷ Microseconds ∷ Nanoseconds ∷ [])
 
--- a unit's name
+-- a unit, by its name
 abbrev pub unit_in : Option Data → Option TimeUnit
 unit_in o = o >>= as_str >>= unit_named
 
--- a zone's name, which may be absent
+-- a zone, by its name; absent, there is none
 abbrev pub zone_in : Option Data → Option (Option (List ℕ))
 zone_in None = Some None
 zone_in (Some d) = option_map Some (as_str d)
 
--- nullable where it is true
+-- the nullability that `true` and `false` stand for
 abbrev pub nullability_of_bool : Bool → Nullability
 nullability_of_bool false = NonNullable
 nullability_of_bool true = Nullable
 
--- absent, it is false
+-- a nullability; absent, it is NonNullable
 abbrev pub nullability_in : Option Data → Option Nullability
 nullability_in None = Some NonNullable
 nullability_in (Some d) = option_map nullability_of_bool (as_bool d)
 
--- a unit, and perhaps a zone and whether nulls are allowed
+-- timestamps of a unit, with or without a zone and a nullability; no other key stands in the object
 unfoldable pub timestamp_of : Members → Option PlainType
 timestamp_of members = do
   _ ← when (has_only (codes "timestamp" ∷ codes "zone" ∷ codes "nullable" ∷ []) members)
@@ -72,7 +72,7 @@ structs_of members fields = do
   n ← nullability_in (get_member (codes "nullable") members)
   Some (structure (of_fields fs) n)
 
--- lists of this type
+-- lists of this type; no other key stands in the object
 abbrev pub lists_of : Members → Option PlainType → Option PlainType
 lists_of members items = do
   _ ← when (has_only (codes "list" ∷ codes "nullable" ∷ []) members)
@@ -80,7 +80,7 @@ lists_of members items = do
   n ← nullability_in (get_member (codes "nullable") members)
   Some (list t n)
 
--- lists of this type and one size
+-- lists of this type and of a fixed size; no other key stands in the object
 abbrev pub fixed_lists_of : Members → Option PlainType → Option PlainType
 fixed_lists_of members items = do
   _ ← when (has_only (codes "fixed" ∷ codes "size" ∷ codes "nullable" ∷ []) members)
@@ -93,8 +93,8 @@ fixed_lists_of members items = do
 abbrev pub has : List ℕ → Members → Bool
 has key members = is_some (get_member key members)
 
--- A text, or an object: of a struct's fields, each a list of a name and a type; of a list's items, with or without a
--- size; or of a timestamp.
+-- A text is a type's name. An object is a struct's, a list's or a fixed-size list's by the first of these keys that it has,
+-- else a timestamp's.
 abbrev mutual
   pub type_read : Data → Option PlainType
   type_read (string text) = type_named text
@@ -104,12 +104,12 @@ abbrev mutual
       else (if has (codes "fixed") members then fixed_lists_of members (type_at (codes "fixed") members) else timestamp_of members))
   type_read _ = None
 
-  -- the type that the key's value is
+  -- the type at a key
   pub type_at : List ℕ → Members → Option PlainType
   type_at key no_members = None
   type_at key (member k d ms) = if bytes_eq key k then type_read d else type_at key ms
 
-  -- the fields that the key's value is
+  -- the fields at a key
   pub fields_at : List ℕ → Members → Option (List (List ℕ × PlainType))
   fields_at key no_members = None
   fields_at key (member k d ms) = if bytes_eq key k then fields_in d else fields_at key ms
@@ -119,12 +119,12 @@ abbrev mutual
   fields_in (array ds) = fields_read ds
   fields_in _ = None
 
-  -- a field each
+  -- the fields, each of one item
   pub fields_read : Items → Option (List (List ℕ × PlainType))
   fields_read no_items = Some []
   fields_read (item d ds) = field_read d >>= (λ f. option_map (λ fs. f ∷ fs) (fields_read ds))
 
-  -- a list of a name and a type
+  -- a field: a list of a name and a type
   pub field_read : Data → Option (List ℕ × PlainType)
   field_read (array (item (string name) (item d no_items))) = option_map (λ t. (name, t)) (type_read d)
   field_read _ = None

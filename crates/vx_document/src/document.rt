@@ -1,4 +1,4 @@
-//! A document from its bytes.
+//! Reads a document from its bytes.
 
 ghost use Rattle.std.specs.Prelude.{◌<◌, length, IfOk};
 ghost use Rattle.serde_json.specs.View.{view};
@@ -28,16 +28,16 @@ use std::alloc::Global;
 pub use unread::Unread;
 use vx_base::Words;
 
-/// A column, and the words that place its samples.
+/// A column with its sample words, by which the compressor places samples.
 #[derive(Drop)]
 pub struct Document {
     /// The column.
     pub column: DocumentColumn,
-    /// Its sample words, in order.
+    /// The sample words, in the order of their use; at least one.
     pub words: Words,
 }
 
-// The value that the bytes are.
+// The value of JSON that the bytes are.
 #[tactic(auto, unfolding(crate::specs::Reading::value_of))]
 fn read_value(alloc: Global, bytes: &[u8]) -> Result<Value, Unread>
     ensures { Gives view result (value_of bytes.now) }
@@ -54,14 +54,14 @@ fn read_value(alloc: Global, bytes: &[u8]) -> Result<Value, Unread>
     }
 }
 
-// The same of bytes that nothing needs any more.
+// The value of JSON that the bytes are. The bytes are dropped here, before anything is made of the value.
 fn value_of(alloc: Global, bytes: Vec<u8>) -> Result<Value, Unread>
     ensures { Gives view result (value_of bytes.items) }
 {
     read_value(alloc, bytes.as_slice())
 }
 
-// The document that a value is. The list of its rows is let go as they are read.
+// The document that a value is. Its values are dropped row by row as they are read, so that rows aren't held twice.
 #[tactic(auto, unfolding(crate::specs::Document::document_of))]
 fn document_of(alloc: Global, value: Value) -> Result<Document, Unread>
     ensures document { Gives (λ d. record { column = d.column; words = d.words }) result (document_of (view value)) }
@@ -87,8 +87,9 @@ fn document_of(alloc: Global, value: Value) -> Result<Document, Unread>
     Ok(Document { column, words })
 }
 
-/// The document that the bytes are, which are dropped before its rows are made. Refuses BadDocument where they are none,
-/// and NoMemory where memory runs out.
+/// The document that the bytes are. Refuses BadDocument exactly where they are not one, and NoMemory where memory runs
+/// out. The bytes are not handed back: they are dropped before the rows are made, since a column and its text together
+/// take twice the memory.
 #[tactic(auto, unfolding(crate::specs::Document::document))]
 pub fn read_document(alloc: Global, bytes: Vec<u8>) -> Result<Document, Unread>
     ensures document { Gives (λ d. record { column = d.column; words = d.words }) result (document bytes.items) }

@@ -1,4 +1,4 @@
-//! Documents and listings: a column and its sample words from the bytes of JSON, and the text of a tree.
+//! Documents and listings: reads a column and its sample words from JSON, and writes a tree as text.
 #![tactic(auto)]
 
 mod document;

@@ -1,7 +1,7 @@
 //! The text of a tree: a line for each node, and the line of sizes.
 
-ghost use Rattle.std.specs.Prelude.{◌≡◌, ◌<◌, ◌^◌, ◌+◌, ◌++◌, IfOk, OnOk, string_bytes, []};
-ghost use Rattle.vx_model.specs.Size.{size, sizes};
+ghost use Rattle.std.specs.Prelude.{◌≡◌, ◌++◌, IfOk, OnOk, string_bytes, []};
+ghost use Rattle.vx_model.specs.Size.{nbytes};
 ghost use Rattle.vx_model.specs.Tree.{of_list};
 ghost use Rattle.vx_document.specs.Listing.{deeper, listing, listings, sizes_line};
 
@@ -11,14 +11,14 @@ use line::push_line;
 use std::alloc::{AllocError, Global};
 use vx_array::{ArrayRef, Arrays, Node, Patches};
 
-// Two spaces more.
+// The indent of a node's children: two spaces more.
 fn deeper(alloc: Global, indent: &str) -> Result<String, AllocError>
     ensures { IfOk result (λ s. string_bytes s ≡ deeper indent.now) }
 {
     format!(in alloc; "{indent}  ")
 }
 
-// Adds the listing of a tree, in preorder.
+// Appends the listing of a tree, in preorder.
 #[cycle(push)]
 fn push_tree(
     alloc: Global,
@@ -26,7 +26,6 @@ fn push_tree(
     indent: &str,
     tree: &ArrayRef,
 ) -> Result<(), AllocError>
-    requires { size tree.now < 2 ^ 128 }
     ensures { OnOk result (string_bytes text.new
         ≡ string_bytes text.old ++ listing indent.now tree.now) }
 {
@@ -69,7 +68,7 @@ fn push_tree(
     }
 }
 
-// Adds the deeper listings of the indices and the values of patches.
+// Appends the listings of the indices and of the values of patches, which are children.
 #[cycle(push)]
 fn push_patches(
     alloc: Global,
@@ -77,7 +76,6 @@ fn push_patches(
     indent: &str,
     patches: &Patches,
 ) -> Result<(), AllocError>
-    requires { size patches.now.indices + size patches.now.values < 2 ^ 128 }
     ensures { OnOk result (string_bytes text.new
         ≡ string_bytes text.old ++ listing (deeper indent.now) patches.now.indices ++ listing (deeper indent.now) patches.now.values) }
 {
@@ -86,16 +84,15 @@ fn push_patches(
     push_tree(alloc, text, next.as_str(), patches.values())
 }
 
-// Adds the listings of several trees, one after the other.
+// Appends the listings of several trees, one after the other.
 #[cycle(push)]
-#[tactic(auto, using(crate::proofs::Listings::several, vx_model::proofs::TreesLemmas::falls))]
+#[tactic(auto, using(vx_model::proofs::TreesLemmas::falls))]
 fn push_trees(
     alloc: Global,
     text: &mut String,
     indent: &str,
     trees: &Arrays,
 ) -> Result<(), AllocError>
-    requires { sizes (of_list trees.now) < 2 ^ 128 }
     ensures { OnOk result (string_bytes text.new
         ≡ string_bytes text.old ++ listings indent.now (of_list trees.now)) }
 {
@@ -105,9 +102,9 @@ fn push_trees(
     Ok(())
 }
 
-/// The listing of a tree, whose bytes are below 2^128.
+/// The listing of a tree: a line for each node, in preorder, with its encoding, type, rows, bytes and own numbers.
+/// Bytes above 2^128 - 1 are listed as 2^128 - 1. An Err is want of memory.
 pub fn listing_text(alloc: Global, tree: &ArrayRef) -> Result<String, AllocError>
-    requires { size tree.now < 2 ^ 128 }
     ensures { IfOk result (λ text. string_bytes text ≡ listing [] tree.now) }
 {
     let mut text = String::new(alloc);
@@ -115,7 +112,7 @@ pub fn listing_text(alloc: Global, tree: &ArrayRef) -> Result<String, AllocError
     Ok(text)
 }
 
-// Adds the line of sizes, in bytes.
+// Appends the line of sizes, in bytes.
 #[tactic(auto, unfolding(crate::specs::Listing::sizes_line))]
 fn push_sizes(text: &mut String, plain: u128, tree: u128) -> Result<(), AllocError>
     ensures { OnOk result (string_bytes text.new ≡ string_bytes text.old ++ sizes_line plain tree) }
@@ -124,11 +121,11 @@ fn push_sizes(text: &mut String, plain: u128, tree: u128) -> Result<(), AllocErr
     Ok(())
 }
 
-/// The listing of a tree, whose bytes are below 2^128, and behind it the line of the plain tree's bytes and its own.
+/// The listing of a tree and behind it the line of sizes: `plain`, the bytes of the plain tree, and the tree's own. An
+/// Err is want of memory.
 pub fn report_text(alloc: Global, plain: u128, tree: &ArrayRef) -> Result<String, AllocError>
-    requires { size tree.now < 2 ^ 128 }
     ensures { IfOk result (λ text. string_bytes text
-        ≡ listing [] tree.now ++ sizes_line plain (size tree.now)) }
+        ≡ listing [] tree.now ++ sizes_line plain (nbytes tree.now)) }
 {
     let mut text = String::new(alloc);
     push_tree(alloc, &mut text, "", tree)?;

@@ -1,4 +1,4 @@
-//! Tests of documents and listings: a small document of each type, the words of a seed, and lines with a scalar's text.
+//! Tests of documents and listings: a small document of each type, the sample words of a seed, lines with a scalar.
 #![tactic(auto)]
 
 #[cfg(test)]

@@ -1,14 +1,14 @@
-//! Lines that have a scalar's text or a child, written by the rules.
+//! Lines with the text of a scalar. The expected lines are worked out by hand.
 
 use crate::reading::lists;
-use std::alloc::Global;
+use std::alloc::{AllocError, Global};
 use std::test::Fail;
 use vx_array::ArrayRef;
 use vx_base::Nullability::NonNullable;
 use vx_base::{Bytes, Scalar, Text};
 
-// Whether the listing of a scalar in so many rows is this text.
-fn lists_constant(alloc: Global, scalar: Scalar, len: u64, text: &str) -> Result<bool, Fail> {
+// Whether this text is the listing of the scalar in `len` rows.
+fn lists_constant(alloc: Global, scalar: Scalar, len: u64, text: &str) -> Result<bool, AllocError> {
     let tree = ArrayRef::constant(scalar, len);
     lists(alloc, &tree, text)
 }

@@ -1,4 +1,4 @@
-//! Documents of nested types: their plain trees, and what makes them none. Written by the rules.
+//! Documents of nested types, and texts that are none. The expected listings are worked out by hand.
 
 use crate::reading::{document, reads};
 use std::alloc::Global;
@@ -53,7 +53,7 @@ fn structs_within_structs_of_one_name(rt: HostRuntime) -> Result<(), Fail> {
     Ok(())
 }
 
-// Whether no count of the document that the text is passes the limit.
+// Whether each column of the document is within the row limit.
 fn counts_fit(alloc: Global, text: &str) -> Result<bool, Fail> {
     let read = document(alloc, text)?;
     Ok(read.column.counts_fit())
@@ -77,7 +77,7 @@ fn counts_pass_the_limit_before_a_tree_is_made(rt: HostRuntime) -> Result<(), Fa
     Ok(())
 }
 
-// Whether a document of these rows of this type is none.
+// Whether this type with these rows is refused as a document.
 fn is_refused(alloc: Global, dtype: &str, rows: &str) -> Result<bool, Fail> {
     let text = format!(in alloc; "{{\"type\":{dtype},\"rows\":{rows},\"words\":[0]}}")?;
     let bytes = Vec::from_slice(alloc, text.as_str().as_bytes())?;

@@ -1,12 +1,12 @@
-//! A small document of each flat type, read whole with ample memory.
+//! A small document of each flat type.
 
-use std::alloc::Global;
+use std::alloc::{AllocError, Global};
 use std::test::Fail;
 use vx_array::ArrayRef;
 use vx_base::Cell;
 use vx_document::{Document, listing_text, read_document};
 
-// The document that the text is.
+// Reads the document that the text is.
 pub(crate) fn document(alloc: Global, text: &str) -> Result<Document, Fail> {
     Ok(read_document(alloc, Vec::from_slice(alloc, text.as_bytes())?)?)
 }
@@ -18,14 +18,11 @@ pub(crate) fn plain(alloc: Global, text: &str) -> Result<ArrayRef, Fail> {
 }
 
 // Whether the listing of the tree is this text.
-pub(crate) fn lists(alloc: Global, tree: &ArrayRef, text: &str) -> Result<bool, Fail> {
-    if tree.nbytes() == u128::MAX {
-        return Err(Fail::from("too many bytes"));
-    }
+pub(crate) fn lists(alloc: Global, tree: &ArrayRef, text: &str) -> Result<bool, AllocError> {
     Ok(listing_text(alloc, tree)?.as_str() == text)
 }
 
-// The value in a row, none where there is no such row.
+// The value in a row; None out of bounds.
 fn cell(array: &ArrayRef, row: u64) -> Option<Cell<'_>> {
     if row >= array.len() || !array.dtype().is_flat() {
         return None;
@@ -54,7 +51,7 @@ fn begins(array: &ArrayRef, cells: &[Cell<'_>]) -> bool {
     true
 }
 
-// Whether the plain tree of the column of the document that the text is has this listing, and its first rows these values.
+// Whether the text is a document whose plain tree has this listing, and these values in its first rows.
 pub(crate) fn reads(
     alloc: Global,
     text: &str,

@@ -13,7 +13,7 @@ use Rattle.vx_scheme.specs.Scores.{ratio_of}
 use Rattle.vx_stats.specs.Stats.{Extremes}
 use Rattle.vx_scheme.specs.declared.estimate.EstimateVerdict.TheVariants.{Skip, Ratio}
 use Rattle.vx_scheme.proofs.RatioLemmas.{Ratio-parts}
-use Rattle.vx_schemes.proofs.WidthLemmas.{digits-some}
+use Rattle.vx_schemes_common.proofs.DigitLemmas.{digits-some}
 use Rattle.vx_examples.specs.QuickPacking.{quick_verdict}
 
 none_greater : (low : ℤ) (n : ℕ) → low ≤ℤ negsuc n → int_lt low (pos 0) ≡ false → ⊥

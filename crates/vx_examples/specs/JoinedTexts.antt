@@ -8,7 +8,7 @@ use Rattle.vx_base.specs.PlainType.{PlainType, is_text, is_bytes}
 use Rattle.vx_base.specs.PlainType as types
 use Rattle.vx_base.specs.PlainValue.{bytes_or_empty}
 use Rattle.vx_model.specs.Column.{Column}
-use Rattle.vx_model.specs.Nested.{joined}
+use Rattle.vx_model.specs.Nested.{concatenated}
 use Rattle.vx_model.specs.Offsets.{offsets_column, byte_rows_of}
 use Rattle.vx_model.specs.Plain.{validity}
 use Rattle.vx_model.specs.Tree.{Tree, var_bin}
@@ -20,17 +20,17 @@ use Rattle.vx_scheme.specs.Meaning.{Meaning}
 use Rattle.vx_scheme.specs.declared.estimate.CompressionEstimate.TheVariants.{Deferred}
 use Rattle.vx_scheme.specs.declared.estimate.DeferredEstimate.TheVariants.{Sample}
 use Rattle.vx_scheme.specs.declared.estimate.EstimateVerdict.TheVariants.{Skip}
-use Rattle.vx_schemes.specs.OnePart.{PartStands, part_where, over_part}
-use Rattle.vx_schemes.specs.OnePartLaws.{one_part-lawful}
+use Rattle.vx_schemes_common.specs.OnePart.{PartStands, part_where, over_part}
+use Rattle.vx_schemes_common.specs.OnePartLaws.{one_part-lawful}
 use Rattle.vx_btrblocks.specs.Shipped.{shipped_schemes}
 
--- where each text begins if they stand one after the other, and where the last one ends
+-- the offsets of the concatenated texts: where each begins, and where the last ends
 abbrev pub text_offsets : Column → Column
 text_offsets c = offsets_column (byte_rows_of c)
 
--- the texts one after the other, over the offsets' tree
+-- the concatenated texts over the tree of their offsets
 abbrev pub texts_over : Column → Tree → Tree
-texts_over c offsets = var_bin offsets (joined (byte_rows_of c)) (validity c.values) c.dtype
+texts_over c offsets = var_bin offsets (concatenated (byte_rows_of c)) (validity c.values) c.dtype
 
 -- tried on a sample; the one part is the offsets
 abbrev pub joined_texts : Meaning

@@ -15,12 +15,12 @@ use Rattle.vx_scheme.specs.declared.estimate.CompressionEstimate.TheVariants.{Ve
 use Rattle.vx_scheme.specs.declared.estimate.EstimateVerdict.{EstimateVerdict}
 use Rattle.vx_scheme.specs.declared.estimate.EstimateVerdict.TheVariants.{Skip}
 use Rattle.vx_schemes.specs.BitPacking.Tree.{bit_packing_made}
-use Rattle.vx_schemes.specs.Finishing.{finished_or_kept}
-use Rattle.vx_schemes.specs.FinishingLaws.{finishing-lawful}
+use Rattle.vx_schemes_common.specs.Finishing.{finished_or_kept}
+use Rattle.vx_schemes_common.specs.FinishingLaws.{finishing-lawful}
 use Rattle.vx_schemes.specs.BitPacking.Laws.{bit_packing-lawful}
 use Rattle.vx_btrblocks.specs.Shipped.{shipped_schemes}
 
--- the bits of a value to the binary digits of the greatest; no ratio with a negative value, or where there are no digits
+-- ratio bits / digits(greatest value); Skip with a negative value, or where the greatest has no digits
 abbrev pub quick_verdict : ℕ → Extremes → EstimateVerdict
 quick_verdict bits e = if int_lt e.least (pos 0) then Skip else ratio_of bits (digits (unsigned_abs e.greatest))
 
@@ -28,7 +28,7 @@ quick_verdict bits e = if int_lt e.least (pos 0) then Skip else ratio_of bits (d
 abbrev pub quick_estimate : Column → EstimateVerdict
 quick_estimate c = quick_verdict (bits_of (integer_of c.dtype)) (extremes_in (integer_of c.dtype) c.values)
 
--- a verdict at once, by the statistics; the tree is that of bit packing, and has no parts
+-- an immediate verdict by the statistics; the tree is that of bit packing, without parts
 abbrev pub quick_packing : Meaning
 quick_packing = record {
   name = codes "example.int.quickpacking";

@@ -18,15 +18,15 @@ use Rattle.vx_scheme.specs.declared.estimate.EstimateVerdict.TheVariants.{Skip}
 use Rattle.vx_schemes.specs.FrameOfReference.Tree.{differences}
 use Rattle.vx_schemes.specs.FrameOfReference.Laws.{least_in-held, differences-part, framed-stands}
 use Rattle.vx_schemes.specs.FrameOfReference.Meaning.{for_estimate}
-use Rattle.vx_schemes.specs.OnePart.{PartStands, part_where, over_part}
-use Rattle.vx_schemes.specs.OnePartLaws.{one_part-lawful}
+use Rattle.vx_schemes_common.specs.OnePart.{PartStands, part_where, over_part}
+use Rattle.vx_schemes_common.specs.OnePartLaws.{one_part-lawful}
 use Rattle.vx_btrblocks.specs.Shipped.{shipped_schemes}
 
--- the least value, or the type's greatest where every row is null
+-- the least value, or the greatest of the type where every row is null
 abbrev pub reference_of : Column → ℤ
 reference_of c = least_in (integer_of c.dtype) c.values
 
--- the rows less the least value, in the unsigned type of the width
+-- the differences row - least value, in the unsigned type of the same width
 abbrev pub above_least : Column → Column
 above_least c = differences c (reference_of c)
 

@@ -1,4 +1,4 @@
-//! A scheme of texts that stand one after the other, and whose offsets are compressed.
+//! A scheme of texts as concatenated bytes with offsets, which are compressed.
 
 ghost use Rattle.std.specs.Prelude.{◌≡◌, true, IsTrue};
 ghost use Rattle.vx_base.specs.Answers.{Answers};
@@ -9,7 +9,7 @@ ghost use Rattle.vx_model.specs.Plain.{IsPlain};
 ghost use Rattle.vx_model.specs.TreeType.{tree_type};
 ghost use Rattle.vx_scheme.specs.Asked.{FitParts};
 ghost use Rattle.vx_scheme.specs.Meaning.{split_of};
-ghost use Rattle.vx_schemes.specs.OnePart.{part_where, over_part};
+ghost use Rattle.vx_schemes_common.specs.OnePart.{part_where, over_part};
 ghost use Rattle.vx_examples.specs.JoinedTexts.{text_offsets, texts_over};
 
 mod building;
@@ -23,14 +23,14 @@ use vx_scheme::{
     AllowedIds, AncestorRules, ArrayAndStats, CompressionEstimate, CompressorContext,
     DeferredEstimate, DescendantRules, EstimateVerdict, GenerateStatsOptions, Scheme, Split,
 };
-use vx_schemes::{one_part, only};
+use vx_schemes_common::{one_part, only};
 
-/// Texts one after the other, `example.text.joined`: the offsets between them are a child, and become the tree of
-/// whichever scheme is best for them. It is tried on a sample.
+/// Texts as concatenated bytes, `example.text.joined`: their offsets are child 0, and become the tree of whichever scheme
+/// is best for them. It is tried on a sample.
 #[derive(Clone, Copy, Debug, Default, PartialEq, Eq)]
 pub struct JoinedTexts;
 
-// The offsets between the texts, as the one part.
+// The offsets of the texts, as the only part.
 fn parts(alloc: Global, array: &ArrayRef) -> VortexResult<Split>
     requires plain { IsPlain array.now }
     requires text { IsTrue (is_text (tree_type array.now)) }
@@ -96,7 +96,7 @@ impl Scheme for JoinedTexts {
         Ok(AncestorRules::new_in(alloc))
     }
 
-    // It is tried on a sample of the texts.
+    // A trial on a sample of the texts.
     fn expected_compression_ratio(
         &self,
         _column: &mut ArrayAndStats,
@@ -106,7 +106,7 @@ impl Scheme for JoinedTexts {
         Ok(CompressionEstimate::Deferred(DeferredEstimate::Sample))
     }
 
-    // It isn't asked again.
+    // Never asked: its estimate is a trial.
     fn resolve_estimate(
         &self,
         _column: &mut ArrayAndStats,

@@ -1,4 +1,4 @@
-//! Three small schemes of a caller's own, judged beside the shipped ones. `docs/WRITE_A_SCHEME.md` walks through them.
+//! Three small schemes of a caller's, judged beside the shipped ones. `docs/WRITE_A_SCHEME.md` walks through them.
 #![tactic(auto)]
 
 mod joined_texts;

@@ -1,7 +1,7 @@
-//! A scheme that packs integers as the shipped one does, and tells its ratio without a trial.
+//! A scheme that packs integers as the shipped one does, with an immediate ratio in place of a trial.
 
 ghost use Rattle.std.specs.Prelude.{◌≡◌, ◌<◌};
-ghost use Rattle.vx_schemes.specs.Produced.{MakesProduced};
+ghost use Rattle.vx_schemes_common.specs.Produced.{MakesProduced};
 ghost use Rattle.vx_examples.specs.QuickPacking.{quick_packing, quick_verdict};
 
 mod building;
@@ -17,16 +17,16 @@ use vx_scheme::{
 };
 use vx_schemes::BitPackingScheme;
 
-/// Packs integers from 0 on as `BitPackingScheme` does, `example.int.quickpacking`. In place of a trial on a sample it
-/// expects the bits of a value to the binary digits of the greatest, and it skips a column with a negative value, and one
-/// whose greatest value is 0. It has no children: its tree is finished at once.
+/// Packs integers from 0 on as `BitPackingScheme` does, `example.int.quickpacking`. Its ratio is
+/// bits(type) / digits(greatest value), in place of a trial on a sample; a column with a negative value is skipped, and so
+/// is one whose greatest value is 0. It has no children: its tree is finished at once.
 #[derive(Clone, Copy, Debug, PartialEq, Eq)]
 pub struct QuickPacking {
     packing: BitPackingScheme,
 }
 
 impl QuickPacking {
-    /// Over the first version of bit packing.
+    /// The scheme over bit packing v1.
     pub fn new() -> QuickPacking
         ensures { MakesProduced quick_packing }
     {
@@ -36,7 +36,7 @@ impl QuickPacking {
     }
 }
 
-// The bits of a value to the digits of the greatest, where no value is negative and some isn't 0.
+// Ratio bits / digits(greatest value); Skip where a value is negative or the greatest is 0.
 fn verdict(stats: &IntegerStats, bits: u32) -> EstimateVerdict
     requires { 0 < stats.now.value_count }
     ensures { result ≡ quick_verdict bits stats.now.extremes }
@@ -112,7 +112,7 @@ impl Scheme for QuickPacking {
         Ok(CompressionEstimate::Verdict(verdict(stats, bits)))
     }
 
-    // No estimate is put off.
+    // Never asked: no estimate is deferred.
     fn resolve_estimate(
         &self,
         _column: &mut ArrayAndStats,

@@ -11,8 +11,8 @@ ghost use Rattle.vx_model.specs.TreeType.{tree_type};
 ghost use Rattle.vx_scheme.specs.Asked.{FitParts};
 ghost use Rattle.vx_scheme.specs.Meaning.{split_of};
 ghost use Rattle.vx_stats.specs.Stats.{least_in};
-ghost use Rattle.vx_schemes.specs.OnePart.{part_where, over_part};
-ghost use Rattle.vx_schemes.specs.Produced.{MakesProduced};
+ghost use Rattle.vx_schemes_common.specs.OnePart.{part_where, over_part};
+ghost use Rattle.vx_schemes_common.specs.Produced.{MakesProduced};
 ghost use Rattle.vx_examples.specs.SpanFrame.{above_least, frame_over, span_frame};
 
 mod building;
@@ -26,19 +26,21 @@ use vx_scheme::{
     AllowedIds, AncestorRules, ArrayAndStats, CompressionEstimate, CompressorContext,
     DescendantRules, EstimateVerdict, GenerateStatsOptions, Scheme, Split,
 };
-use vx_schemes::{FoRScheme, differences, framed, least_value, one_part, only};
+use vx_schemes::{FoRScheme, differences, framed, least_value};
+use vx_schemes_common::{one_part, only};
 
-/// Integers as differences from the least of them, `example.int.frame`. It expects what `FoRScheme` expects; but where
-/// that packs its differences itself, these are a child, and become the tree of whichever scheme is best for them.
+/// Integers as differences from the least value, `example.int.frame`. It has the verdict of `FoRScheme`, which packs its
+/// differences itself; here they are child 0, and become the tree of whichever scheme is best for them.
 #[derive(Clone, Copy, Debug, Default, PartialEq, Eq)]
 pub struct SpanFrame;
 
-/// What a frame finishes or joins has the encoding of a frame, or is plain. Does nothing: a caller learns the clause.
+/// Does nothing; its contract holds the law: the root of what the scheme finishes or joins is a frame of reference, or the
+/// column's plain tree.
 pub fn laws_of_span_frames()
     ensures { MakesProduced span_frame }
 {}
 
-// The differences from the least value, as the one part.
+// The differences from the least value, as the only part.
 fn parts(alloc: Global, array: &ArrayRef, least: i128) -> VortexResult<Split>
     requires plain { IsPlain array.now }
     requires integer { IsTrue (is_integer (tree_type array.now)) }
@@ -118,7 +120,7 @@ impl Scheme for SpanFrame {
         FoRScheme::v1().expected_compression_ratio(column, site, ctx)
     }
 
-    // No estimate is put off.
+    // Never asked: no estimate is deferred.
     fn resolve_estimate(
         &self,
         _column: &mut ArrayAndStats,

@@ -1,4 +1,4 @@
-//! What any scheme answers of a short column.
+//! The answers of any scheme about a short column, as plain data.
 
 ghost use Rattle.std.specs.Prelude.{◌≡◌, ◌<◌, length, IsTrue, true};
 ghost use Rattle.vx_base.specs.PlainType.{is_integer};
@@ -18,25 +18,25 @@ use vx_scheme::{
     Scheme, Split,
 };
 
-// The most rows of a column that is asked about.
+// The most rows of a column that a scheme is asked about: four blocks, well below what the trait admits.
 const MOST_ROWS: u64 = 4096;
 
-/// A scheme's answer on a column, as data that is compared by its parts.
+/// An estimate or a verdict of a scheme, compared by its parts: ratios as they are written, not by their value.
 #[derive(Clone, Copy, Debug, PartialEq, Eq)]
 pub enum Told {
-    /// It can't serve the column.
+    /// Skip.
     Nothing,
-    /// It is to be chosen.
+    /// Always use.
     Always,
-    /// Bytes to bytes.
+    /// A ratio: numerator and denominator.
     Ratio(u64, u64),
-    /// What a sample shows.
+    /// Deferred to a trial on a sample.
     Sampled,
-    /// What it tells when it is asked again.
+    /// Deferred until it is asked again.
     Later,
 }
 
-// The same by the verdict.
+// A verdict as plain data.
 fn told_by_verdict(verdict: EstimateVerdict) -> Told {
     match verdict {
         EstimateVerdict::Skip => Told::Nothing,
@@ -45,7 +45,7 @@ fn told_by_verdict(verdict: EstimateVerdict) -> Told {
     }
 }
 
-// The same by the estimate.
+// An estimate as plain data.
 fn told_by_estimate(estimate: CompressionEstimate) -> Told {
     match estimate {
         CompressionEstimate::Verdict(verdict) => told_by_verdict(verdict),
@@ -54,7 +54,7 @@ fn told_by_estimate(estimate: CompressionEstimate) -> Told {
     }
 }
 
-// Whether a column has a first row, with a value.
+// Whether a column's first row is there and has a value.
 #[tactic(auto, using(vx_scheme::proofs::NullLemmas::some_value))]
 fn begins_with_a_value(array: &ArrayRef) -> bool
     requires { IsTrue (is_integer (tree_type array.now)) }
@@ -64,7 +64,7 @@ fn begins_with_a_value(array: &ArrayRef) -> bool
     array.len() > 0 && array.integer_at(0).is_some()
 }
 
-// What a scheme expects of a column at a site, and the verdict that it put off.
+// The estimate of a scheme for a column at a site, and its deferred verdict.
 fn answers<S: Scheme>(
     scheme: &S,
     site: &CompressorContext,
@@ -84,8 +84,8 @@ fn answers<S: Scheme>(
     Ok((told_by_estimate(estimate), told_by_verdict(verdict)))
 }
 
-/// What a scheme expects of a column at a site, and the verdict that it put off. Refuses MismatchedTypes where the first
-/// row has no value or more than 4,096 rows come.
+/// The estimate of a scheme for a column at a site, and its deferred verdict without a threshold. Refuses MismatchedTypes
+/// where the first row has no value or there are more than 4,096 rows.
 pub fn told_of<S: Scheme>(
     alloc: Global,
     scheme: &S,
@@ -96,7 +96,7 @@ pub fn told_of<S: Scheme>(
     told_above(alloc, scheme, site, None, ptype, rows)
 }
 
-/// The same where the verdict is asked for with a threshold.
+/// `told_of` with a threshold for the deferred verdict.
 pub fn told_above<S: Scheme>(
     alloc: Global,
     scheme: &S,
@@ -110,7 +110,7 @@ pub fn told_above<S: Scheme>(
     answers(scheme, site, threshold, &mut column, &mut ctx)
 }
 
-// The number of parts of a column, and its tree by the scheme with the parts as they are.
+// The number of parts that a scheme makes of a column, and its tree over the plain parts.
 fn made<S: Scheme, L: Ledger>(
     scheme: &S,
     column: &mut ArrayAndStats,
@@ -137,7 +137,7 @@ fn made<S: Scheme, L: Ledger>(
     }
 }
 
-// The same of a short column that the scheme takes.
+// That of a column of 1 to 4,096 rows which the scheme takes.
 fn made_of_taken<S: Scheme>(
     scheme: &S,
     column: &mut ArrayAndStats,
@@ -152,8 +152,8 @@ fn made_of_taken<S: Scheme>(
     made::<S, Brand>(scheme, column, ctx, Blank::new(1))
 }
 
-/// How many parts a scheme makes of a column at a fresh site, and its tree with the parts as they are. Refuses
-/// MismatchedTypes where the scheme doesn't take the column, or this has no row or more than 4,096.
+/// The number of parts that a scheme makes of a column at a fresh site, and its tree over the plain parts. Refuses
+/// MismatchedTypes where the scheme doesn't take the column, or the column has no row or more than 4,096.
 pub fn made_of<S: Scheme>(
     alloc: Global,
     scheme: &S,
@@ -165,7 +165,7 @@ pub fn made_of<S: Scheme>(
     made_of_taken(scheme, &mut column, &mut ctx)
 }
 
-/// How many rules of exclusion a scheme has: against what stands below, and against standing below others.
+/// The numbers of a scheme's exclusion rules: of those against what stands below it, and of those against standing below others.
 pub fn rules_of<S: Scheme>(alloc: Global, scheme: &S) -> VortexResult<(u64, u64)> {
     let below = scheme.descendant_exclusions(alloc)?.len();
     let above = scheme.ancestor_exclusions(alloc)?.len();

@@ -1,4 +1,4 @@
-//! Plain columns of plain slices, and bundles of them.
+//! Plain columns made of slices, and bundles over them.
 
 ghost use Rattle.std.specs.Prelude.{◌≡◌, IfOk, IsTrue, true};
 ghost use Rattle.vx_base.specs.PlainType.{is_integer};
@@ -18,8 +18,8 @@ pub fn context(alloc: Global) -> VortexResult<ExecutionCtx> {
     Ok(ExecutionCtx::new(alloc, words))
 }
 
-/// The plain column of a type with these rows, None at a null; it is nullable where there is one. Refuses OutOfBounds
-/// where the type doesn't hold a row.
+/// The plain column of a type with these rows, None for null; nullable where some row is null. Refuses OutOfBounds where a
+/// row doesn't fit the type.
 pub fn column(alloc: Global, ptype: PType, rows: &[Option<i128>]) -> VortexResult<ArrayRef>
     ensures integer { IfOk result (λ array. IsTrue (is_integer (tree_type array))) }
     ensures plain { IfOk result (λ array. IsPlain array) }
@@ -43,7 +43,7 @@ pub fn column(alloc: Global, ptype: PType, rows: &[Option<i128>]) -> VortexResul
     }
 }
 
-/// The same column with nothing kept yet, whose statistics are to have its distinct values.
+/// A bundle over that column without any statistics yet, whose options ask for distinct values.
 pub fn bundle(alloc: Global, ptype: PType, rows: &[Option<i128>]) -> VortexResult<ArrayAndStats>
     ensures integer { IfOk result (λ column. IsTrue (is_integer (tree_type column.array))) }
     ensures asked { IfOk result (λ column. column.options.count_distinct_values ≡ true) }

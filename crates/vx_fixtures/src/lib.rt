@@ -1,4 +1,5 @@
-//! What tests of several crates share: masks, integers, rows of bytes and trees made of plain slices, and what is told of them.
+//! Fixtures that tests of several crates share: masks, integers, rows of bytes and trees made of slices, and answers of schemes as
+//! plain data.
 #![tactic(auto)]
 
 mod asking;

@@ -1,4 +1,4 @@
-//! Masks, integers, rows of bytes, packed bytes, flat trees and lists as scalars, made of plain slices.
+//! Masks, integers, rows of bytes, packed bytes, flat trees and lists as scalars, made of slices.
 
 use std::alloc::Global;
 use vx_array::ArrayRef;
@@ -40,7 +40,7 @@ pub fn list<T: Integer>(alloc: Global, wholes: &[i128]) -> VortexResult<IntList<
     Ok(IntList::from_vec(items))
 }
 
-/// The same of a type that is given as a value.
+/// Integers of a type that is given as a value. Refuses OutOfBounds where the type doesn't hold one of them.
 pub fn integers(alloc: Global, ptype: PType, wholes: &[i128]) -> VortexResult<Ints> {
     match ptype {
         PType::U8 => Ok(Ints::U8(list(alloc, wholes)?)),

@@ -1,10 +1,10 @@
-//! The rows of a tree, compared with plain slices.
+//! The rows of a tree, compared with slices.
 
 use std::alloc::Global;
 use vx_array::ArrayRef;
 use vx_base::VortexResult;
 
-/// Whether the tree has these rows, None at a null.
+/// Whether the tree has these integers as its rows, None for null.
 pub fn has_rows(array: &ArrayRef, rows: &[Option<i128>]) -> bool {
     if !array.dtype().is_integer() || array.len() != rows.len() as u64 {
         return false;
@@ -17,7 +17,7 @@ pub fn has_rows(array: &ArrayRef, rows: &[Option<i128>]) -> bool {
     true
 }
 
-/// The same of rows without nulls.
+/// Whether the tree has these integers as its rows, none of them null.
 pub fn has_wholes(array: &ArrayRef, wholes: &[i128]) -> bool {
     if !array.dtype().is_integer() || array.len() != wholes.len() as u64 {
         return false;
@@ -30,8 +30,7 @@ pub fn has_wholes(array: &ArrayRef, wholes: &[i128]) -> bool {
     true
 }
 
-/// Whether a tree has these rows and takes the first of these bytes, and its copy made plain is plain, has the same rows and
-/// takes the second.
+/// Whether a tree has these rows and takes `bytes`, and its decoded copy is plain, has the same rows and takes `plain_bytes`.
 pub fn is_made_plain(
     alloc: Global,
     tree: &ArrayRef,

@@ -1,5 +1,6 @@
 pub mod ByteLists
 pub mod ConstantExtents
+pub mod Copies
 pub mod FewWayLemmas
 pub mod PatchPlaces
 pub mod Payloads

@@ -10,7 +10,7 @@ use Rattle.vx_model.specs.Rows.{row_at, is_index, index_of, place_of, patched, b
 use Rattle.vx_model.specs.WellFormed.{ascend}
 use Rattle.vx_model.proofs.PatchLemmas.{ascend-index, ascend-within}
 use Rattle.vx_model.proofs.PatchedLemmas.{patched-place, patched-fill}
-use Rattle.vx_flat.specs.Places.{place_in, places_in}
+use Rattle.vx_flat.specs.Places.{patch_place, patch_places}
 
 -- the numbers from 0 on
 abbrev pub numbers : ℕ → List PlainValue
@@ -22,7 +22,7 @@ length-numbers n = length-map-range_with_len (λ k. int (pos k)) 0 n
 pub number-at : (n k : ℕ) → k < n → row_at (numbers n) k ≡ int (pos k)
 number-at n k l = get_or-map-range_with_len (λ k. int (pos k)) 0 n k k null l (omega arith)
 
-place-number : (is : List PlainValue) (n : ℕ) → whole_or_zero (patched is (numbers (length is)) (int (pos (length is))) n) ≡ pos (place_in is n)
+place-number : (is : List PlainValue) (n : ℕ) → whole_or_zero (patched is (numbers (length is)) (int (pos (length is))) n) ≡ pos (patch_place is n)
 place-number is n = pick (place_of is n) refl
   where
     pick : (o : Option ℕ) → place_of is n ≡ o → whole_or_zero (patched is (numbers (length is)) (int (pos (length is))) n) ≡ pos (unwrap_or o (length is))
@@ -32,11 +32,11 @@ place-number is n = pick (place_of is n) refl
     pick None e = ap whole_or_zero (patched-fill is (numbers (length is)) (int (pos (length is))) n e)
 
 places-from : (is : List PlainValue) (offset start n : ℕ)
-    → map (λ i. whole_or_zero (patched is (numbers (length is)) (int (pos (length is))) (offset + i))) (range_with_len start n) ≡ map (λ i. pos (place_in is (offset + i))) (range_with_len start n)
+    → map (λ i. whole_or_zero (patched is (numbers (length is)) (int (pos (length is))) (offset + i))) (range_with_len start n) ≡ map (λ i. pos (patch_place is (offset + i))) (range_with_len start n)
 places-from is offset start zero = refl
 places-from is offset start (suc n) = λ i. place-number is (offset + start) i ∷ places-from is offset (start + 1) n i
 
-pub places-written : (is : List PlainValue) (offset len : ℕ) → below (λ i. whole_or_zero (patched is (numbers (length is)) (int (pos (length is))) (offset + i))) len ≡ places_in is offset len
+pub places-written : (is : List PlainValue) (offset len : ℕ) → below (λ i. whole_or_zero (patched is (numbers (length is)) (int (pos (length is))) (offset + i))) len ≡ patch_places is offset len
 places-written is offset len = places-from is offset 0 len
 
 places-filled : (start n count : ℕ) → map pos (replicate n count) ≡ map (λ i. pos count) (range_with_len start n)

@@ -10,7 +10,7 @@ use Rattle.vx_model.specs.Rows.{row_at, below, offset_at, run_value}
 use Rattle.vx_model.specs.WellFormed.{ascend}
 use Rattle.vx_model.proofs.PatchLemmas.{ascend_parts}
 use Rattle.vx_model.proofs.RunEndLemmas.{EndsBefore, last_end, is_behind, later_end, ends-rise}
-use Rattle.vx_flat.specs.RunPlaces.{run_number}
+use Rattle.vx_flat.specs.RunPlaces.{run_of_row}
 
 -- the same of numbers that are the same below another
 pub below-same : {A : Type 0} (f g : ℕ → A) (n : ℕ) → ((i : ℕ) → i < n → f i ≡ g i) → below f n ≡ below g n
@@ -65,20 +65,20 @@ pub ruleset sum_places = (passing-next, passing-fails)
 
 -- ---- the numbers of runs
 
-pub run_number-place : (ends : List PlainValue) (i place : ℕ) → place < length ends → EndsBefore ends i place → i < offset_at ends place → run_number ends i ≡ place
-run_number-place [] i place l b a = absurd (omega arith)
-run_number-place (v ∷ ends) i zero l b a = cond-true _ _ _ (is_behind v i ∙ lt-ltb _ _ a)
-run_number-place (v ∷ ends) i (suc place) l b a =
-    cond-false _ _ _ (is_behind v i ∙ le-ltb _ _ (b 0 (omega arith))) ∙ ap suc (run_number-place ends i place (omega arith) (λ k m. b (suc k) (omega arith)) a)
+pub run_of_row-place : (ends : List PlainValue) (i place : ℕ) → place < length ends → EndsBefore ends i place → i < offset_at ends place → run_of_row ends i ≡ place
+run_of_row-place [] i place l b a = absurd (omega arith)
+run_of_row-place (v ∷ ends) i zero l b a = cond-true _ _ _ (is_behind v i ∙ lt-ltb _ _ a)
+run_of_row-place (v ∷ ends) i (suc place) l b a =
+    cond-false _ _ _ (is_behind v i ∙ le-ltb _ _ (b 0 (omega arith))) ∙ ap suc (run_of_row-place ends i place (omega arith) (λ k m. b (suc k) (omega arith)) a)
 
 -- a row's run is there, and its value is the row's
-pub run_value-number : (ends values : List PlainValue) (i : ℕ) → length ends ≡ length values → i < last_end ends → (run_number ends i < length ends) × (run_value ends values i ≡ row_at values (run_number ends i))
+pub run_value-number : (ends values : List PlainValue) (i : ℕ) → length ends ≡ length values → i < last_end ends → (run_of_row ends i < length ends) × (run_value ends values i ≡ row_at values (run_of_row ends i))
 run_value-number [] values i e l = absurd (omega arith)
 run_value-number (v ∷ ends) [] i e l = absurd (omega arith)
 run_value-number (v ∷ ends) (w ∷ values) i e l = pick (int_lt (pos i) (whole_or_zero v)) refl (λ later. run_value-number ends values i (omega arith) later)
   where
-    pick : (b : Bool) → int_lt (pos i) (whole_or_zero v) ≡ b → (i < last_end ends → (run_number ends i < length ends) × (run_value ends values i ≡ row_at values (run_number ends i)))
-        → (cond b 0 (suc (run_number ends i)) < suc (length ends)) × (cond b w (run_value ends values i) ≡ row_at (w ∷ values) (cond b 0 (suc (run_number ends i))))
+    pick : (b : Bool) → int_lt (pos i) (whole_or_zero v) ≡ b → (i < last_end ends → (run_of_row ends i < length ends) × (run_value ends values i ≡ row_at values (run_of_row ends i)))
+        → (cond b 0 (suc (run_of_row ends i)) < suc (length ends)) × (cond b w (run_value ends values i) ≡ row_at (w ∷ values) (cond b 0 (suc (run_of_row ends i))))
     pick true t others = (omega arith, refl)
     pick false t others = let rest = others (later_end v ends i (ltb-false _ _ (sym (is_behind v i) ∙ t)) l) in (let a = rest.0 in omega arith, rest.1)
 
@@ -91,7 +91,7 @@ end_whole low high (negsuc n ∷ xs) k e l = absurd cc
 
 -- the rows up to the end of a run, where those up to the end before it are written
 pub run_written : (ends : List PlainValue) (items made : List ℕ) (run n len : ℕ) → ascend 1 (2 ^ 64) ends ≡ true → run < length ends → (0 < run → length items ≡ offset_at ends (run - 1)) → (run ≡ 0 → length items ≡ 0)
-    → items ≡ below (run_number ends) (length items) → n ≡ offset_at ends run → len ≡ length items → made ≡ take n items ++ replicate (n - len) run → made ≡ below (run_number ends) n
+    → items ≡ below (run_of_row ends) (length items) → n ≡ offset_at ends run → len ≡ length items → made ≡ take n items ++ replicate (n - len) run → made ≡ below (run_of_row ends) n
 run_written ends items made run n len e l begin none so_far end long is =
     let rest : n - len ≡ n - length items = omega arith in
     let room : length items ≤ n = elim (cases_lt 0 run) [
@@ -105,10 +105,10 @@ run_written ends items made run n len e l begin none so_far end long is =
       | inl less ↦ let rising = ends-rise 1 (2 ^ 64) ends j (run - 1) e less (omega arith) in omega arith
       | inr more ↦ let same : j ≡ run - 1 = omega arith in let here = ap (offset_at ends) same in omega arith
     ]) in
-    get_or-replicate count k run 0 m ∙ sym (run_number-place ends (length items + k) run l before (omega arith))
+    get_or-replicate count k run 0 m ∙ sym (run_of_row-place ends (length items + k) run l before (omega arith))
     ) in
     is ∙ (λ i. take n items ++ replicate (rest i) run) ∙ ap (λ xs. xs ++ replicate count run) (take_all n items room ∙ so_far)
-    ∙ map-range_part (run_number ends) 0 (length items) count (replicate count run) (length-replicate count run) there ∙ ap (below (run_number ends)) all
+    ∙ map-range_part (run_of_row ends) 0 (length items) count (replicate count run) (length-replicate count run) there ∙ ap (below (run_of_row ends)) all
 
 -- behind the last run all rows are written
 pub run_all : (ends : List PlainValue) (run len : ℕ) → run ≡ length ends → (0 < run → len ≡ offset_at ends (run - 1)) → (run ≡ 0 → len ≡ 0) → len ≡ offset_at ends (length ends - 1)

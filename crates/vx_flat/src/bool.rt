@@ -1,4 +1,4 @@
-//! Truth values with validity: a row, the bytes, decoding.
+//! Truth values with validity: a row, bytes, decoding.
 
 ghost use Rattle.std.specs.Prelude.{◌≡◌, ◌+◌, length, None, slice_index_or, map, not, false, true, if◌then◌else◌};
 ghost use Rattle.vx_base.specs.Answers.{OrMemory};
@@ -28,7 +28,7 @@ pub fn truth_at(values: &Mask, valid: &Option<Mask>, row: u64) -> Cell<'static>
     }
 }
 
-/// The bytes of truth values: a bit a row, and a bit a row for validity, each filled up to whole bytes.
+/// The bytes of truth values: `ceil(rows / 8)`, and as many again where there are validity bits.
 pub fn bool_bytes(values: &Mask, valid: &Option<Mask>) -> u128
     ensures { result ≡ bit_bytes (length values.now) + validity_size valid.now }
 {
@@ -41,11 +41,11 @@ pub fn decoded_bool(alloc: Global, values: &Mask, valid: &Option<Mask>) -> Vorte
     ensures { OrMemory result (AreRows truths (map truth (zeroed_by false valid.now values.now)) valid.now) }
 {
     let values = Values::Bits(bits::decoded(alloc, values, valid)?);
-    let valid = copy_validity(valid, alloc)?;
+    let valid = copy_validity(alloc, valid)?;
     Ok(Decoded { values, valid })
 }
 
-/// Whether each truth value whose row isn't valid is false.
+/// Whether false stands beneath each null, as in a plain tree.
 pub fn is_false_beneath(values: &Mask, valid: &Option<Mask>) -> bool
     requires { validity_length valid.now (length values.now) ≡ true }
     ensures { result ≡ zero_beneath_by not valid.now values.now }

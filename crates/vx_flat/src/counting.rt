@@ -1,4 +1,4 @@
-//! Whether a column and the columns within it have few rows.
+//! Whether a column and each column nested in it fit the row limit.
 
 ghost use Rattle.std.specs.Prelude.{◌≡◌, ◌*◌, ◌^◌, ◌-◌, map, nat_le, min, length, true};
 ghost use Rattle.std.specs.List.{list_all};
@@ -15,19 +15,19 @@ use crate::sizes::ROW_LIMIT;
 use vx_base::{DType, Fields, Text, Value};
 pub use within::rows_within;
 
-/// The way from a column to one within. It stands on the stack.
+/// The way from a column to a nested one, one step per level. It stands on the stack, so that counting takes no memory.
 #[derive(Clone, Copy)]
 pub enum Way<'a> {
     /// To the column itself.
     Here,
-    /// Into the field of structs at a place, and on from there.
+    /// Into the field at this place of structs, and on from there.
     Field(u64, &'a Way<'a>),
     /// Into the items of lists, and on from there.
     Items(&'a Way<'a>),
 }
 
-/// Whether each count of the rows of a column with these values, and of each nested column, is at most 2^31, taken so
-/// many times.
+/// Whether `times * rows <= 2^31` for the column with these values and each column nested in it. `times` is the number of
+/// rows of a constant, whose value is counted once.
 pub fn counts_fit(dtype: &DType, values: &[Value], times: u64) -> bool
     ensures { result ≡ list_all (λ count. nat_le (times * count) row_limit) (counts (type_of dtype.now) (map value_of values.now)) }
 {
@@ -35,7 +35,8 @@ pub fn counts_fit(dtype: &DType, values: &[Value], times: u64) -> bool
     few_times(times, values.len() as u64) && inner_fit(dtype, &root, dtype, values, times)
 }
 
-// The same of the columns within the column of a type that a way leads to, which is told from its end. Its own rows are few.
+// Whether every column nested below the one at the end of `way`, of type `inner`, fits the row limit; its own rows do
+// already. `way` stands reversed, its last step outermost: a step further is then one more link in front.
 #[cycle(inner)]
 fn inner_fit(inner: &DType, way: &Way<'_>, dtype: &DType, values: &[Value], times: u64) -> bool
     requires typed { (column_at (way_of way.now) (column (type_of dtype.now) (map value_of values.now))).dtype ≡ type_of inner.now }
@@ -52,7 +53,7 @@ fn inner_fit(inner: &DType, way: &Way<'_>, dtype: &DType, values: &[Value], time
     }
 }
 
-// The same of the fields of structs. The column of a field has as many rows as that of the structs.
+// `inner_fit` of the fields of structs. A field has as many rows as the structs, so only what is nested in it is counted.
 #[cycle(inner)]
 fn fields_fit(fields: &Fields, way: &Way<'_>, dtype: &DType, values: &[Value], times: u64) -> bool
     requires typed { (column_at (way_of way.now) (column (type_of dtype.now) (map value_of values.now))).dtype ≡ structure (of_fields (fields_of fields.now)) (nullability_of (column_at (way_of way.now) (column (type_of dtype.now) (map value_of values.now))).dtype) }
@@ -68,7 +69,7 @@ fn fields_fit(fields: &Fields, way: &Way<'_>, dtype: &DType, values: &[Value], t
     true
 }
 
-// The same of the field at a place.
+// `inner_fit` of the field at a place.
 #[cycle(inner)]
 fn field_fits(
     inner: &(Text, DType),
@@ -85,7 +86,7 @@ fn field_fits(
     inner_fit(&inner.1, &Way::Field(place, &*way), dtype, values, times)
 }
 
-// The same of the items of lists, and of their own column.
+// `inner_fit` of the items of lists, whose own rows are counted as well.
 #[cycle(inner)]
 fn items_fit(items: &DType, way: &Way<'_>, dtype: &DType, values: &[Value], times: u64) -> bool
     requires typed { (column_at (way_of way.now) (column (type_of dtype.now) (map value_of values.now))).dtype ≡ type_of items.now }
@@ -94,15 +95,15 @@ fn items_fit(items: &DType, way: &Way<'_>, dtype: &DType, values: &[Value], time
     few_times(times, rows_at(way, dtype, values)) && inner_fit(items, way, dtype, values, times)
 }
 
-// The rows of the column that a way leads to which is told from its end. At most the greatest number of 64 bits.
+// The rows of the column at the end of a reversed way. Saturates at 2^64 - 1.
 fn rows_at(way: &Way<'_>, dtype: &DType, values: &[Value]) -> u64
     ensures { result ≡ min (length (column_at (way_of way.now) (column (type_of dtype.now) (map value_of values.now))).values) (2 ^ 64 - 1) }
 {
     column_rows(way, &Way::Here, dtype, values)
 }
 
-// The rows of the column that two ways lead to: one that is told from its end, and one from there on. At most the greatest
-// number of 64 bits.
+// The rows of the column at the end of two ways: the reversed one, `before`, then `way`. Turns the former round step by
+// step. Saturates at 2^64 - 1.
 fn column_rows(before: &Way<'_>, way: &Way<'_>, dtype: &DType, values: &[Value]) -> u64
     ensures { result ≡ min (count_at (turned (way_of before.now) (way_of way.now)) (type_of dtype.now) (map value_of values.now)) (2 ^ 64 - 1) }
 {
@@ -113,7 +114,7 @@ fn column_rows(before: &Way<'_>, way: &Way<'_>, dtype: &DType, values: &[Value])
     }
 }
 
-// Whether so many rows, so many times, are within the limit. Numbers of 64 bits that are cut off at their greatest are not.
+// Whether `times * rows <= 2^31`, with the product taken exactly. A saturated count, 2^64 - 1, is above it as well.
 fn few_times(times: u64, rows: u64) -> bool
     ensures { result ≡ nat_le (times * rows) row_limit }
 {

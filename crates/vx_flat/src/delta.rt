@@ -1,4 +1,4 @@
-//! Integers as differences: a sum in its type, decoding.
+//! Integers as differences: wrapping of a sum, decoding.
 
 ghost use Rattle.std.specs.Prelude.{◌≡◌, ◌<◌, ◌+◌, ◌-◌, ◌*◌, length, map, pos, take, true};
 ghost use Rattle.vx_base.specs.Answers.{OrMemory};
@@ -16,7 +16,7 @@ use std::alloc::Global;
 use vx_base::{Mask, PType, VortexResult};
 use vx_values::{Decoded, Ints, behind, copy_validity};
 
-/// The number of an integer type that differs from a whole number by a multiple of 2 to the type's bits.
+/// A whole number wrapped into an integer type: the number of the type that is equal to it modulo 2^bits.
 pub fn wrapped(ptype: PType, whole: i128) -> i128
     ensures { result ≡ wrap ptype whole }
 {
@@ -29,7 +29,8 @@ pub fn wrapped(ptype: PType, whole: i128) -> i128
     }
 }
 
-/// The first `len` rows by the bases of their blocks and the differences, 0 where `valid` is false.
+/// `len` rows: in each block of 1,024 the prefix sums of its differences from its base on, wrapping in the bases' type; 0
+/// where `valid` is false.
 pub fn decoded_delta(
     alloc: Global,
     bases: &Ints,
@@ -44,5 +45,5 @@ pub fn decoded_delta(
     ensures { OrMemory result (AreRows (ints (ptype_of bases.now)) (map int (zeroed_by (pos 0) valid.now (take len (undelta (ptype_of bases.now) (wholes_of bases.now) (wholes_of deltas.now))))) valid.now) }
 {
     let rows = bases.undelta(alloc, deltas)?.truncated(len);
-    Ok(behind(rows, copy_validity(valid, alloc)?))
+    Ok(behind(rows, copy_validity(alloc, valid)?))
 }

@@ -1,4 +1,4 @@
-//! Values by their places: what a place is, decoding.
+//! Dictionaries: which codes are places, decoding.
 
 ghost use Rattle.std.specs.Prelude.{◌≡◌, true, length, map};
 ghost use Rattle.vx_base.specs.Answers.{OrMemory};
@@ -14,7 +14,7 @@ use std::alloc::Global;
 use vx_base::{Mask, VortexResult};
 use vx_values::{Decoded, Ints, valid_codes};
 
-/// Whether a code is null or the place of one of so many values.
+/// Whether a code is null or in bounds of `values` values.
 pub fn is_place(code: Option<i128>, values: u64) -> bool
     ensures { result ≡ is_place values (cell code) }
 {
@@ -24,8 +24,8 @@ pub fn is_place(code: Option<i128>, values: u64) -> bool
     }
 }
 
-/// The rows: the value at each code's place, the default beneath nulls, by the codes with their validity and the values
-/// with theirs.
+/// `values[code]` in each row, the default beneath nulls, and the validity: a row is valid where its code is and that value
+/// is. Used for each node whose rows are found by places: Dict, RunEnd, Rle and Sparse.
 pub fn decoded_by_codes(
     alloc: Global,
     codes: Ints,

@@ -1,4 +1,4 @@
-//! The elements of lists of texts or binaries: their bytes move straight into the rows.
+//! The elements of lists of texts or binaries, whose bytes move straight into rows, without a vector of values in between.
 
 ghost use Rattle.std.specs.List.{list_any};
 ghost use Rattle.std.specs.Prelude.{◌≡◌, ◌++◌, ◌^◌, ◌-◌, OnOk, IfErr, length, map, min};
@@ -16,7 +16,7 @@ use crate::lists::{has_null, is_null};
 use std::alloc::Global;
 use vx_base::{Bytes, Mask, Value, VortexResult};
 
-/// The validity of the elements of all lists, one list after the other: bits where some element is null.
+/// The validity of all lists' elements, concatenated: bits exactly where some element is null.
 pub fn element_validity(alloc: Global, lists: &[Value]) -> VortexResult<Option<Mask>>
     ensures { Answers result (validity (elements (map value_of lists.now))) }
 {
@@ -41,7 +41,7 @@ fn has_null_element(lists: &[Value]) -> bool
     false
 }
 
-// Adds whether each value isn't null.
+// Adds a validity bit for each value.
 fn push_valid(bits: &mut Vec<bool>, values: &[Value]) -> VortexResult<()>
     ensures ok { OnOk result (bits.new.items ≡ bits.old.items ++ valid_bits (map value_of values.now)) }
     ensures err { IfErr result (λ e. e ≡ NoMemory) }
@@ -52,7 +52,7 @@ fn push_valid(bits: &mut Vec<bool>, values: &[Value]) -> VortexResult<()>
     Ok(())
 }
 
-// How many elements all lists have. At most the greatest number of 64 bits.
+// How many elements all lists have together. Saturates at 2^64 - 1.
 fn element_count(lists: &[Value]) -> usize
     ensures { result ≡ min (length (elements (map value_of lists.now))) (2 ^ 64 - 1) }
 {
@@ -63,7 +63,8 @@ fn element_count(lists: &[Value]) -> usize
     count
 }
 
-/// The bytes of all elements, one list after the other, and the offsets between the lists. They are moved.
+/// The bytes of all lists' elements, concatenated, and the offsets between the lists; a null element has no bytes. The bytes
+/// are moved, and want of memory drops them.
 pub fn byte_elements(alloc: Global, values: Vec<Value>) -> VortexResult<(Vec<Bytes>, Vec<u64>)>
     ensures { OrMemory result (λ parts. (parts.0.items ≡ map bytes_or_empty (elements (map value_of values.items))) × (parts.1.items ≡ offsets_of (list_rows (map value_of values.items)))) }
 {
@@ -77,7 +78,7 @@ pub fn byte_elements(alloc: Global, values: Vec<Value>) -> VortexResult<(Vec<Byt
     Ok((rows, offsets))
 }
 
-// Adds the bytes of each value within a value. They are moved.
+// Moves the bytes of each value within a value to the end of `rows`.
 fn push_bytes(alloc: Global, rows: &mut Vec<Bytes>, value: Value) -> VortexResult<()>
     ensures ok { OnOk result (rows.new.items ≡ rows.old.items ++ map bytes_or_empty (items_or_empty (value_of value))) }
     ensures err { IfErr result (λ e. e ≡ NoMemory) }

@@ -1,8 +1,8 @@
-//! Lists of one size: how many elements they have.
+//! Fixed-size lists: how many elements they have.
 
 ghost use Rattle.std.specs.Prelude.{◌≡◌, ◌==◌, ◌*◌};
 
-/// Whether so many elements are as many as so many lists of one size have. The product is taken exactly.
+/// Whether `elements == len * list_size`, with the product taken exactly: it may need 96 bits.
 pub fn have_elements(elements: u64, list_size: u32, len: u64) -> bool
     ensures { result ≡ (elements == len * list_size) }
 {

@@ -1,4 +1,4 @@
-//! Integers, each less a reference: a row, decoding.
+//! Frames of reference, integers less one reference: a row, decoding.
 
 ghost use Rattle.std.specs.Prelude.{◌≡◌, IsTrue, pos, true, false, length, map};
 ghost use Rattle.vx_base.specs.Answers.{OrMemory};
@@ -20,7 +20,7 @@ use std::alloc::Global;
 use vx_base::{Cell, Mask, Scalar, VortexResult};
 use vx_values::{Decoded, Ints, behind, summed_in};
 
-/// The row of a frame whose difference from the reference is given, null where it is null.
+/// `reference + difference`, wrapping in the reference's type; null where the difference is.
 pub fn moved_at(reference: &Scalar, difference: Cell<'_>) -> Cell<'static>
     requires integer { IsTrue (is_integer reference.now.dtype) }
     requires not_null { is_null reference.now.value ≡ false }
@@ -36,7 +36,7 @@ pub fn moved_at(reference: &Scalar, difference: Cell<'_>) -> Cell<'static>
     }
 }
 
-// The sums of the reference and each difference.
+// `reference + difference` in each row, wrapping in the reference's type.
 fn moved(alloc: Global, reference: &Scalar, differences: &Ints) -> VortexResult<Ints>
     requires integer { IsTrue (is_integer reference.now.dtype) }
     requires not_null { is_null reference.now.value ≡ false }
@@ -50,7 +50,8 @@ fn moved(alloc: Global, reference: &Scalar, differences: &Ints) -> VortexResult<
     differences.moved(alloc, reference.dtype().ptype(), whole)
 }
 
-/// The sums of the reference and each difference, 0 beneath nulls, by the differences and their validity.
+/// `reference + difference` in each row, wrapping in the reference's type; 0 beneath nulls. The validity is that of the
+/// differences.
 pub fn decoded_moved(
     alloc: Global,
     differences: Ints,

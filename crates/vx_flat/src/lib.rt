@@ -1,8 +1,12 @@
-//! What nodes say of flat columns without a tree: a row, the bytes, what is refused, decoding, the places of runs and patches;
-//! flat lists out of values, and the values within values. A file for each node that has a part here, under its name.
+//! What a node makes of flat columns, with no recursion into child trees: vx_array walks the trees, and hands over here
+//! what the children decode to.
+//!
+//! A file for each node that has a part here, under its name: a row, its bytes, refusals, decoding. Beside them the places
+//! of runs and patches, flat lists out of values, the values within values, and the row counts of nested columns.
 #![tactic(auto)]
 
 mod bool;
+mod by_type;
 mod constant;
 mod counting;
 mod delta;
@@ -27,7 +31,9 @@ mod within;
 mod zig_zag;
 
 pub use bool::{bool_bytes, decoded_bool, is_false_beneath, truth_at};
-pub use constant::{constant_bytes, constant_extents_fit, constant_has_null, validity_of_constant};
+pub use constant::{
+    constant_bytes, constant_extents_fit, constant_has_null, constant_is_place, decoded_constant,
+};
 pub use counting::{Way, counts_fit, rows_within};
 pub use delta::{decoded_delta, wrapped};
 pub use dict::{decoded_by_codes, is_place};

@@ -1,4 +1,4 @@
-//! Flat lists, from values.
+//! Flat lists out of values.
 
 ghost use Rattle.std.specs.List.{list_all, list_any};
 ghost use Rattle.std.specs.Prelude.{◌≡◌, IsTrue, map};
@@ -14,7 +14,7 @@ use std::alloc::Global;
 use vx_base::{ByteRows, IntList, Integer, Mask, PType, Value, VortexResult};
 use vx_values::Ints;
 
-/// The validity of values: bits where some value is null.
+/// The validity of values: bits exactly where some value is null.
 pub fn validity_of(alloc: Global, values: &[Value]) -> VortexResult<Option<Mask>>
     ensures { Answers result (validity (map value_of values.now)) }
 {
@@ -47,7 +47,7 @@ pub fn is_null(value: &Value) -> bool
     matches!(value, Value::Null)
 }
 
-/// The truth value of each, false where there is none.
+/// The truth value of each value, false of null.
 pub fn truths(alloc: Global, values: &[Value]) -> VortexResult<Mask>
     ensures { Answers result (map truth_or_false (map value_of values.now)) }
 {
@@ -58,7 +58,7 @@ pub fn truths(alloc: Global, values: &[Value]) -> VortexResult<Mask>
     Ok(Mask::from_bits(bits))
 }
 
-/// The whole number of each, 0 where there is none, in a type that holds them.
+/// The whole number of each value, 0 of null, in an integer type that holds them all.
 pub fn wholes(alloc: Global, values: &[Value], ptype: PType) -> VortexResult<Ints>
     requires { IsTrue (list_all (lies_in ptype) (map whole_or_zero (map value_of values.now))) }
     ensures { OrMemory result (λ ints. (ptype_of ints ≡ ptype) × (wholes_of ints ≡ map whole_or_zero (map value_of values.now))) }
@@ -75,7 +75,7 @@ pub fn wholes(alloc: Global, values: &[Value], ptype: PType) -> VortexResult<Int
     }
 }
 
-// The same of one type.
+// `wholes` of one integer type.
 #[tactic(auto, using(crate::proofs::ValueLemmas::held))]
 fn integers<T: Integer>(alloc: Global, values: &[Value]) -> VortexResult<IntList<T>>
     requires { IsTrue (list_all (lies_in T.kind) (map whole_or_zero (map value_of values.now))) }
@@ -107,7 +107,7 @@ fn whole(value: &Value) -> i128
     }
 }
 
-/// The bytes of each, none where there are none. They are moved.
+/// The bytes of each value, none of null. They are moved, and want of memory drops them.
 pub fn byte_rows(alloc: Global, values: Vec<Value>) -> VortexResult<ByteRows>
     ensures { Answers result (map bytes_or_empty (map value_of values.items)) }
 {

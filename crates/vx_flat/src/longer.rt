@@ -1,4 +1,4 @@
-//! A flat column with one value more.
+//! A flat column with one value more, as the fill stands behind the patches' values.
 
 ghost use Rattle.std.specs.Prelude.{◌≡◌, ◌+◌, ◌++◌, ◌∷◌, [], IsTrue, true, map};
 ghost use Rattle.vx_flat.specs.Places.{bits_in_rows};
@@ -15,7 +15,8 @@ use std::alloc::Global;
 use vx_base::{ByteRows, Bytes, IntList, Integer, Mask, Scalar, VortexResult};
 use vx_values::{Ints, Values};
 
-/// The values and a scalar's behind them, its type's default where it is null.
+/// The values, then the scalar's, or its type's default where it is null. The values are moved, and want of memory drops
+/// them.
 pub fn values_with(alloc: Global, values: Values, last: &Scalar) -> VortexResult<Values>
     requires flat { IsTrue (is_flat last.now.dtype) }
     requires kind { kind_in values ≡ kind_of last.now.dtype }
@@ -41,7 +42,7 @@ pub fn values_with(alloc: Global, values: Values, last: &Scalar) -> VortexResult
     }
 }
 
-// The integers and one more behind them.
+// The integers, then one more, which their type holds.
 fn integers_with(alloc: Global, ints: &Ints, last: i128) -> VortexResult<Ints>
     requires { IsTrue (lies_in (ptype_of ints.now) last) }
     ensures { OrMemory result (λ all. (ptype_of all ≡ ptype_of ints.now) × (wholes_of all ≡ wholes_of ints.now ++ last ∷ [])) }
@@ -58,7 +59,7 @@ fn integers_with(alloc: Global, ints: &Ints, last: i128) -> VortexResult<Ints>
     }
 }
 
-// The same of a list of one type.
+// `integers_with` of a list of one type.
 fn list_with<T: Integer>(alloc: Global, items: &[T], last: i128) -> VortexResult<IntList<T>>
     requires { IsTrue (lies_in T.kind last) }
     ensures { OrMemory result (λ all. map T.whole all ≡ map T.whole items.now ++ last ∷ []) }
@@ -70,7 +71,7 @@ fn list_with<T: Integer>(alloc: Global, items: &[T], last: i128) -> VortexResult
     Ok(IntList::from_vec(all))
 }
 
-/// The bits of so many rows, true where there are none, and one more behind them.
+/// The validity bits of `len` rows, true in each where there are none, then one more.
 pub fn bits_with(alloc: Global, valid: Option<Mask>, len: u64, last: bool) -> VortexResult<Mask>
     ensures { Answers result (bits_in_rows valid len ++ last ∷ []) }
 {

@@ -1,4 +1,4 @@
-//! The bytes of a value with those within.
+//! The bytes of a value and of the values within.
 
 ghost use Rattle.std.specs.Prelude.{◌≡◌, ◌≤◌, ◌-◌, ◌^◌, min, if◌then◌else◌};
 ghost use Rattle.vx_base.specs.Integers.{bytes_of};
@@ -9,7 +9,8 @@ ghost use Rattle.vx_model.specs.Size.{payload, fields_payload, items_payload};
 
 use vx_base::{DType, Fields, Value, Values};
 
-/// The bytes of a value of a type with those within, none of null, at most the greatest number of 128 bits.
+/// The payload of a value of a type, in bytes: 0 of null, 1 of a truth value, the type's bytes of an integer, 8 of a
+/// timestamp, the length of a text or binary, and the sum over the values within. Saturates at 2^128 - 1.
 #[cycle(payload)]
 pub fn payload_bytes(dtype: &DType, value: &Value) -> u128
     ensures { result ≡ min (payload (type_of dtype.now) (value_of value.now)) (2 ^ 128 - 1) }
@@ -23,7 +24,7 @@ pub fn payload_bytes(dtype: &DType, value: &Value) -> u128
     }
 }
 
-// The bytes of a whole number: those of an integer type, 8 of a timestamp.
+// The bytes of a whole number: the type's, or 8 of a timestamp.
 fn whole_bytes(dtype: &DType) -> u128
     ensures value { result ≡ (if is_integer (type_of dtype.now) then bytes_of (integer_of (type_of dtype.now)) else 8) }
     ensures small { result ≤ 8 }
@@ -35,7 +36,7 @@ fn whole_bytes(dtype: &DType) -> u128
     }
 }
 
-// The bytes of the values within a value.
+// The payload of the values within a value.
 #[cycle(payload)]
 fn bytes_within(dtype: &DType, values: &Values) -> u128
     ensures { result ≡ min (payload (type_of dtype.now) (items (of_list values.now))) (2 ^ 128 - 1) }
@@ -47,7 +48,7 @@ fn bytes_within(dtype: &DType, values: &Values) -> u128
     }
 }
 
-// The bytes of a struct's values, each of its field's type.
+// The payload of a struct's values, each of its field's type.
 #[cycle(payload)]
 fn field_bytes(fields: &Fields, values: &Values) -> u128
     ensures { result ≡ min (fields_payload (of_fields (fields_of fields.now)) (of_list values.now)) (2 ^ 128 - 1) }
@@ -61,7 +62,7 @@ fn field_bytes(fields: &Fields, values: &Values) -> u128
     sum
 }
 
-// The bytes of a list's items.
+// The payload of a list's items.
 #[cycle(payload)]
 fn item_bytes(items: &DType, values: &Values) -> u128
     ensures { result ≡ min (items_payload (type_of items.now) (of_list values.now)) (2 ^ 128 - 1) }

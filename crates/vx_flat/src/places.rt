@@ -1,8 +1,8 @@
-//! The place of each row's value among others, of all rows in one pass.
+//! Where the value of each row stands among the values of runs, for all rows in one pass.
 
 ghost use Rattle.std.specs.List.{list_all};
 ghost use Rattle.std.specs.Prelude.{◌≡◌, ◌≤◌, ◌<◌, ◌-◌, ◌^◌, ◌*◌, ◌+ℤ◌, ◌≤ℤ◌, ℕ, IsTrue, length, map, pos, negsuc};
-ghost use Rattle.vx_flat.specs.RunPlaces.{run_number, block_place, IsWord};
+ghost use Rattle.vx_flat.specs.RunPlaces.{run_of_row, block_place, IsWord};
 ghost use Rattle.vx_base.specs.Answers.{Answers, OrMemory};
 ghost use Rattle.vx_base.specs.Packed.{block_count};
 ghost use Rattle.vx_base.specs.PlainValue.{int};
@@ -11,22 +11,24 @@ ghost use Rattle.vx_model.specs.Rows.{below, block_rows, offset_at};
 ghost use Rattle.vx_model.specs.WellFormed.{ascend, is_place};
 ghost use Rattle.vx_values.specs.IntsOf.{ptype_of, wholes_of};
 
+use crate::by_type::with_ints;
 use std::alloc::Global;
 use vx_base::{IntList, Integer, VortexResult, Words};
+use vx_blocks::BLOCK_ROWS;
 use vx_values::Ints;
 
-/// Of runs by their ends: the number of each row's run. A run is written at once.
+/// The number of each row's run, of runs by their ends. Each run is filled in at once.
 pub fn run_places(alloc: Global, ends: &Ints) -> VortexResult<Ints>
     requires { IsTrue (ascend 1 (2 ^ 64) (map int (wholes_of ends.now))) }
-    ensures { let ends = map int (wholes_of ends.now) in OrMemory result (λ places. (ptype_of places ≡ U64) × (wholes_of places ≡ map pos (below (run_number ends) (offset_at ends (length ends - 1))))) }
+    ensures { let ends = map int (wholes_of ends.now) in OrMemory result (λ places. (ptype_of places ≡ U64) × (wholes_of places ≡ map pos (below (run_of_row ends) (offset_at ends (length ends - 1))))) }
 {
     Ok(Ints::U64(run_numbers(alloc, ends)?))
 }
 
-// The same as words.
+// `run_places` as words.
 fn run_numbers(alloc: Global, ends: &Ints) -> VortexResult<Words>
     requires { IsTrue (ascend 1 (2 ^ 64) (map int (wholes_of ends.now))) }
-    ensures { let ends = map int (wholes_of ends.now) in Answers result (below (run_number ends) (offset_at ends (length ends - 1))) }
+    ensures { let ends = map int (wholes_of ends.now) in Answers result (below (run_of_row ends) (offset_at ends (length ends - 1))) }
 {
     let mut numbers = Vec::new(alloc);
     for run in 0..ends.len() {
@@ -35,7 +37,7 @@ fn run_numbers(alloc: Global, ends: &Ints) -> VortexResult<Words>
     Ok(Words::from_vec(numbers))
 }
 
-// The row after a run's last.
+// The end of a run, exclusive: the row after its last.
 fn end_at(ends: &Ints, run: u64) -> usize
     requires rising { IsTrue (ascend 1 (2 ^ 64) (map int (wholes_of ends.now))) }
     requires in_range { run < length (wholes_of ends.now) }
@@ -44,7 +46,7 @@ fn end_at(ends: &Ints, run: u64) -> usize
     ends.whole_at(run) as usize
 }
 
-/// Of blocks of runs: the sum of each row's number and of the offset of its block.
+/// `offsets[row / 1024] + indices[row]` in each row, of runs in blocks: the place of the row's value.
 pub fn block_places(alloc: Global, indices: &Ints, offsets: &Ints, len: u64) -> VortexResult<Ints>
     requires enough { length (wholes_of indices.now) ≡ block_rows * block_count len }
     requires begins { length (wholes_of offsets.now) ≡ block_count len }
@@ -53,20 +55,11 @@ pub fn block_places(alloc: Global, indices: &Ints, offsets: &Ints, len: u64) -> 
 {
     let offsets = wholes(alloc, offsets)?;
     let begins = offsets.as_slice();
-    let places = match indices {
-        Ints::U8(items) => sums(alloc, items.as_slice(), begins, len)?,
-        Ints::U16(items) => sums(alloc, items.as_slice(), begins, len)?,
-        Ints::U32(items) => sums(alloc, items.as_slice(), begins, len)?,
-        Ints::U64(items) => sums(alloc, items.as_slice(), begins, len)?,
-        Ints::I8(items) => sums(alloc, items.as_slice(), begins, len)?,
-        Ints::I16(items) => sums(alloc, items.as_slice(), begins, len)?,
-        Ints::I32(items) => sums(alloc, items.as_slice(), begins, len)?,
-        Ints::I64(items) => sums(alloc, items.as_slice(), begins, len)?,
-    };
+    let places = with_ints!(indices, items => sums(alloc, items.as_slice(), begins, len)?);
     Ok(Ints::U64(places))
 }
 
-// The whole numbers of a short list.
+// The whole numbers of a list. The list is short, one number a block, so 16 bytes each cost little.
 fn wholes(alloc: Global, ints: &Ints) -> VortexResult<Vec<i128>>
     ensures { OrMemory result (λ wholes. wholes.items ≡ wholes_of ints.now) }
 {
@@ -77,7 +70,7 @@ fn wholes(alloc: Global, ints: &Ints) -> VortexResult<Vec<i128>>
     Ok(wholes)
 }
 
-// Each of so many numbers and the one of its block, summed.
+// `block_places` over indices of one type.
 fn sums<T: Integer>(
     alloc: Global,
     indices: &[T],
@@ -91,12 +84,12 @@ fn sums<T: Integer>(
 {
     let mut places = Vec::with_capacity(alloc, len as usize)?;
     for row in 0..len as usize {
-        places.push(place(offsets[row / 1024], indices[row].to_whole()))?;
+        places.push(place(offsets[row / BLOCK_ROWS], indices[row].to_whole()))?;
     }
     Ok(IntList::from_vec(places))
 }
 
-// The sum of an offset and a number behind it.
+// `offset + index`, which the caller knows to be a place.
 fn place(offset: i128, index: i128) -> u64
     requires { IsWord (offset +ℤ index) }
     ensures { pos result ≡ offset +ℤ index }
@@ -105,7 +98,8 @@ fn place(offset: i128, index: i128) -> u64
     sum as u64
 }
 
-/// Of blocks of runs: whether each sum of a row's number and of the offset of its block is a place among so many values.
+/// Whether `offset + index` is in bounds of `values` values in every row, of runs in blocks. Indices behind the last row
+/// are not tested.
 pub fn sums_are_places(
     alloc: Global,
     values: u64,
@@ -119,20 +113,10 @@ pub fn sums_are_places(
 {
     let offsets = wholes(alloc, offsets)?;
     let begins = offsets.as_slice();
-    let held = match indices {
-        Ints::U8(items) => are_places(values, items.as_slice(), begins, len),
-        Ints::U16(items) => are_places(values, items.as_slice(), begins, len),
-        Ints::U32(items) => are_places(values, items.as_slice(), begins, len),
-        Ints::U64(items) => are_places(values, items.as_slice(), begins, len),
-        Ints::I8(items) => are_places(values, items.as_slice(), begins, len),
-        Ints::I16(items) => are_places(values, items.as_slice(), begins, len),
-        Ints::I32(items) => are_places(values, items.as_slice(), begins, len),
-        Ints::I64(items) => are_places(values, items.as_slice(), begins, len),
-    };
-    Ok(held)
+    Ok(with_ints!(indices, items => are_places(values, items.as_slice(), begins, len)))
 }
 
-// The same of numbers of one type.
+// `sums_are_places` over indices of one type.
 #[tactic(auto, using(crate::proofs::RunPlaces::sum_places))]
 fn are_places<T: Integer>(values: u64, indices: &[T], offsets: &[i128], len: u64) -> bool
     requires enough { length indices.now ≡ block_rows * block_count len }
@@ -140,14 +124,14 @@ fn are_places<T: Integer>(values: u64, indices: &[T], offsets: &[i128], len: u64
     ensures { result ≡ list_all (is_place values) (below (λ i. int (block_place offsets.now (map T.whole indices.now) i)) len) }
 {
     for row in 0..len as usize {
-        if !is_sum_place(offsets[row / 1024], indices[row].to_whole(), values) {
+        if !is_sum_place(offsets[row / BLOCK_ROWS], indices[row].to_whole(), values) {
             return false;
         }
     }
     true
 }
 
-// Whether the sum of any offset and a number behind it is a place among so many values.
+// Whether `0 <= offset + index < values`, where the sum itself could need more than 128 bits.
 fn is_sum_place(offset: i128, index: i128, values: u64) -> bool
     requires least { negsuc (2 ^ 63 - 1) ≤ℤ index }
     requires most { index ≤ℤ pos (2 ^ 64 - 1) }

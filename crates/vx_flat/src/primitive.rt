@@ -1,4 +1,4 @@
-//! Integers with validity: what is refused, a row, the bytes, decoding.
+//! Integers with validity: refusals, a row, bytes, decoding.
 
 ghost use Rattle.std.specs.Prelude.{◌≡◌, ◌<◌, length, None, slice_index_or, map, pos, true, if◌then◌else◌, ◌+◌, ◌*◌};
 ghost use Rattle.vx_base.specs.Answers.{OrMemory};
@@ -18,8 +18,8 @@ use std::alloc::Global;
 use vx_base::{Cell, Mask, Nullability, VortexError, VortexResult};
 use vx_values::{Decoded, Ints, Values, copy_validity, has_length, is_allowed, is_valid};
 
-/// Why a node of so many values isn't made with this validity: LengthMismatch where it hasn't a bit a row, then
-/// MismatchedTypes where it has a false and the type no null.
+/// The refusal of `len` values with this validity: LengthMismatch where there are bits and not `len` of them, then
+/// MismatchedTypes where one is false and the type is non-nullable.
 pub fn flat_refusal(len: u64, valid: &Option<Mask>, nullability: Nullability) -> Option<VortexError>
     ensures { result ≡ primitive_refusal len valid.now nullability }
 {
@@ -44,7 +44,7 @@ pub fn primitive_at(values: &Ints, valid: &Option<Mask>, row: u64) -> Cell<'stat
     }
 }
 
-/// The bytes of integers: those of the type for each, and a bit a row for validity.
+/// The bytes of integers: the type's for each, and `ceil(rows / 8)` where there are validity bits.
 pub fn primitive_bytes(values: &Ints, valid: &Option<Mask>) -> u128
     ensures { result ≡ length (wholes_of values.now) * bytes_of (ptype_of values.now) + validity_size valid.now }
 {
@@ -62,11 +62,11 @@ pub fn decoded_primitive(
     ensures { OrMemory result (AreRows (ints (ptype_of values.now)) (map int (zeroed_by (pos 0) valid.now (wholes_of values.now))) valid.now) }
 {
     let values = Values::Ints(values.decoded(alloc, valid)?);
-    let valid = copy_validity(valid, alloc)?;
+    let valid = copy_validity(alloc, valid)?;
     Ok(Decoded { values, valid })
 }
 
-/// Whether each integer whose row isn't valid is 0.
+/// Whether 0 stands beneath each null, as in a plain tree.
 pub fn is_zero_beneath(values: &Ints, valid: &Option<Mask>) -> bool
     requires { validity_length valid.now (length (wholes_of values.now)) ≡ true }
     ensures { result ≡ zero_beneath_by is_zero valid.now (wholes_of values.now) }

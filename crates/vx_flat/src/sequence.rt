@@ -1,4 +1,4 @@
-//! Numbers by one step: which are held, a row, decoding.
+//! Arithmetic sequences: which fit their type, a row, decoding.
 
 ghost use Rattle.std.specs.Prelude.{◌≡◌, ◌<◌, ◌-◌, ◌&&◌, ◌||◌, ◌==◌, ◌+ℤ◌, ◌*ℤ◌, IsTrue, None, map, pos};
 ghost use Rattle.vx_base.specs.Answers.{OrMemory};
@@ -15,21 +15,21 @@ use std::alloc::Global;
 use vx_base::{Cell, PType, VortexResult};
 use vx_values::{Decoded, Ints, Values};
 
-/// Whether the first and the last row are numbers of the type, where there are rows.
+/// Whether the first and the last row lie in the type, where there are rows. All rows between then do.
 pub fn are_held(ptype: PType, first: i128, step: i128, len: u64) -> bool
     ensures { result ≡ (len == 0 || lies_in ptype first && lies_in ptype (first +ℤ pos (len - 1) *ℤ step)) }
 {
     len == 0 || is_held(ptype, first) && is_held_behind(ptype, first, step, len - 1)
 }
 
-/// Whether a number is one of the type.
+/// Whether a whole number lies in the type.
 pub fn is_held(ptype: PType, whole: i128) -> bool
     ensures { result ≡ lies_in ptype whole }
 {
     whole >= ptype.least() && whole <= ptype.greatest()
 }
 
-// Whether the number so many steps behind the first is one of the type. It isn't where it needs more than 128 bits.
+// Whether `first + steps * step` lies in the type. A sum that needs more than 128 bits doesn't.
 fn is_held_behind(ptype: PType, first: i128, step: i128, steps: u64) -> bool
     requires { IsTrue (lies_in ptype first) }
     ensures { result ≡ lies_in ptype (first +ℤ pos steps *ℤ step) }
@@ -43,7 +43,7 @@ fn is_held_behind(ptype: PType, first: i128, step: i128, steps: u64) -> bool
     }
 }
 
-/// The number in a row of a sequence.
+/// `first + row * step`.
 pub fn sequence_at(ptype: PType, first: i128, step: i128, len: u64, row: u64) -> Cell<'static>
     requires sequence { IsSequence ptype first step len }
     requires in_range { row < len }
@@ -52,7 +52,7 @@ pub fn sequence_at(ptype: PType, first: i128, step: i128, len: u64, row: u64) ->
     Cell::Int(number_at(ptype, first, step, len, row))
 }
 
-// The same as a number, which is one of the type.
+// `sequence_at` as a number, which lies in the type.
 fn number_at(ptype: PType, first: i128, step: i128, len: u64, row: u64) -> i128
     requires sequence { IsSequence ptype first step len }
     requires in_range { row < len }

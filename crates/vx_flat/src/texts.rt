@@ -1,4 +1,4 @@
-//! When bytes are a row of a type of texts or binaries.
+//! Which bytes are texts or binaries of a type.
 
 ghost use Rattle.std.specs.Prelude.{◌≡◌, IsTrue};
 ghost use Rattle.vx_base.specs.CellValue.{cell_value};
@@ -8,8 +8,7 @@ ghost use Rattle.vx_base.specs.TypeOf.{type_of};
 
 use vx_base::{Cell, DType, is_short, is_text};
 
-/// Whether a row is one of a type of texts or binaries: null of a nullable one, else fewer than 2^32 bytes, and of texts
-/// what is UTF-8.
+/// Whether a row fits a type of texts or binaries: null of a nullable one, fewer than 2^32 bytes, and of texts UTF-8.
 pub fn fits(dtype: &DType, row: Cell<'_>) -> bool
     requires { IsTrue (is_bytes (type_of dtype.now)) }
     ensures { result ≡ fits (type_of dtype.now) (cell_value row.entry) }

@@ -1,4 +1,4 @@
-//! Timestamps over whole numbers: the types that they stand over.
+//! Timestamps: the types of their storage.
 
 ghost use Rattle.std.specs.Prelude.{◌≡◌};
 ghost use Rattle.vx_base.specs.PlainType as types;
@@ -8,7 +8,7 @@ ghost use Rattle.vx_base.specs.declared.ptype.PType.TheVariants.{I64};
 
 use vx_base::{DType, PType};
 
-/// Whether timestamps may stand over the type.
+/// Whether the type is `i64`, nullable or not, the storage of timestamps of every kind.
 pub fn is_storage(dtype: &DType) -> bool
     ensures { result ≡ same_type (type_of dtype.now) (types.primitive I64 (nullability_of (type_of dtype.now))) }
 {

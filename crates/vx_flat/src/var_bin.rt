@@ -1,4 +1,4 @@
-//! Texts and binaries by their offsets into bytes: one of them, the bytes, decoding.
+//! Texts and binaries by offsets into one run of bytes: a value, bytes, decoding.
 
 ghost use Rattle.std.specs.Prelude.{◌≡◌, ◌<◌, ◌≤◌, ◌+◌, ◌-◌, ◌^◌, IsTrue, length, map, min, true, []};
 ghost use Rattle.vx_base.specs.Answers.{OrMemory};
@@ -18,7 +18,7 @@ use std::alloc::Global;
 use vx_base::{Bytes, Mask, VortexResult};
 use vx_values::{Decoded, Ints, Values, byte_rows, copy_validity};
 
-/// The bytes from a start to the one before an end.
+/// `bytes[start..end]`.
 pub fn part(bytes: &[u8], start: u128, end: u128) -> &[u8]
     requires rising { start ≤ end }
     requires within { end ≤ length bytes.now }
@@ -27,7 +27,7 @@ pub fn part(bytes: &[u8], start: u128, end: u128) -> &[u8]
     &bytes[start as usize..end as usize]
 }
 
-/// The bytes of texts or binaries over offsets by those of the offsets, at most the greatest number of 128 bits.
+/// The bytes of texts or binaries by offsets: the offsets' own, one a byte, and validity. Saturates at 2^128 - 1.
 pub fn var_bin_bytes(offsets: u128, bytes: &Bytes, valid: &Option<Mask>) -> u128
     ensures { result ≡ min (offsets + length bytes.now + validity_size valid.now) (2 ^ 128 - 1) }
 {
@@ -35,7 +35,7 @@ pub fn var_bin_bytes(offsets: u128, bytes: &Bytes, valid: &Option<Mask>) -> u128
     offsets.saturating_add(own)
 }
 
-/// The bytes between the offsets, none where `valid` is false.
+/// `bytes[offsets[row]..offsets[row + 1]]` in each row, no bytes beneath nulls, and the validity.
 pub fn decoded_var_bin(
     alloc: Global,
     offsets: &Ints,
@@ -48,7 +48,7 @@ pub fn decoded_var_bin(
     ensures { OrMemory result (AreRows byte_rows (map plain.bytes (zeroed_by [] valid.now (cut_at (map int (wholes_of offsets.now)) bytes.now))) valid.now) }
 {
     let rows = byte_rows::cut(alloc, bytes.as_slice(), offsets, valid)?;
-    let valid = copy_validity(valid, alloc)?;
+    let valid = copy_validity(alloc, valid)?;
     Ok(Decoded {
         values: Values::Bytes(rows),
         valid,

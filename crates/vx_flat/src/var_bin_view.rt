@@ -1,4 +1,4 @@
-//! Texts and binaries with validity: what is refused, a row, the bytes, decoding.
+//! Texts and binaries with validity: refusals, a row, bytes, decoding.
 
 ghost use Rattle.std.specs.List.{list_all};
 ghost use Rattle.std.specs.Prelude.{◌≡◌, ◌<◌, ◌+◌, ◌-◌, ◌*◌, ◌^◌, IsTrue, None, length, map, min, slice_index_or, sum_by, true, [], if◌then◌else◌};
@@ -20,9 +20,9 @@ use std::alloc::Global;
 use vx_base::{ByteRows, Bytes, Cell, DType, Mask, VortexError, VortexResult};
 use vx_values::{Decoded, Values, byte_rows, copy_validity, has_length, is_allowed, is_valid};
 
-/// Why a node of texts or binaries isn't made of these: MismatchedTypes of another type; then LengthMismatch where the
-/// mask hasn't a bit a row; then ValueTooLong; then MismatchedTypes where the mask has a false and the type no null, or a
-/// valid row of texts isn't UTF-8.
+/// The refusal of these as texts or binaries: MismatchedTypes of any other type; then LengthMismatch where there are
+/// validity bits and not one a row; then ValueTooLong where a value, valid or not, has 2^32 bytes or more; then
+/// MismatchedTypes where a bit is false and the type non-nullable, or a valid row of texts isn't UTF-8.
 pub fn view_refusal(values: &ByteRows, valid: &Option<Mask>, dtype: &DType) -> Option<VortexError>
     ensures { result ≡ var_bin_view_refusal values.now valid.now (type_of dtype.now) }
 {
@@ -41,7 +41,7 @@ pub fn view_refusal(values: &ByteRows, valid: &Option<Mask>, dtype: &DType) -> O
     None
 }
 
-// Whether each row is one of the type.
+// Whether each row fits the type. Beneath nulls any bytes may stand.
 fn are_values(values: &ByteRows, valid: &Option<Mask>, dtype: &DType) -> bool
     requires bytes { IsTrue (is_bytes (type_of dtype.now)) }
     requires lengths { validity_length valid.now (length values.now) ≡ true }
@@ -67,14 +67,14 @@ pub fn view_at<'a>(values: &'a ByteRows, valid: &Option<Mask>, row: u64) -> Cell
     }
 }
 
-// What stands beside the 16 bytes of a value: its bytes, where they are more than 12.
+// The bytes of a value beside its 16-byte view. Up to 12 bytes stand in the view itself.
 fn long_bytes(bytes: &Bytes) -> u64
     ensures { result ≡ long_bytes bytes.now }
 {
     if bytes.len() <= 12 { 0 } else { bytes.len() }
 }
 
-// The same of all values together.
+// `long_bytes` of all values together. Saturates at 2^128 - 1.
 fn all_long_bytes(values: &[Bytes]) -> u128
     ensures { result ≡ min (sum_by long_bytes values.now) (2 ^ 128 - 1) }
 {
@@ -85,8 +85,8 @@ fn all_long_bytes(values: &[Bytes]) -> u128
     all
 }
 
-/// The bytes of texts or binaries: 16 a row, those of each value of more than 12, and a bit a row for validity; at most
-/// the greatest number of 128 bits.
+/// The bytes of texts or binaries as views: 16 a row, the bytes of each value longer than 12, and validity. Saturates at
+/// 2^128 - 1.
 pub fn view_bytes(values: &ByteRows, valid: &Option<Mask>) -> u128
     ensures { result ≡ min (16 * length values.now + sum_by long_bytes values.now + validity_size valid.now) (2 ^ 128 - 1) }
 {
@@ -94,17 +94,17 @@ pub fn view_bytes(values: &ByteRows, valid: &Option<Mask>) -> u128
     own.saturating_add(all_long_bytes(values.as_slice()))
 }
 
-/// The rows, without bytes beneath nulls, and their validity.
+/// The rows, no bytes beneath nulls, and their validity.
 pub fn decoded_view(alloc: Global, values: &ByteRows, valid: &Option<Mask>) -> VortexResult<Decoded>
     requires { validity_length valid.now (length values.now) ≡ true }
     ensures { OrMemory result (AreRows byte_rows (map bytes (zeroed_by [] valid.now values.now)) valid.now) }
 {
     let values = Values::Bytes(byte_rows::decoded(alloc, values, valid)?);
-    let valid = copy_validity(valid, alloc)?;
+    let valid = copy_validity(alloc, valid)?;
     Ok(Decoded { values, valid })
 }
 
-/// Whether each value whose row isn't valid is empty.
+/// Whether no bytes stand beneath each null, as in a plain tree.
 pub fn is_empty_beneath(values: &ByteRows, valid: &Option<Mask>) -> bool
     requires { validity_length valid.now (length values.now) ≡ true }
     ensures { result ≡ zero_beneath_by is_empty valid.now values.now }

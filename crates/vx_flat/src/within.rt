@@ -1,4 +1,4 @@
-//! The values of the columns within, out of those of structs and lists.
+//! The values of nested columns, out of those of structs and lists.
 
 ghost use Rattle.std.specs.Prelude.{◌≡◌, ◌++◌, [], OnOk, IfErr, length, map, replicate};
 ghost use Rattle.std.specs.Vec.Iter.{into_iter_items};
@@ -18,7 +18,8 @@ use std::alloc::Global;
 use std::vec::IntoIter;
 use vx_base::{DType, Fields, Scalar, Value, Values, VortexResult};
 
-/// The values of each field of structs, a column for each field; of a null struct those of the default.
+/// One column of values for each field of structs; a null struct has its fields' defaults. The values are moved, and want of
+/// memory drops them.
 pub fn field_columns(
     alloc: Global,
     fields: &Fields,
@@ -33,7 +34,7 @@ pub fn field_columns(
     Ok(columns)
 }
 
-// So many columns without a value, each with room for so many.
+// `count` empty columns, each with room for `len` values.
 fn empty_columns(alloc: Global, count: u64, len: usize) -> VortexResult<Vec<Vec<Value>>>
     ensures { OrMemory result (λ columns. map (λ column. map value_of column.items) columns.items ≡ replicate count []) }
 {
@@ -44,7 +45,7 @@ fn empty_columns(alloc: Global, count: u64, len: usize) -> VortexResult<Vec<Vec<
     Ok(columns)
 }
 
-// Adds the values of a row, one to each column, null where it has none.
+// Adds a row, one value to each column, null where the row has fewer values than there are columns.
 fn push_row(columns: &mut Vec<Vec<Value>>, row: Vec<Value>) -> VortexResult<()>
     ensures ok { OnOk result (map (λ column. map value_of column.items) columns.new.items ≡ with_row (map (λ column. map value_of column.items) columns.old.items) (of_list (map value_of row.items))) }
     ensures err { IfErr result (λ e. e ≡ NoMemory) }
@@ -56,7 +57,7 @@ fn push_row(columns: &mut Vec<Vec<Value>>, row: Vec<Value>) -> VortexResult<()>
     Ok(())
 }
 
-// The next of some values, null where there is none.
+// The next value, null where there is none.
 fn next_or_null(values: &mut IntoIter<Value>) -> Value
     ensures first { value_of result ≡ first_within (of_list (map value_of (into_iter_items values.old))) }
     ensures rest { of_list (map value_of (into_iter_items values.new)) ≡ rest_within (of_list (map value_of (into_iter_items values.old))) }
@@ -67,7 +68,7 @@ fn next_or_null(values: &mut IntoIter<Value>) -> Value
     }
 }
 
-// The values of one struct's fields.
+// The values of one struct's fields, the defaults of null.
 fn field_row(alloc: Global, fields: &Fields, value: Value) -> VortexResult<Vec<Value>>
     ensures { OrMemory result (λ row. of_list (map value_of row.items) ≡ within (or_default (items (field_defaults (of_fields (fields_of fields.now)))) (value_of value))) }
 {
@@ -77,7 +78,7 @@ fn field_row(alloc: Global, fields: &Fields, value: Value) -> VortexResult<Vec<V
     Ok(value.into_values(alloc).into_vec())
 }
 
-// A default for each field.
+// Each field's default.
 fn default_row(alloc: Global, fields: &Fields) -> VortexResult<Vec<Value>>
     ensures { OrMemory result (λ row. of_list (map value_of row.items) ≡ field_defaults (of_fields (fields_of fields.now))) }
 {
@@ -88,7 +89,7 @@ fn default_row(alloc: Global, fields: &Fields) -> VortexResult<Vec<Value>>
     Ok(values)
 }
 
-// What stands where a type's column has no value.
+// What stands beneath a null in a column of this type: null where the type is nullable, else its default.
 fn default_value(alloc: Global, dtype: &DType) -> VortexResult<Value>
     ensures { OrMemory result (λ value. value_of value ≡ null_or_default (type_of dtype.now)) }
 {
@@ -96,7 +97,8 @@ fn default_value(alloc: Global, dtype: &DType) -> VortexResult<Value>
     scalar.value().copy(alloc)
 }
 
-/// The items of all lists, one list after the other, and the offsets between them. A null list has none.
+/// All lists' items, concatenated, and the offsets between the lists; a null list has no items. The values are moved, and
+/// want of memory drops them.
 pub fn list_items(alloc: Global, values: Vec<Value>) -> VortexResult<(Vec<Value>, Vec<u64>)>
     ensures { OrMemory result (λ parts. (map value_of parts.0.items ≡ elements (map value_of values.items)) × (parts.1.items ≡ offsets_of (list_rows (map value_of values.items)))) }
 {
@@ -110,7 +112,8 @@ pub fn list_items(alloc: Global, values: Vec<Value>) -> VortexResult<(Vec<Value>
     Ok((items, offsets))
 }
 
-/// Lists of one size. In place of each that is null stands one of as many defaults.
+/// Fixed-size lists, with a list of `size` defaults in place of each null. The values are moved, and want of memory drops
+/// them.
 pub fn filled_lists(
     alloc: Global,
     dtype: &DType,
@@ -126,7 +129,7 @@ pub fn filled_lists(
     Ok(lists)
 }
 
-// A list, or in place of null one of so many defaults.
+// A list, or `size` defaults in place of null.
 fn list_or_default(alloc: Global, dtype: &DType, size: u32, value: Value) -> VortexResult<Value>
     ensures { OrMemory result (λ list. value_of list ≡ or_default (default_of (fixed_size_list (type_of dtype.now) size NonNullable)) (value_of value)) }
 {
@@ -136,7 +139,7 @@ fn list_or_default(alloc: Global, dtype: &DType, size: u32, value: Value) -> Vor
     Ok(value)
 }
 
-// A list of so many defaults.
+// A list of `size` defaults.
 fn default_list(alloc: Global, dtype: &DType, size: u32) -> VortexResult<Value>
     ensures { OrMemory result (λ list. value_of list ≡ default_of (fixed_size_list (type_of dtype.now) size NonNullable)) }
 {
@@ -145,7 +148,7 @@ fn default_list(alloc: Global, dtype: &DType, size: u32) -> VortexResult<Value>
     Ok(Value::List(Values::from_vec(items)))
 }
 
-// Adds the values within a value.
+// Moves the values within a value to the end of `items`.
 fn push_items(alloc: Global, items: &mut Vec<Value>, value: Value) -> VortexResult<()>
     ensures ok { OnOk result (map value_of items.new.items ≡ map value_of items.old.items ++ items_or_empty (value_of value)) }
     ensures err { IfErr result (λ e. e ≡ NoMemory) }
@@ -156,7 +159,7 @@ fn push_items(alloc: Global, items: &mut Vec<Value>, value: Value) -> VortexResu
     Ok(())
 }
 
-// Adds so many defaults.
+// Adds `size` defaults.
 fn push_defaults(
     alloc: Global,
     items: &mut Vec<Value>,

@@ -18,7 +18,7 @@ use vx_base::{Cell, Mask, VortexResult};
 use vx_blocks::unzigzag;
 use vx_values::{Decoded, Ints, Values};
 
-/// The row whose zigzag is given, null where it is null.
+/// The integer whose zigzag is given, null of null.
 pub fn unzigzagged_at(word: Cell<'_>) -> Cell<'static>
     requires { IsTrue (fits (types.primitive U64 Nullable) (cell_value word)) }
     ensures { cell_value result ≡ unzigzagged (cell_value word.entry) }
@@ -29,7 +29,7 @@ pub fn unzigzagged_at(word: Cell<'_>) -> Cell<'static>
     }
 }
 
-/// The integers whose zigzag each row is, with its validity.
+/// The integers whose zigzags are given, in the signed type of the width. The validity is the zigzags'.
 pub fn decoded_zig_zag(alloc: Global, zigzags: Ints, valid: Option<Mask>) -> VortexResult<Decoded>
     requires { not (is_signed (ptype_of zigzags)) ≡ true }
     ensures { OrMemory result (AreRows (ints (signed_of (ptype_of zigzags))) (map int (map unzigzagged_whole (wholes_of zigzags))) valid) }

@@ -1,4 +1,4 @@
-//! What a type has by a trait, called through its bound.
+//! Trait impls, called through a bound.
 
 ghost use Rattle.std.specs.Prelude.{◌≡◌, ◌<◌};
 
@@ -53,7 +53,7 @@ fn integers_are_whole_numbers(rt: HostRuntime) {
     assert!(rt; lies_in::<i64>(-9223372036854775808) && !lies_in::<i64>(9223372036854775808));
 }
 
-// Counts twice, and answers how many bytes the counter takes.
+// Counts twice, and returns the size of the counter.
 fn two_ticks<L: Ledger>(blank: Blank) -> usize
     requires name { blank.name ≡ L.name }
     requires parts { blank.parts ≡ L.parts }

@@ -1,4 +1,5 @@
-//! Runs, sequences and deltas of lists of integers, once each. A list is let go before the one way out of a test.
+//! Runs, sequences and deltas of lists of integers, once each. A list is dropped before the only exit of a test, since each exit
+//! that drops one is proved by itself.
 
 ghost use Rattle.std.specs.Prelude.{◌≡◌, length};
 ghost use Rattle.vx_base.specs.Answers.{OrMemory};
@@ -12,7 +13,7 @@ use vx_base::{IntList, Mask, VortexResult};
 use vx_blocks::BlockRuns;
 use vx_values::Ints;
 
-// Whether a block of 1,024 rows has this one first, this one behind it, and this one in each row that is left.
+// Whether a block of 1,024 rows is `first`, `second`, and `others` in the remaining rows.
 fn is_block(rows: &Ints, first: i128, second: i128, others: i128) -> bool {
     if rows.len() != 1024 || rows.whole_at(0) != first || rows.whole_at(1) != second {
         return false;
@@ -25,7 +26,7 @@ fn is_block(rows: &Ints, first: i128, second: i128, others: i128) -> bool {
     true
 }
 
-// 5 twice, two nulls and 5 again.
+// 5, 5, null, null, 5.
 fn fives(alloc: Global) -> VortexResult<(Ints, Mask)>
     ensures { OrMemory result (λ made. length made.1 ≡ length (wholes_of made.0)) }
 {
@@ -42,7 +43,7 @@ fn runs_end(rt: HostRuntime) -> Result<(), Fail> {
     Ok(())
 }
 
-// Whether runs in one block have these heads, and row 3 is in the second.
+// Whether the runs of one block have these heads, and row 3 is in the second one.
 fn begin_at(made: &BlockRuns, heads: &[u64]) -> bool {
     made.heads.as_slice() == heads
         && made.offsets.as_slice() == [0].as_slice()
@@ -86,7 +87,7 @@ fn sequences_are_made(rt: HostRuntime) -> Result<(), Fail> {
     Ok(())
 }
 
-// Whether a column became one base and one block of deltas.
+// Whether these are the base 5 and a block of the deltas 0, 2, 0, .., 0.
 fn are_deltas(made: VortexResult<(Ints, Ints)>) -> VortexResult<bool> {
     let (bases, deltas) = made?;
     Ok(are_wholes(&bases, I32, &[5]) && is_block(&deltas, 0, 2, 0))
@@ -102,7 +103,7 @@ fn deltas_are_made(rt: HostRuntime) -> Result<(), Fail> {
     Ok(())
 }
 
-// Whether one base and a block of deltas become the rows.
+// Whether they decode to 5, 7, .., 7.
 fn are_rows(alloc: Global, bases: &Ints, deltas: &Ints) -> VortexResult<bool> {
     if bases.len() != 1 || deltas.len() != 1024 || deltas.ptype() != bases.ptype() {
         return Ok(false);

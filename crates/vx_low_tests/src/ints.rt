@@ -1,11 +1,12 @@
-//! The kernels of lists of integers that no tree calls, once each. A list is let go before the one way out of a test.
+//! Kernels of lists of integers that no test of trees reaches, once each. A list is dropped before the only exit of a test, since
+//! each exit that drops one is proved by itself.
 
 use std::test::Fail;
 use vx_base::PType::{self, I16, U8, U16};
 use vx_base::{IntList, Mask, VortexResult};
 use vx_values::Ints;
 
-// Whether the integers are these and of this type.
+// Whether a list has this type and these integers.
 pub(crate) fn are_wholes(values: &Ints, ptype: PType, wholes: &[i128]) -> bool {
     if values.ptype() != ptype || values.len() != wholes.len() as u64 {
         return false;
@@ -18,7 +19,7 @@ pub(crate) fn are_wholes(values: &Ints, ptype: PType, wholes: &[i128]) -> bool {
     true
 }
 
-// The same of integers that are made.
+// `are_wholes` of a call's result.
 pub(crate) fn shows(made: VortexResult<Ints>, ptype: PType, wholes: &[i128]) -> VortexResult<bool> {
     Ok(are_wholes(&made?, ptype, wholes))
 }

@@ -1,4 +1,4 @@
-//! Masks, lists and texts: each call that takes memory once.
+//! Masks, lists and texts: each call that allocates, once.
 
 use std::test::Fail;
 use vx_base::{Bytes, Mask, Text, Words};

@@ -1,4 +1,4 @@
-//! Rows at a width in bits, packed and read back.
+//! Rows packed and unpacked.
 
 ghost use Rattle.std.specs.Prelude.{◌≡◌, ◌≤◌, length, vec_len, IfOk};
 
@@ -36,7 +36,7 @@ fn nulls_and_wider_rows_are_zero(rt: HostRuntime) -> Result<(), Fail> {
     Ok(())
 }
 
-// Whether `unpack` reads what was packed, each row by row too, from `start` on.
+// Whether `unpack` and `get` read back what was packed, from row `start` on.
 #[tactic(auto, using(vx_base::proofs::PackedLemmas::packed_size_le))]
 fn reads_back(alloc: Global, values: &[u64], width: u32, start: u64) -> Result<bool, Fail>
     requires width { width ≤ 64 }
@@ -58,7 +58,7 @@ fn reads_back(alloc: Global, values: &[u64], width: u32, start: u64) -> Result<b
     Ok(true)
 }
 
-// Numbers without a pattern, all of them below 2 to the width but one.
+// Pseudo-random numbers of `width` bits, by a linear congruential generator.
 fn numbers(alloc: Global, rows: usize, width: u32) -> Result<Vec<u64>, AllocError>
     requires { width ≤ 64 }
     ensures { IfOk result (λ values. vec_len values ≡ rows) }

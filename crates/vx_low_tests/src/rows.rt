@@ -1,4 +1,4 @@
-//! Runs, sequences and deltas of a few rows, and of rows in two blocks.
+//! Runs, sequences and deltas of a few rows, and of rows in several blocks.
 
 ghost use Rattle.std.specs.Prelude.{◌≡◌, length, vec_len, IfOk};
 
@@ -15,7 +15,7 @@ fn all_valid(alloc: Global, rows: usize) -> Result<Mask, AllocError>
     Ok(Mask::from_bits(vec![in alloc; true; rows]?))
 }
 
-// Rows that rise by 40 and then fall by 240, which leaves the signed numbers of a byte.
+// 0, 40, .., 240, and again: the falls of 240 wrap in a u8.
 fn waves(alloc: Global, rows: usize) -> Result<Vec<u8>, AllocError>
     ensures { IfOk result (λ values. vec_len values ≡ rows) }
 {
@@ -26,7 +26,7 @@ fn waves(alloc: Global, rows: usize) -> Result<Vec<u8>, AllocError>
     Ok(values)
 }
 
-// Whether runs in blocks have these heads and offsets, and numbers for so many rows that begin so.
+// Whether runs in blocks have these heads and offsets, and run numbers of `rows` rows that begin with `begin`.
 fn are_runs(made: &BlockRuns, heads: &[u64], offsets: &[u64], rows: u64, begin: &[u64]) -> bool {
     made.heads.as_slice() == heads
         && made.offsets.as_slice() == offsets
@@ -34,7 +34,7 @@ fn are_runs(made: &BlockRuns, heads: &[u64], offsets: &[u64], rows: u64, begin: 
         && made.numbers.as_slice().starts_with(begin)
 }
 
-// What lies beneath the nulls is equal to the row before, and differs.
+// The values beneath the nulls, 7 and 9, make no difference.
 #[test]
 fn runs_with_nulls(rt: HostRuntime) -> Result<(), Fail> {
     let values = [7i32, 7, 7, 9, 8];
@@ -102,7 +102,7 @@ fn deltas_of_nulls(rt: HostRuntime) -> Result<(), Fail> {
     Ok(())
 }
 
-// 3 blocks, of which the last is filled.
+// 2,100 rows: three blocks, the last of them padded.
 #[test]
 fn deltas_and_back(rt: HostRuntime) -> Result<(), Fail> {
     let values = waves(rt.alloc(), 2100)?;

@@ -1,4 +1,4 @@
-//! Scalars that are made, copied and cast, once each.
+//! Constructors, copies and casts of scalars.
 
 use std::test::Fail;
 use vx_base::Nullability::NonNullable;

@@ -1,4 +1,4 @@
-//! What is printed of errors, types, ids and values.
+//! Errors, types, ids and values as text.
 
 use std::alloc::Global;
 use std::test::Fail;

@@ -1,4 +1,4 @@
-//! Types and scalars of truth values, texts, binaries and timestamps, each call once.
+//! Types and scalars of truth values, texts, binaries and timestamps: each call, once.
 
 use std::alloc::Global;
 use std::test::Fail;
@@ -12,7 +12,7 @@ fn text(alloc: Global, text: &str) -> VortexResult<Text> {
     Ok(Text::from_string(String::from_str(alloc, text)?))
 }
 
-// Milliseconds of a zone.
+// Milliseconds in UTC.
 fn zoned(alloc: Global) -> Result<TimestampType, Fail> {
     let zone = Some(text(alloc, "UTC")?);
     match TimestampType::new(TimeUnit::Milliseconds, zone) {
@@ -44,7 +44,7 @@ fn types_are_copied_with_their_zone(rt: HostRuntime) -> Result<(), Fail> {
     Ok(())
 }
 
-// Whether a scalar and its copy have this text.
+// Whether a scalar and its copy have this JSON.
 fn is_json(alloc: Global, scalar: &Scalar, text: &str) -> VortexResult<bool> {
     let own = scalar.json(alloc)?;
     let copy = scalar.copy(alloc)?.json(alloc)?;

@@ -1,4 +1,4 @@
-//! Which width costs least, worked by hand.
+//! Histograms of digits and the cheapest width, worked by hand.
 
 ghost use Rattle.std.specs.Prelude.{◌≡◌, length, vec_len, IfOk};
 
@@ -7,7 +7,7 @@ use std::test::Fail;
 use vx_base::{Mask, PType};
 use vx_blocks::{best_width, bit_width_histogram, bit_widths_of_all};
 
-// The numbers from 0 to 9, over and over.
+// 0 to 9, over and over.
 fn digits(alloc: Global, rows: u32) -> Result<Vec<u32>, AllocError>
     ensures { IfOk result (λ values. vec_len values ≡ rows) }
 {

@@ -4,7 +4,7 @@ use Rattle.vx_base.specs.PlainValue.{PlainValue, int}
 use Rattle.vx_model.specs.WellFormed.{ascend}
 use Rattle.vx_model.proofs.PatchLemmas.{ascend_parts}
 
--- what holds of no rows, and of a number before rows of which it holds, holds of all rows that ascend
+-- induction over rows that ascend
 pub by_ascent : (high : ℕ) (P : ℕ → List PlainValue → Type 0) → ((low : ℕ) → P low [])
     → ((low n : ℕ) (is : List PlainValue) → low ≤ n → n < high → ascend (n + 1) high is ≡ true → P (n + 1) is → P low (int (pos n) ∷ is)) → (low : ℕ) (is : List PlainValue) → ascend low high is ≡ true → P low is
 by_ascent high P none more low [] e = none low

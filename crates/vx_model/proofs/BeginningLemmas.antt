@@ -1,4 +1,4 @@
--- The columns within a column that are judged: what holds of each, and that a cascade asks about no others.
+-- The columns within a column that are judged: what holds of each, and that the cascade depends on no others.
 use Rattle.std.proofs.Common.{◌≡◌, ◌≤◌, ◌+◌, ◌++◌, ◌∙◌, true, List, [], ◌∷◌, map, length, refl, sym, ap, arith}
 use Rattle.std.specs.Prelude.{nat_le}
 use Rattle.std.specs.List.{AllByRecursion, list_all}
@@ -69,7 +69,7 @@ module _ (P : Column × Site → Type 0) (at_fresh : (c : Column) → is_flat c.
   pub beginnings-all : (c : Column) → IsColumn c → AreFew (counts c.dtype c.values) → AllByRecursion P (beginnings c.dtype c.values)
   beginnings-all c fit few = begin c.dtype c.values fit few
 
--- ---- where the same trees begin, the cascade is the same
+-- ---- the cascade is determined by the trees of these columns
 
 module _ (f g : Leaves) where
   abbrev Agree : Column × Site → Type 0

@@ -17,7 +17,7 @@ use Rattle.vx_base.specs.PlainValue.{PlainValue, PlainValues, items_or_empty}
 use Rattle.vx_model.specs.Cascade.{Leaves, cascade, cascade_of, cascade_fields, is_one_value, is_better, narrow_offsets, offsets_site}
 use Rattle.vx_model.specs.Column.{Column, column, IsColumn}
 use Rattle.vx_model.specs.Extents.{counts, field_counts, row_limit}
-use Rattle.vx_model.specs.Nested.{first_within, rest_within, struct_rows, list_rows, joined, elements, fixed_elements, offsets_type}
+use Rattle.vx_model.specs.Nested.{first_within, rest_within, struct_rows, list_rows, concatenated, elements, fixed_elements, offsets_type}
 use Rattle.vx_model.specs.Offsets.{offsets_of}
 use Rattle.vx_model.specs.Site.{fresh}
 use Rattle.vx_model.specs.Tree.{timestamp}
@@ -39,9 +39,9 @@ pub record LeavesStand (leaves : Leaves) : Type 0 where
 
 -- ---- the offsets of lists fit the narrowed type
 
-pub length-joined_by : {A : Type 0} (rows : List (List A)) → sum_by length rows ≡ length (joined rows)
+pub length-joined_by : {A : Type 0} (rows : List (List A)) → sum_by length rows ≡ length (concatenated rows)
 length-joined_by [] = refl
-length-joined_by (row ∷ rows) = sum_by-cons length row rows ∙ ap (λ n. length row + n) (length-joined_by rows) ∙ sym (length-append row (joined rows))
+length-joined_by (row ∷ rows) = sum_by-cons length row rows ∙ ap (λ n. length row + n) (length-joined_by rows) ∙ sym (length-append row (concatenated rows))
 
 -- each number below 2^64 lies in its narrowest unsigned type
 found-lies : (z : ℤ) (ps : List PType) → lies_in U64 z ≡ true → lies_in (unwrap_or (find (λ p. lies_in p z) ps) U64) z ≡ true
@@ -51,7 +51,7 @@ found-lies z (p ∷ ps) h = cond_both (lies_in p z) (Some p) (find (λ p. lies_i
 pub narrowed-lies : (end : ℕ) → end < 2 ^ 64 → lies_in (offsets_type end) (pos end) ≡ true
 narrowed-lies end l = found-lies (pos end) (U8 ∷ U16 ∷ U32 ∷ U64 ∷ []) (lt-ltb _ _ l)
 
-pub narrow_offsets-fit : (rows : List (List PlainValue)) → length (joined rows) < 2 ^ 64 → IsColumn (narrow_offsets rows)
+pub narrow_offsets-fit : (rows : List (List PlainValue)) → length (concatenated rows) < 2 ^ 64 → IsColumn (narrow_offsets rows)
 narrow_offsets-fit rows l =
     let end = sum_by length rows in
     let same = length-joined_by rows in

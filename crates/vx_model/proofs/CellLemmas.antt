@@ -1,4 +1,4 @@
--- The row at a place as a cell: an integer type's is an integer or null, and one that is decoded further is a word.
+-- Rows as cells: of an integer type an integer or null, and of encoded integers a word of 64 bits.
 use Rattle.std.proofs.Common.{◌≡◌, ◌<◌, ℕ, ℤ, length, true, refl, ap}
 use Rattle.std.specs.Prelude.{IsTrue}
 use Rattle.vx_base.specs.IntegersIn.{integer_in}
@@ -29,7 +29,7 @@ index-integer_in v = refl
 abbrev pub IsWord : PlainValue → Type 0
 IsWord v = IsTrue (fits (types.primitive U64 Nullable) v)
 
--- a value of an integer type that is a word where it is an integer
+-- a value of an integer type whose integer, if it has one, is a word
 word_where : (t : PlainType) (v : PlainValue) → is_integer t ≡ true → fits t v ≡ true → ((z : ℤ) → v ≡ int z → lies_in U64 z ≡ true) → IsWord v
 word_where t null e h f = refl
 word_where t (int z) e h f = f z refl

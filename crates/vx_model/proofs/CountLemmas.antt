@@ -1,4 +1,4 @@
--- The counts of a column: the first is that of its own rows, and those of joined columns are the sums.
+-- The counts of a column: the first is the number of its own rows, and those of concatenated columns are sums.
 use Rattle.std.proofs.Common.{◌≡◌, ◌≤◌, ◌+◌, ◌++◌, ◌∙◌, ℕ, List, [], ◌∷◌, length, map, true, refl, sym, ap, subst, arith}
 use Rattle.std.specs.Prelude.{nat_le}
 use Rattle.std.specs.List.{list_all}
@@ -10,10 +10,10 @@ use Rattle.vx_base.specs.PlainType as types
 use Rattle.vx_base.specs.PlainValue.{PlainValue, PlainValues, items, items_or_empty}
 use Rattle.vx_model.specs.Extents.{counts, field_counts}
 use Rattle.vx_model.specs.Laws.{AreWithin}
-use Rattle.vx_model.specs.Nested.{within, first_within, rest_within, joined, struct_rows, elements, list_rows, fixed_rows, fixed_elements}
-use Rattle.vx_model.proofs.JoinedLemmas.{joined-append}
+use Rattle.vx_model.specs.Nested.{within, first_within, rest_within, concatenated, struct_rows, elements, list_rows, fixed_rows, fixed_elements}
+use Rattle.vx_model.proofs.JoinedLemmas.{concatenated-append}
 
--- a type whose values hold no others has the one count
+-- a flat type has one count
 pub counts-flat : (t : PlainType) (vs : List PlainValue) → is_flat t ≡ true → counts t vs ≡ length vs ∷ []
 counts-flat (boolean n) vs h = refl
 counts-flat (primitive p n) vs h = refl
@@ -33,13 +33,13 @@ counts-first (types.structure fs n) vs = (field_counts fs (struct_rows fs vs), r
 counts-first (types.list t n) vs = (counts t (elements vs), refl)
 counts-first (types.fixed_size_list t size n) vs = (counts t (fixed_elements t size vs), refl)
 
--- where no count is above a limit, the rows are no more
+-- where each count is within a limit, so are the rows
 pub rows-few : (t : PlainType) (vs : List PlainValue) (most : ℕ) → list_all (λ count. nat_le count most) (counts t vs) ≡ true → length vs ≤ most
 rows-few t vs most h =
     let first = counts-first t vs in
     leb-true (length vs) most (and_parts (nat_le (length vs) most) (list_all (λ count. nat_le count most) first.0) (subst (λ cs. list_all (λ count. nat_le count most) cs ≡ true) first.1 h)).0
 
--- ---- numbers at most others, one by one
+-- ---- numbers at most others, index by index
 
 pub within-same : (ns : List ℕ) → AreWithin ns ns
 within-same [] = tt
@@ -59,7 +59,7 @@ within-append (k ∷ ks) (m ∷ ms) ls ns h l = (h.0, within-append ks ms ls ns 
 within-append [] (m ∷ ms) ls ns h l = absurd h
 within-append (k ∷ ks) [] ls ns h l = absurd h
 
--- numbers summed with others, one by one
+-- sums, index by index
 abbrev pub sums : List ℕ → List ℕ → List ℕ
 sums [] ns = []
 sums (m ∷ ms) [] = []
@@ -80,7 +80,7 @@ sums-append [] (m ∷ ms) ls ns e = absurd (omega arith)
 sums-append (k ∷ ks) [] ls ns e = absurd (omega arith)
 sums-append (k ∷ ks) (m ∷ ms) ls ns e = ap (λ rest. (k + m) ∷ rest) (sums-append ks ms ls ns (omega arith))
 
--- ---- the type alone says how many counts there are
+-- ---- the number of counts is determined by the type
 
 mutual
   pub counts-width : (t : PlainType) (vs ws : List PlainValue) → length (counts t vs) ≡ length (counts t ws)
@@ -101,10 +101,10 @@ mutual
       let rest = field_counts-width fs (map rest_within rs) (map rest_within qs) in
       omega (arith, length-append {A = ℕ})
 
--- ---- joined columns
+-- ---- concatenated columns
 
 pub elements-append : (vs ws : List PlainValue) → elements (vs ++ ws) ≡ elements vs ++ elements ws
-elements-append vs ws = ap joined (map-append items_or_empty vs ws) ∙ joined-append (list_rows vs) (list_rows ws)
+elements-append vs ws = ap concatenated (map-append items_or_empty vs ws) ∙ concatenated-append (list_rows vs) (list_rows ws)
 
 mutual
   pub counts-append : (t : PlainType) (vs ws : List PlainValue) → counts t (vs ++ ws) ≡ sums (counts t vs) (counts t ws)
@@ -128,7 +128,7 @@ mutual
       (λ i. (ap (counts t) (map-append first_within rs qs) ∙ counts-append t (map first_within rs) (map first_within qs)) i ++ (ap (field_counts fs) (map-append rest_within rs qs) ∙ field_counts-append fs (map rest_within rs) (map rest_within qs)) i)
       ∙ sym (sums-append _ _ _ _ (counts-width t (map first_within rs) (map first_within qs)))
 
--- those of no rows are at most any
+-- the counts of no rows are at most any others
 pub counts-none : (t : PlainType) (ns : List ℕ) (vs : List PlainValue) → length ns ≡ length (counts t vs) → AreWithin (counts t []) ns
 counts-none t ns vs e = doubled (counts t []) ns (counts-append t [] []) (counts-width t [] vs ∙ sym e)
   where

@@ -1,4 +1,4 @@
--- What a node's decoding has to show: values with a default beneath nulls, and validity.
+-- Decodings of nodes: values with defaults beneath nulls, and validity.
 use Rattle.std.proofs.Common.{◌≡◌, ℕ, zero, suc, ℤ, pos, List, [], ◌∷◌, length, map, refl, sym, ap, ◌∙◌, arith, Bool, true, false, cond, Some, None}
 use Rattle.std.specs.Prelude.{◌||◌, ◌&&◌, not, is_some, replicate}
 use Rattle.std.specs.List.{list_all, list_any}
@@ -58,7 +58,7 @@ values-wholes (types.primitive p n) e (int z ∷ rs) h = let b = and_parts (lies
 values-wholes (types.primitive p n) e (v ∷ rs) h = absurd cc
 values-wholes t e rs h = absurd cc
 
--- and the other way
+-- and back
 pub wholes-values : (t : PlainType) → is_integer t ≡ true → (xs : List ℤ) (rs : List PlainValue) → list_all (fits t) rs ≡ true → map int xs ≡ map (or_default (default_of t)) rs → xs ≡ map whole_or_zero rs
 wholes-values t e xs rs f h = sym (wholes-map-int xs) ∙ ap (map whole_or_zero) (h ∙ sym (values-wholes t e rs f)) ∙ wholes-map-int (map whole_or_zero rs)
 
@@ -107,7 +107,7 @@ validity-masked_rows bits rs l e = rw (any_masked bits rs l e, bits_masked bits 
     turned true = refl
     turned false = refl
 
--- rows without nulls, behind validity bits
+-- rows without nulls, under validity bits
 pub any_null-valid_rows : (valid : Validity) (rs : List PlainValue) (n : Nullability) → IsValidityOf valid (length rs) n → list_any is_null rs ≡ false → list_any is_null (valid_rows valid rs) ≡ is_some valid
 any_null-valid_rows None rs n h e = e
 any_null-valid_rows (Some bits) rs n h e = any_masked bits rs h.0 e ∙ ap not h.2
@@ -119,7 +119,7 @@ validity-valid_rows (Some bits) rs n h e = validity-masked_rows bits rs h.0 e �
 pub validity-cells : (valid : Validity) (xs : List ℤ) (n : Nullability) → IsValidityOf valid (length xs) n → validity (valid_rows valid (map int xs)) ≡ valid
 validity-cells valid xs n h = validity-valid_rows valid (map int xs) n (rw length-map h) (no_null-map-int xs)
 
--- validity has a bit a row
+-- validity has a bit per row
 pub length-validity : {A : Type 0} (f : PlainValue → A) (vs : List PlainValue) → validity_length (validity vs) (length (map f vs)) ≡ true
 length-validity f vs =
     cond_both (list_any is_null vs) (Some (valid_bits vs)) None (λ valid. validity_length valid (length (map f vs)) ≡ true)
@@ -156,7 +156,7 @@ no_null t vs h e = by_any (list_any is_null vs) refl
 pub null_allowed : (p : PType) (vs : List PlainValue) → list_all (fits (types.primitive p NonNullable)) vs ≡ true → list_any is_null vs ≡ false
 null_allowed p vs h = no_null (types.primitive p NonNullable) vs h refl
 
--- the validity of rows that fit is admitted, for items of any kind
+-- the validity of fitting rows is accepted, for items of any kind
 pub items_admitted : {A : Type 0} (f : PlainValue → A) (t : PlainType) (vs : List PlainValue) → list_all (fits t) vs ≡ true → primitive_refusal (length (map f vs)) (validity vs) (types.nullability_of t) ≡ None
 items_admitted f t vs h = by_nullability (types.nullability_of t) (no_null t vs h)
   where

@@ -1,4 +1,4 @@
--- What the decoding of a dict node has to show: values with a default beneath nulls, and validity; and where a row is null.
+-- The decoding of a dictionary: values with defaults beneath nulls, validity, and which rows are null.
 use Rattle.std.proofs.Common.{◌≡◌, ◌<◌, ◌∙◌, ℕ, zero, suc, ℤ, pos, List, [], ◌∷◌, length, map, refl, ap, sym, arith, Bool, true, false, cond, Some, None}
 use Rattle.std.specs.Prelude.{◌&&◌, ◌||◌, not, slice_index_or}
 use Rattle.std.specs.List.{list_all, list_any, range_with_len}

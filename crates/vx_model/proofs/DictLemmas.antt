@@ -31,9 +31,9 @@ row_at-dict codes values i l = get_or-map (looked_up (rows values)) (rows codes)
 
 pub ruleset dict_reads = (length-dict, row_at-dict)
 
--- ---- a code is a place
+-- ---- codes in bounds
 
--- a code that is a place, as a natural number
+-- a code in bounds, as a natural number
 pub record IsCode (values : List PlainValue) (z : ℤ) : Type 0 where
   pub place : ℕ
   pub is : z ≡ pos place
@@ -92,7 +92,7 @@ dict_accepted codes values h c v =
       all_looked_up_fit (tree_type codes) (tree_type values) (rows values) (rows codes) (rows_fit values v) b.0 (rows_fit codes c),
     )
 
--- ---- codes are places where their whole numbers are, 0 beneath nulls, once there is a value
+-- ---- codes are in bounds where their integers are, with 0 beneath nulls, if there is a value
 
 pub places-wholes : (p : PType) (n : Nullability) (len : ℕ) (rs : List PlainValue) → (len ≡ 0 → ⊥) → list_all (fits (types.primitive p n)) rs ≡ true → list_all (is_place len) rs ≡ not (list_any (λ z. not (is_place len (int z))) (map whole_or_zero rs))
 places-wholes p n len [] some h = refl

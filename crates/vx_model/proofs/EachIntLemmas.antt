@@ -70,7 +70,7 @@ module _ (f : ℤ → ℤ) where
   all_fit-each_int p q n keeps (int z ∷ rs) h = let b = and_parts (lies_in p z) (list_all (fits (types.primitive p n)) rs) h in and_from _ _ (keeps z b.0) (all_fit-each_int p q n keeps rs b.1)
   all_fit-each_int p q n keeps (v ∷ rs) h = absurd cc
 
-  -- what another function turns back comes back
+  -- a left inverse
   pub each_int-back : (g : ℤ → ℤ) (p : PType) (n : Nullability) → ((z : ℤ) → lies_in p z ≡ true → g (f z) ≡ z) → (rs : List PlainValue) → list_all (fits (types.primitive p n)) rs ≡ true
       → map (each_int g) (map (each_int f) rs) ≡ rs
   each_int-back g p n back [] h = refl

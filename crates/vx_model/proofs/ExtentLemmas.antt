@@ -12,7 +12,7 @@ use Rattle.vx_base.specs.PlainValue.{PlainValue, PlainValues, null, truth, int, 
 use Rattle.vx_model.specs.Tree.{Tree, Trees, Validity, bool, var_bin_view, var_bin, constant, masked, bit_packed, bit_packed_with, frame_of_reference, zig_zag, dict, nulls, structure, list, fixed_size_list, list_of, sparse, run_end, rle, sequence, delta}
 use Rattle.vx_model.specs.Tree as trees
 use Rattle.vx_model.specs.Rows.{rows, masked_rows, valid_rows, below, patched, packed_at, moved, unzigzagged, looked_up, cut_at, parts_of, list_value, each_before, field_rows, offset_at, run_value, rle_place, summed_up}
-use Rattle.vx_model.specs.Nested.{joined, first_within, rest_within}
+use Rattle.vx_model.specs.Nested.{concatenated, first_within, rest_within}
 use Rattle.vx_model.specs.Nested as nested
 use Rattle.vx_model.specs.TreeType.{tree_type, field_types}
 use Rattle.vx_model.specs.WellFormed.{AllWellFormed, all_have_rows}
@@ -27,12 +27,12 @@ use Rattle.vx_model.proofs.JoinedLemmas.{length-offset_values}
 use Rattle.vx_model.proofs.LeastLemmas.{valid-least, copies-within}
 use Rattle.vx_model.proofs.ListLemmas.{lists-fit, list_rows-values}
 use Rattle.vx_model.proofs.MadeLemmas.{rows_fit}
-use Rattle.vx_model.proofs.PartLemmas.{cut_at-passes, parts_of-passes, parts_of-sized, length-parts_of, joined-cut_at, joined-parts_of}
+use Rattle.vx_model.proofs.PartLemmas.{cut_at-passes, parts_of-passes, parts_of-sized, length-parts_of, concatenated-cut_at, concatenated-parts_of}
 use Rattle.vx_model.proofs.SparseCountLemmas.{sparse-within}
 use Rattle.vx_model.proofs.StructLemmas.{length-field_rows, field_rows-fit, items-fit, first-each_before, rest-each_before, struct_rows-items}
 use Rattle.vx_model.proofs.VarBinLemmas.{length-cut_at}
 
--- ---- types whose values hold no others
+-- ---- flat types
 
 flat-with : (t : PlainType) (n : Nullability) → is_flat t ≡ true → is_flat (with_nullability t n) ≡ true
 flat-with (boolean m) n h = refl
@@ -42,7 +42,7 @@ flat-with (binary m) n h = refl
 flat-with (timestamp k m) n h = refl
 flat-with t n h = absurd cc
 
--- fewer rows of such columns have no more counts, whatever the two types are
+-- a flat column of fewer rows has smaller counts, whatever the types
 counts-fewer : (t u : PlainType) (vs ws : List PlainValue) (es : List ℕ) → is_flat t ≡ true → is_flat u ≡ true → length vs ≤ length ws → AreWithin (counts u ws) es → AreWithin (counts t vs) es
 counts-fewer t u vs ws es f g fewer h =
     let first : AreWithin (length ws ∷ []) es = subst (λ ns. AreWithin ns es) (counts-flat u ws g) h in
@@ -52,7 +52,7 @@ counts-fewer t u vs ws es f g fewer h =
     of_one [] h = h
     of_one (e ∷ es) h = (let here = h.0 in omega arith, h.1)
 
--- ---- fewer rows behind a mask
+-- ---- rows under a mask
 
 length-masked_rows-le : (bits : List Bool) (rs : List PlainValue) → length (masked_rows bits rs) ≤ length rs
 length-masked_rows-le [] rs = omega arith
@@ -113,7 +113,7 @@ mutual
       let t = tree_type elements in
       let parts = cut_at (rows offsets) (rows elements) in
       let count : length (map list_value parts) ≡ length (rows offsets) - 1 = length-map parts list_value ∙ length-cut_at (rows offsets) (rows elements) in
-      let whole = ap joined (list_rows-values parts) ∙ joined-cut_at (rows offsets) (rows elements) w.2.ends (leb-true _ _ w.2.some) in
+      let whole = ap concatenated (list_rows-values parts) ∙ concatenated-cut_at (rows offsets) (rows elements) w.2.ends (leb-true _ _ w.2.some) in
       within-next (counts (types.list t n) (valid_rows valid (map list_value parts))) (counts (types.list t n) (map list_value parts)) ((length (rows offsets) - 1) ∷ extents elements)
       (valid-least (types.list t n) valid (map list_value parts) (lists-fit t n parts (cut_at-passes (fits t) (rows offsets) (rows elements) (rows_fit elements w.0))))
       (omega arith, subst (λ vs. AreWithin (counts t vs) (extents elements)) (sym whole) (counts_within_extents elements w.0))
@@ -121,7 +121,7 @@ mutual
       let t = tree_type elements in
       let parts = parts_of size len (rows elements) in
       let count : length (map list_value parts) ≡ len = length-map parts list_value ∙ length-parts_of size len (rows elements) in
-      let whole = ap nested.elements (fixed_rows-values t size parts) ∙ ap joined (list_rows-values parts) ∙ joined-parts_of size len (rows elements) w.1.lengths in
+      let whole = ap nested.elements (fixed_rows-values t size parts) ∙ ap concatenated (list_rows-values parts) ∙ concatenated-parts_of size len (rows elements) w.1.lengths in
       within-next (counts (types.fixed_size_list t size n) (valid_rows valid (map list_value parts))) (counts (types.fixed_size_list t size n) (map list_value parts)) (len ∷ extents elements)
       (valid-least (types.fixed_size_list t size n) valid (map list_value parts)
       (fixed_lists-fit t size n parts (parts_of-sized size len (rows elements) w.1.lengths) (parts_of-passes (fits t) size len (rows elements) (rows_fit elements w.0))))

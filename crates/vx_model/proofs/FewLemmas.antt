@@ -1,4 +1,4 @@
--- When the lists of a column have few elements.
+-- Columns whose lists have fewer than 2^64 elements.
 use Rattle.std.proofs.Common.{◌≡◌, ◌<◌, ◌+◌, ◌^◌, ◌∙◌, ℕ, pos, List, [], ◌∷◌, map, length, true, sym, arith}
 use Rattle.std.specs.Prelude.{nat_le}
 use Rattle.std.specs.List.{list_all}
@@ -11,7 +11,7 @@ use Rattle.vx_base.specs.PlainType.{PlainType, PlainFields, boolean, primitive, 
 use Rattle.vx_base.specs.PlainType as types
 use Rattle.vx_base.specs.PlainValue.{PlainValue, PlainValues}
 use Rattle.vx_model.specs.Extents.{counts, field_counts}
-use Rattle.vx_model.specs.Nested.{first_within, rest_within, struct_rows, joined, list_rows, elements, fixed_elements}
+use Rattle.vx_model.specs.Nested.{first_within, rest_within, struct_rows, concatenated, list_rows, elements, fixed_elements}
 use Rattle.vx_model.specs.Offsets.{offsets_from}
 use Rattle.vx_model.specs.Plain.{plain_of, plain_fields, FewElements, FewFieldElements}
 use Rattle.vx_model.specs.WellFormed.{WellFormed, AllWellFormed}
@@ -26,7 +26,7 @@ few-flat (binary n) vs f = tt
 few-flat (timestamp k n) vs f = tt
 few-flat t vs f = absurd cc
 
--- where no count is above a limit, all lists have no more elements
+-- where each count is within a limit, so is the number of elements of all lists
 mutual
   pub few-counts : (most : ℕ) → most < 2 ^ 64 → (t : PlainType) (vs : List PlainValue) → list_all (λ count. nat_le count most) (counts t vs) ≡ true → FewElements t vs
   few-counts most l types.null_type vs h = tt
@@ -50,13 +50,13 @@ mutual
       let b = and_parts (list_all (λ count. nat_le count most) first) (list_all (λ count. nat_le count most) others) (sym (list_all-append (λ count. nat_le count most) first others) ∙ h) in
       (few-counts most l t (map first_within rs) b.0, few-field_counts most l fs (map rest_within rs) b.1)
 
--- ---- the plain tree of a column is well formed nowhere else
+-- ---- a well-formed plain tree has few elements
 
-few-held : {A : Type 0} (here : ℕ) (rows : List (List A)) → list_all (lies_in U64) (map pos (offsets_from here rows)) ≡ true → here + length (joined rows) < 2 ^ 64
+few-held : {A : Type 0} (here : ℕ) (rows : List (List A)) → list_all (lies_in U64) (map pos (offsets_from here rows)) ≡ true → here + length (concatenated rows) < 2 ^ 64
 few-held here [] h = let last : here < 2 ^ 64 = ltb-true here (2 ^ 64) (and_parts _ _ h).0 in omega arith
 few-held here (row ∷ rows) h =
     let rest = few-held (here + length row) rows (and_parts (lies_in U64 (pos here)) (list_all (lies_in U64) (map pos (offsets_from (here + length row) rows))) h).1 in
-    omega (arith, length-append row (joined rows))
+    omega (arith, length-append row (concatenated rows))
 
 mutual
   pub few-plain : (t : PlainType) (vs : List PlainValue) → WellFormed (plain_of t vs) → FewElements t vs

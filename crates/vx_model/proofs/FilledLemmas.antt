@@ -60,7 +60,7 @@ filled-texts n v len h = copies bytes (or_default (default_of (utf8 n))) (bytes_
 pub filled-binaries : (n : Nullability) (v : PlainValue) (len : ℕ) → fits (binary n) v ≡ true → map bytes (replicate len (bytes_or_empty v)) ≡ map (or_default (default_of (binary n))) (replicate len v)
 filled-binaries n v len h = copies bytes (or_default (default_of (binary n))) (bytes_or_empty v) v (binary-default n v h) len
 
--- ---- and lies in the type
+-- ---- it is in the range of the type
 
 pub whole-held : (p : PType) (n : Nullability) (v : PlainValue) → fits (primitive p n) v ≡ true → lies_in p (whole_or_zero v) ≡ true
 whole-held p n (int z) h = h

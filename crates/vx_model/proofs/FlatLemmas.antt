@@ -1,4 +1,5 @@
--- Flat lists of items with their validity, whatever the items are: rows, their lengths and places, and when nothing but the default lies beneath nulls.
+-- Flat lists of items of any kind with their validity: rows, their number, the row at an index, and when only defaults lie
+-- beneath nulls.
 use Rattle.std.proofs.Common.{◌≡◌, ◌↔◌, ◌<◌, ℕ, List, [], ◌∷◌, length, map, refl, sym, ap, ◌∙◌, Bool, true, false, cond, Some, None}
 use Rattle.std.specs.Prelude.{◌||◌, is_some, slice_index_or}
 use Rattle.std.specs.List.{list_any}
@@ -65,7 +66,7 @@ module _ {A : Type 0} (default : A) (is_default : A → Bool) (found : (x : A) �
       let t : zeroed default bits xs ≡ xs = cc in
       rw (item_kept b x h, same_zeroed bits xs t) refl
 
-  -- the items stay exactly where each one beneath a null is the default
+  -- the items stay exactly where each item beneath a null is the default
   pub same_beneath : (valid : Validity) (xs : List A) → (zero_beneath_by is_default valid xs ≡ true) ↔ (zeroed_by default valid xs ≡ xs)
   same_beneath None xs = (λ e. refl, λ e. refl)
   same_beneath (Some bits) xs = (zeroed_same bits xs, same_zeroed bits xs)

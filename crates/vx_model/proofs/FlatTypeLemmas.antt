@@ -1,4 +1,4 @@
--- Types whose values hold no others.
+-- Flat types.
 use Rattle.std.proofs.Common.{◌≡◌, true, refl}
 use Rattle.vx_base.specs.PlainType.{PlainType, boolean, primitive, utf8, binary, is_leaf, is_flat, is_integer, is_bytes}
 

@@ -1,4 +1,4 @@
--- Each difference from a reference lies in the unsigned type of its width.
+-- Each difference from a reference is in the range of the unsigned type of its width.
 use Rattle.std.proofs.Common.{◌≡◌, ◌<◌, ℕ, zero, suc, ℤ, pos, negsuc, List, [], ◌∷◌, length, Bool, true, refl, subst, ap, sym, ◌∙◌, arith}
 use Rattle.std.specs.List.{list_all}
 use Rattle.std.proofs.lemmas.Bool.{and_parts, and_from, lt-ltb, ltb-true}

@@ -1,4 +1,4 @@
--- Items with a default, and items by their places, under a map of the items.
+-- Zeroed items and picked items under a map of the items.
 use Rattle.std.proofs.Common.{◌≡◌, ℕ, zero, suc, ℤ, List, [], ◌∷◌, map, refl, Bool, true, false, cond, Some, None}
 use Rattle.std.specs.Prelude.{slice_index_or}
 use Rattle.vx_base.specs.declared.ptype.PType.{PType}

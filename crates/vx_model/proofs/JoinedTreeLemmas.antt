@@ -1,4 +1,4 @@
--- The tree of joined rows over any tree of their offsets: it is made, well formed, and stands for the column.
+-- The tree of concatenated rows over any tree of their offsets: it is accepted, well formed, and stands for the column.
 use Rattle.std.proofs.Common.{◌≡◌, ◌+◌, ◌-◌, ◌∙◌, length, map, refl, sym, ap, subst, Bool, true, false, Option, None, arith}
 use Rattle.std.specs.Prelude.{not, nat_le, ◌&&◌}
 use Rattle.std.specs.List.{list_all}
@@ -13,7 +13,7 @@ use Rattle.vx_base.specs.PlainType.{PlainType, is_integer, is_nullable, is_bytes
 use Rattle.vx_base.specs.PlainType as types
 use Rattle.vx_base.specs.PlainValue.{bytes, is_short, bytes_or_empty}
 use Rattle.vx_model.specs.Column.{Column, IsColumn, column_of}
-use Rattle.vx_model.specs.Nested.{joined}
+use Rattle.vx_model.specs.Nested.{concatenated}
 use Rattle.vx_model.specs.Offsets.{offsets_column, offset_values, byte_rows_of}
 use Rattle.vx_model.specs.Plain.{validity}
 use Rattle.vx_model.specs.Refusals.{kept, validity_length, validity_allowed, var_bin_refusal}
@@ -38,24 +38,24 @@ module _ (c : Column) (typed : is_bytes c.dtype ≡ true) (h : IsColumn c) (offs
   own_type : tree_type offsets ≡ types.primitive U64 NonNullable
   own_type = ap (λ k. k.dtype) same
 
-  cut_back : cut_at (rows offsets) (joined (byte_rows_of c)) ≡ byte_rows_of c
-  cut_back = ap (λ os. cut_at os (joined (byte_rows_of c))) own_rows ∙ cut_joined (byte_rows_of c)
+  cut_back : cut_at (rows offsets) (concatenated (byte_rows_of c)) ≡ byte_rows_of c
+  cut_back = ap (λ os. cut_at os (concatenated (byte_rows_of c))) own_rows ∙ cut_joined (byte_rows_of c)
 
   view_rows : valid_rows (validity c.values) (map bytes (byte_rows_of c)) ≡ c.values
   view_rows = ap rows (sym (plain_of-bytes c.dtype c.values typed)) ∙ rows-plain_of c.dtype c.values h
 
-  pub rows-joined : rows (var_bin offsets (joined (byte_rows_of c)) (validity c.values) c.dtype) ≡ c.values
+  pub rows-joined : rows (var_bin offsets (concatenated (byte_rows_of c)) (validity c.values) c.dtype) ≡ c.values
   rows-joined = ap (λ rs. valid_rows (validity c.values) (map bytes rs)) cut_back ∙ view_rows
 
   -- it stands for the column
-  pub column_of-joined : column_of (var_bin offsets (joined (byte_rows_of c)) (validity c.values) c.dtype) ≡ c
+  pub column_of-joined : column_of (var_bin offsets (concatenated (byte_rows_of c)) (validity c.values) c.dtype) ≡ c
   column_of-joined = ap (λ vs. record { dtype = c.dtype; values = vs }) rows-joined
 
   view : WellFormed (var_bin_view (byte_rows_of c) (validity c.values) c.dtype)
   view = subst WellFormed (plain_of-bytes c.dtype c.values typed) (plain_well_formed c h (few-flat c.dtype c.values (bytes-flat c.dtype typed)))
 
-  ends : are_offsets (length (joined (byte_rows_of c))) (rows offsets) ≡ true
-  ends = ap (are_offsets (length (joined (byte_rows_of c)))) own_rows ∙ joined_offsets (byte_rows_of c)
+  ends : are_offsets (length (concatenated (byte_rows_of c))) (rows offsets) ≡ true
+  ends = ap (are_offsets (length (concatenated (byte_rows_of c)))) own_rows ∙ joined_offsets (byte_rows_of c)
 
   count : length (rows offsets) ≡ length (byte_rows_of c) + 1
   count = ap length own_rows ∙ length-offset_values (byte_rows_of c)
@@ -64,7 +64,7 @@ module _ (c : Column) (typed : is_bytes c.dtype ≡ true) (h : IsColumn c) (offs
   some = rw count (grind (arith, nat_tests))
 
   -- it is well formed
-  pub joined_well_formed : WellFormed offsets → WellFormed (var_bin offsets (joined (byte_rows_of c)) (validity c.values) c.dtype)
+  pub joined_well_formed : WellFormed offsets → WellFormed (var_bin offsets (concatenated (byte_rows_of c)) (validity c.values) c.dtype)
   joined_well_formed w = (
     w,
     record {
@@ -78,7 +78,7 @@ module _ (c : Column) (typed : is_bytes c.dtype ≡ true) (h : IsColumn c) (offs
   )
 
   -- nothing is refused
-  pub joined_admitted : var_bin_refusal offsets (joined (byte_rows_of c)) (validity c.values) c.dtype ≡ None
+  pub joined_admitted : var_bin_refusal offsets (concatenated (byte_rows_of c)) (validity c.values) c.dtype ≡ None
   joined_admitted =
       let len : length (rows offsets) - 1 ≡ length (byte_rows_of c) = omega (arith, count) in
       let bits : validity_length (validity c.values) (length (byte_rows_of c)) ≡ true = length-validity bytes_or_empty c.values in

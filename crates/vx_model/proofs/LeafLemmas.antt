@@ -27,7 +27,7 @@ use Rattle.vx_model.proofs.SizeLemmas.{size-plain_of-ge, bytes_of-range}
 -- the law of counts stands in a file of its own
 pub use Rattle.vx_model.proofs.ExtentLemmas.{counts_within_extents}
 
--- what holds of each tree that the leaf may be holds of the leaf
+-- what holds of each case of the leaf holds of the leaf
 pub leaf-cases : (P : Tree → Type 0) (chooses : Chooses) (c : Column) (site : Site)
     → P (plain c)
     → (length c.values ≢ 0 → list_all is_null c.values ≡ true → P (constant (scalar c.dtype null) (length c.values)))

@@ -1,4 +1,4 @@
--- Null has the least counts of all values that fit a type, so rows behind a mask count no more than those before it.
+-- Null has the least counts of all values of a type, so masked rows count no more than the rows under the mask.
 use Rattle.std.proofs.Common.{◌≡◌, ◌*◌, ◌++◌, ◌∙◌, ℕ, zero, suc, List, [], ◌∷◌, length, map, true, false, Bool, cond, Some, None, refl, sym, ap, subst, arith}
 use Rattle.std.specs.Prelude.{replicate, ◌==◌}
 use Rattle.std.specs.List.{list_all}
@@ -18,7 +18,7 @@ use Rattle.vx_model.specs.Rows.{masked_rows, valid_rows}
 use Rattle.vx_model.specs.Tree.{Validity}
 use Rattle.vx_model.proofs.CountLemmas.{within-same, within-next, within-append, within-sums, sums, counts-append, counts-none}
 
--- a row more, where it counts no more than another
+-- one more row, which counts no more than another
 pub within-more : (t : PlainType) (v w : PlainValue) (vs ws : List PlainValue) → AreWithin (counts t (v ∷ [])) (counts t (w ∷ [])) → AreWithin (counts t vs) (counts t ws) → AreWithin (counts t (v ∷ vs)) (counts t (w ∷ ws))
 within-more t v w vs ws h l =
     subst (λ ns. AreWithin ns (counts t (w ∷ ws))) (sym (counts-append t (v ∷ []) vs))
@@ -39,7 +39,7 @@ counts-default (types.fixed_size_list t size n) = refl
 counts-null_or_default : (t : PlainType) → counts t (null_or_default t ∷ []) ≡ counts t (null ∷ [])
 counts-null_or_default t = cond_both (is_nullable t) null (default_of t) (λ v. counts t (v ∷ []) ≡ counts t (null ∷ [])) (λ e. refl) (λ e. counts-default t)
 
--- as many copies of the least value
+-- copies of the least value
 copies-least : (t : PlainType) (v : PlainValue) → ((w : PlainValue) → fits t w ≡ true → AreWithin (counts t (v ∷ [])) (counts t (w ∷ []))) → (ws : List PlainValue) → list_all (fits t) ws ≡ true
     → AreWithin (counts t (replicate (length ws) v)) (counts t ws)
 copies-least t v least [] h = within-same (counts t [])
@@ -78,7 +78,7 @@ mutual
       let both = and_parts (fits t v) (fields_fit fs vs) h in
       within-append _ _ _ _ (subst (λ ns. AreWithin ns (counts t (v ∷ []))) (sym (counts-null_or_default t)) (null-least t v both.0)) (fields-least fs vs both.1)
 
--- ---- rows behind a mask
+-- ---- rows under a mask
 
 masked-least : (t : PlainType) (bits : List Bool) (rs : List PlainValue) → list_all (fits t) rs ≡ true → AreWithin (counts t (masked_rows bits rs)) (counts t rs)
 masked-least t [] rs h = counts-none t (counts t rs) rs refl
@@ -95,7 +95,7 @@ valid-least t (Some bits) rs h = masked-least t bits rs h
 
 -- ---- copies
 
--- they count as often as they are
+-- their counts are multiples of one copy's
 pub copies-within : (t : PlainType) (v : PlainValue) (len : ℕ) → AreWithin (counts t (replicate len v)) (map (λ count. len * count) (counts t (v ∷ [])))
 copies-within t v zero = counts-none t (map (λ count. 0 * count) (counts t (v ∷ []))) (v ∷ []) (length-map (counts t (v ∷ [])) (λ count. 0 * count))
 copies-within t v (suc len) =

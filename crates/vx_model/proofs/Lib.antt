@@ -45,6 +45,7 @@ pub mod PlainAdmittedLemmas
 pub mod PlainLemmas
 pub mod PlainPartLemmas
 pub mod PrimitiveLemmas
+pub mod RisingLemmas
 pub mod RleLemmas
 pub mod RowLemmas
 pub mod RunEndLemmas

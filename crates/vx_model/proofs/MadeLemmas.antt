@@ -34,7 +34,7 @@ ints_fit p n (x ∷ xs) h = both (lies_in p x) h (ints_fit p n xs)
     both true e rest = rest e
     both false e rest = absurd cc
 
--- rows that fit a nullable type fit it behind a mask
+-- rows of a nullable type are of it under a mask too
 pub masked_fit : (t : PlainType) (bits : List Bool) (rs : List PlainValue) → fits t null ≡ true → list_all (fits t) rs ≡ true → list_all (fits t) (masked_rows bits rs) ≡ true
 masked_fit t [] rs n h = refl
 masked_fit t (b ∷ bits) [] n h = refl
@@ -92,6 +92,6 @@ pub has_length : (valid : Validity) (len : ℕ) (n : Nullability) → IsValidity
 has_length None len n h = refl
 has_length (Some bits) len n h = let e = h.0 in grind (arith, nat_tests)
 
--- a node's validity has a bit a row
+-- a node's validity has a bit per row
 pub validity_length-made : (p : PType) (xs : List ℤ) (valid : Validity) (n : Nullability) → WellFormed (primitive p xs valid n) → validity_length valid (length xs) ≡ true
 validity_length-made p xs valid n h = has_length valid (length xs) n h.0.validity

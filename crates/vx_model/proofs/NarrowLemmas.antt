@@ -16,7 +16,7 @@ use Rattle.vx_base.specs.PlainValue.{PlainValue, int, is_null, whole_or_zero}
 use Rattle.vx_model.specs.Cascade.{narrow_offsets}
 use Rattle.vx_model.specs.Column.{column, IsColumn}
 use Rattle.vx_model.specs.Extents.{row_limit}
-use Rattle.vx_model.specs.Nested.{joined, offsets_type}
+use Rattle.vx_model.specs.Nested.{concatenated, offsets_type}
 use Rattle.vx_model.specs.Offsets.{offset_values}
 use Rattle.vx_model.specs.Plain.{plain, plain_of, plain_offsets}
 use Rattle.vx_model.specs.Nodes.{encoding}
@@ -31,17 +31,17 @@ use Rattle.vx_model.proofs.OffsetLemmas.{all_between}
 
 -- ---- the plain offsets of lists
 
-pub plain_offsets-are : (lists : List (List PlainValue)) (end : ℕ) → end ≡ length (joined lists) → length lists ≤ row_limit → ArePlainOffsets (plain_offsets lists) end
+pub plain_offsets-are : (lists : List (List PlainValue)) (end : ℕ) → end ≡ length (concatenated lists) → length lists ≤ row_limit → ArePlainOffsets (plain_offsets lists) end
 plain_offsets-are lists end e l =
     let count = length-offset_values lists in
     record {
       plain = sym (plain-offsets lists);
       typed = refl;
-      between = rw e (all_between (length (joined lists)) (offset_values lists) (joined_offsets lists));
+      between = rw e (all_between (length (concatenated lists)) (offset_values lists) (joined_offsets lists));
       few = omega arith;
     }
 
-pub narrowed-is : (lists : List (List PlainValue)) (end : ℕ) → end ≡ length (joined lists) → narrowed end (offset_values lists) ≡ narrow_offsets lists
+pub narrowed-is : (lists : List (List PlainValue)) (end : ℕ) → end ≡ length (concatenated lists) → narrowed end (offset_values lists) ≡ narrow_offsets lists
 narrowed-is lists end e = ap (λ n. column (types.primitive (offsets_type n) NonNullable) (offset_values lists)) (e ∙ sym (length-joined_by lists))
 
 -- ---- the type

@@ -24,11 +24,11 @@ use Rattle.vx_model.specs.Tree as trees
 use Rattle.vx_model.specs.TreeType.{tree_type, field_types}
 use Rattle.vx_model.specs.WellFormed.{WellFormed, AllWellFormed, RowsFit, are_offsets, all_have_rows}
 use Rattle.vx_model.proofs.JoinedLemmas.{length-offset_values, cut_joined, joined_offsets}
-use Rattle.vx_model.proofs.NestedLemmas.{length-struct_rows, each_before-back, no_fields, fixed_rows-sized, length-fixed_rows, length-joined, parts_of-joined}
+use Rattle.vx_model.proofs.NestedLemmas.{length-struct_rows, each_before-back, no_fields, fixed_rows-sized, length-fixed_rows, length-concatenated, parts_of-concatenated}
 use Rattle.vx_model.proofs.NullsLemmas.{nulls_made}
 use Rattle.vx_model.proofs.PlainLemmas.{valid_rows-items, struct-back, list-back, fixed_rows-back, nulls-back, validity-rows}
 
--- a well-formed tree of the column
+-- a well-formed tree that stands for the column
 abbrev pub StandsFor : Tree → Column → Type 0
 StandsFor t c = WellFormed t × (column_of t ≡ c)
 
@@ -131,8 +131,8 @@ fixed_size_list-stands t size n vs inside fit h =
     let tree = fixed_size_list inside size (length vs) (validity vs) n in
     let count = length-fixed_rows t size vs in
     let sized = fixed_rows-sized t size n vs fit in
-    let parts = ap (parts_of size (length vs)) own.rows ∙ ap (λ len. parts_of size len (fixed_elements t size vs)) (sym count) ∙ parts_of-joined size (list_rows (fixed_rows t size vs)) sized in
+    let parts = ap (parts_of size (length vs)) own.rows ∙ ap (λ len. parts_of size len (fixed_elements t size vs)) (sym count) ∙ parts_of-concatenated size (list_rows (fixed_rows t size vs)) sized in
     let is : IsOf tree (types.fixed_size_list t size n) vs =
     record { types = ap (λ s. types.fixed_size_list s size n) own.types; rows = ap (λ rs. valid_rows (validity vs) (map list_value rs)) parts ∙ fixed_rows-back t size n vs fit } in
-    let lengths = ap length own.rows ∙ length-joined size (list_rows (fixed_rows t size vs)) sized ∙ ap (λ len. len * size) count in
+    let lengths = ap length own.rows ∙ length-concatenated size (list_rows (fixed_rows t size vs)) sized ∙ ap (λ len. len * size) count in
     ((h.0, record { lengths = lengths; validity = validity-rows (types.fixed_size_list t size n) vs (length vs) fit refl }, rows_of-fit tree (types.fixed_size_list t size n) vs is fit), column_of-is tree (types.fixed_size_list t size n) vs is)

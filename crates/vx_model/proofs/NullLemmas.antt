@@ -1,4 +1,4 @@
--- Which rows are null, node by node, and when a tree is plain.
+-- Which rows are null, node by node; and which roots a plain tree may have.
 use Rattle.std.proofs.Common.{◌≡◌, ◌↔◌, ◌<◌, ℕ, zero, suc, ℤ, pos, List, map, refl, sym, ap, ◌∙◌, arith, Bool, true, false}
 use Rattle.std.specs.Prelude.{not, is_some, replicate}
 use Rattle.std.specs.List.{list_all, list_any}

@@ -1,4 +1,4 @@
--- Offsets: each is at most the next, and lies within the items.
+-- Offsets never decrease, and are in bounds of the items.
 use Rattle.std.proofs.Common.{◌≡◌, ◌<◌, ◌≤◌, ◌+◌, ◌-◌, ℕ, zero, suc, pos, List, [], ◌∷◌, length, true, arith, add-one}
 use Rattle.std.specs.Prelude.{nat_le, nat_lt, int_le}
 use Rattle.std.specs.List.{list_all}
@@ -9,7 +9,7 @@ use Rattle.vx_base.specs.PlainValue.{PlainValue, int, whole_or_zero}
 use Rattle.vx_model.specs.Rows.{offset_at}
 use Rattle.vx_model.specs.WellFormed.{lies_between, never_falls, are_offsets}
 
--- the offset at a place and the next one, of so many items
+-- an offset and the next one
 pub record IsStep (len from to : ℕ) : Type 0 where
   pub rising : from ≤ to
   pub within : to ≤ len
@@ -34,14 +34,14 @@ step len (v ∷ w ∷ os) (suc i) h f l =
     let later = and_parts _ (never_falls (w ∷ os)) f in
     step len (w ∷ os) i rest.1 later.1 (omega arith)
 
--- none lies outside
+-- each is in bounds
 pub all_between : (len : ℕ) (os : List PlainValue) → are_offsets len os ≡ true → list_all (lies_between 0 (len + 1)) os ≡ true
 all_between len os h =
     let falls = and_parts _ (never_falls os) h in
     let last = and_parts _ _ falls.0 in
     (and_parts (list_all (lies_between 0 (len + 1)) os) _ last.0).0
 
--- the first is 0, and the last where the items end
+-- the first is 0, and the last is the number of items
 pub ends_of : (len : ℕ) (os : List PlainValue) → are_offsets len os ≡ true → (offset_at os 0 ≡ 0) × (offset_at os (length os - 1) ≡ len)
 ends_of len os h =
     let falls = and_parts _ (never_falls os) h in

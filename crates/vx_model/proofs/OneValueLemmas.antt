@@ -29,7 +29,7 @@ first_valid-valid [] v e = absurd cc
 first_valid-valid (null ∷ vs) v e = first_valid-valid vs v e
 first_valid-valid (w ∷ vs) v e = let same : w ≡ v = cc in ap is_null (sym same)
 
--- it is the row at the place of the first that isn't null
+-- it is the row at the first index that isn't null
 first_valid-find : (vs : List PlainValue) → first_valid vs ≡ find (λ v. not (is_null v)) vs
 first_valid-find [] = refl
 first_valid-find (null ∷ vs) = first_valid-find vs
@@ -41,13 +41,13 @@ row_at-place vs i = cond_both (nat_lt i (length vs)) (Some i) None (λ o. slice_
 pub first_valid-position : (vs : List PlainValue) → first_valid vs ≡ option_map (row_at vs) (position (λ v. not (is_null v)) vs)
 first_valid-position vs = first_valid-find vs ∙ find_at (λ v. not (is_null v)) vs ∙ row_at-place vs (position_or_len (λ v. not (is_null v)) vs)
 
--- nulls alone are one null, again and again
+-- only nulls are copies of null
 pub replicate-nulls : (vs : List PlainValue) → list_all is_null vs ≡ true → replicate (length vs) null ≡ vs
 replicate-nulls [] e = refl
 replicate-nulls (null ∷ vs) e = ap (λ r. null ∷ r) (replicate-nulls vs e)
 replicate-nulls (v ∷ vs) e = absurd cc
 
--- so is a value that each row has
+-- rows of one value are copies of it
 pub replicate-one : (vs : List PlainValue) (v : PlainValue) → each_null_or v vs ≡ true → list_any is_null vs ≡ false → replicate (length vs) v ≡ vs
 replicate-one [] v e none = refl
 replicate-one (null ∷ vs) v e none = absurd cc

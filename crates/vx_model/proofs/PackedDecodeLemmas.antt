@@ -1,4 +1,4 @@
--- What the decoding of packed integers and of integers less a reference has to show: whole numbers with 0 beneath nulls, and validity.
+-- The decoding of packed integers and of differences from a reference: integers with 0 beneath nulls, and validity.
 use Rattle.std.proofs.Common.{◌≡◌, ◌+◌, ◌∙◌, ℕ, zero, suc, pos, List, [], ◌∷◌, map, length, refl, ap, subst, true, false}
 use Rattle.std.specs.Prelude.{is_some}
 use Rattle.std.specs.List.{list_all, list_any, range_with_len}
@@ -69,7 +69,7 @@ module _ (k : PlainPacked) (len offset : ℕ) (indices values : Tree) (h : WellF
   pub validity-bit_packed_with : validity (rows (bit_packed_with k len offset indices values)) ≡ k.valid
   validity-bit_packed_with = validity-valid_rows k.valid (below row k.len) k.nullability behind_with no_null_with
 
--- ---- integers less a reference
+-- ---- differences from a reference
 
 pub wholes-frame_of_reference : (encoded : Tree) (reference : PlainScalar) → map whole_or_zero (rows (frame_of_reference encoded reference)) ≡ zeroed_by (pos 0) (validity (rows encoded)) (map (summed reference) (map whole_or_zero (rows encoded)))
 wholes-frame_of_reference encoded reference = wholes-each_int (summed reference) (rows encoded)

@@ -1,4 +1,5 @@
--- Packed integers, with patches or without, and integers less a reference: their rows, and that a constructor's tree is well formed.
+-- Packed integers, with and without patches, and differences from a reference: their rows, and that a constructor's tree is well
+-- formed.
 use Rattle.std.proofs.Common.{◌≡◌, ◌<◌, ◌≤◌, ◌+◌, ◌^◌, ◌∙◌, ℕ, zero, suc, List, [], ◌∷◌, length, map, refl, ap, subst, arith, Bool, true, false, cond, Option, Some, None}
 use Rattle.std.specs.Prelude.{nat_lt, nat_le, IfSome}
 use Rattle.std.specs.List.{list_all, range_with_len}
@@ -36,7 +37,7 @@ length-below f n = length-map-range_with_len f 0 n
 pub row_at-below : (f : ℕ → PlainValue) (n i : ℕ) → i < n → row_at (below f n) i ≡ f i
 row_at-below f n i h = get_or-map-range_with_len f 0 n i i null h (omega arith)
 
--- what each passes, all pass
+-- a test that each passes, all pass
 pub below-passes : (p : PlainValue → Bool) (f : ℕ → PlainValue) (n : ℕ) → ((i : ℕ) → i < n → p (f i) ≡ true) → list_all p (below f n) ≡ true
 below-passes p f n h = from_row 0 n (λ i l. h i (omega arith))
   where
@@ -145,7 +146,7 @@ pub for_made : (encoded : Tree) (reference : PlainScalar) → is_integer referen
 for_made encoded reference integer not_null fitting encoded_type w =
     (w, record { reference_type = integer; not_null = not_null; fitting = fitting; encoded_type = encoded_type }, all_moved_fit (tree_type encoded) reference (rows encoded) (ap is_integer encoded_type) (rows_fit encoded w))
 
--- ---- the same, where nothing is refused
+-- ---- from no refusal
 
 pub passed : (b : Bool) (e : VortexError) (o : Option VortexError) → unless b e o ≡ None → (b ≡ true) × (o ≡ None)
 passed true e o h = (refl, h)

@@ -1,4 +1,4 @@
--- Parts of a list, cut by offsets or of one size: each passes a test that the whole passes, and joined they are the whole again.
+-- Parts of a list, cut at offsets or of one size: each passes a test that the list passes, and concatenated they are the list.
 use Rattle.std.proofs.Common.{◌≡◌, ◌<◌, ◌≤◌, ◌+◌, ◌-◌, ◌*◌, ◌++◌, ◌∙◌, ℕ, zero, suc, List, [], ◌∷◌, length, map, take, drop, refl, sym, ap, true, arith, zero-add, Bool}
 use Rattle.std.specs.Prelude.{slice_index_or, ◌==◌}
 use Rattle.std.specs.List.{list_all, range_with_len}
@@ -8,7 +8,7 @@ use Rattle.std.proofs.lemmas.Bool.{and_parts, and_from, eq-eqb}
 use Rattle.std.proofs.lemmas.List.{drop-drop, length-take-le, length-drop, take-append-drop, take_all}
 use Rattle.vx_base.specs.Masks.{rows_between}
 use Rattle.vx_base.specs.PlainValue.{PlainValue}
-use Rattle.vx_model.specs.Nested.{joined}
+use Rattle.vx_model.specs.Nested.{concatenated}
 use Rattle.vx_model.specs.Rows.{offset_at, cut_at, parts_of}
 use Rattle.vx_model.specs.WellFormed.{are_offsets}
 use Rattle.vx_model.proofs.OffsetLemmas.{offset_step, ends_of}
@@ -60,13 +60,13 @@ parts_of-sized size (suc len) xs e =
     let left = length-drop size xs in
     and_from _ _ (eq-eqb _ _ (length-take-le size xs (omega arith))) (parts_of-sized size len (drop size xs) (omega arith))
 
-pub joined-parts_of : {A : Type 0} (size len : ℕ) (xs : List A) → length xs ≡ len * size → joined (parts_of size len xs) ≡ xs
-joined-parts_of size zero [] e = refl
-joined-parts_of size zero (x ∷ xs) e = absurd (omega arith)
-joined-parts_of size (suc len) xs e =
+pub concatenated-parts_of : {A : Type 0} (size len : ℕ) (xs : List A) → length xs ≡ len * size → concatenated (parts_of size len xs) ≡ xs
+concatenated-parts_of size zero [] e = refl
+concatenated-parts_of size zero (x ∷ xs) e = absurd (omega arith)
+concatenated-parts_of size (suc len) xs e =
     let both = suc-mul len size in
     let left = length-drop size xs in
-    ap (λ ys. take size xs ++ ys) (joined-parts_of size len (drop size xs) (omega arith)) ∙ take-append-drop size xs
+    ap (λ ys. take size xs ++ ys) (concatenated-parts_of size len (drop size xs) (omega arith)) ∙ take-append-drop size xs
 
 -- ---- parts cut by offsets
 
@@ -86,7 +86,7 @@ module _ {A : Type 0} (offsets : List PlainValue) (all : List A) (h : are_offset
       let same : start + 1 + n ≡ start + suc n = omega arith in
       omega (arith, one.rising, ap (offset_at offsets) same)
 
-  joined_from : (start n : ℕ) → start + n < length offsets → joined (map (piece offsets all) (range_with_len start n)) ≡ rows_between all (offset_at offsets start) (offset_at offsets (start + n))
+  joined_from : (start n : ℕ) → start + n < length offsets → concatenated (map (piece offsets all) (range_with_len start n)) ≡ rows_between all (offset_at offsets start) (offset_at offsets (start + n))
   joined_from start zero l =
       let none : offset_at offsets (start + 0) - offset_at offsets start ≡ 0 = let same : start + 0 ≡ start = omega arith in omega (arith, ap (offset_at offsets) same) in
       ap (λ k. take k (drop (offset_at offsets start) all)) (sym none)
@@ -97,8 +97,8 @@ module _ {A : Type 0} (offsets : List PlainValue) (all : List A) (h : are_offset
       ∙ next_between all (offset_at offsets start) (offset_at offsets (start + 1)) (offset_at offsets (start + 1 + n)) one.rising (rises_to (start + 1) n (omega arith))
       ∙ ap (λ k. rows_between all (offset_at offsets start) (offset_at offsets k)) same
 
-  pub joined-cut_at : 1 ≤ length offsets → joined (cut_at offsets all) ≡ all
-  joined-cut_at some =
+  pub concatenated-cut_at : 1 ≤ length offsets → concatenated (cut_at offsets all) ≡ all
+  concatenated-cut_at some =
       let ends = ends_of (length all) offsets h in
       let whole : length all - 0 ≡ length all = omega arith in
       joined_from 0 (length offsets - 1) (omega arith) ∙ (λ i. rows_between all (ends.0 i) (offset_at offsets (zero-add (length offsets - 1) i)))

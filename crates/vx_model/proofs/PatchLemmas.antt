@@ -19,7 +19,7 @@ never : (b : Bool) → (b && false) ≡ false
 never true = refl
 never false = refl
 
--- what rises behind a number lies above it, wherever else it lies
+-- numbers that rise after a number are above it
 above : (low n high : ℕ) (is : List PlainValue) → low ≤ n → (list_all (lies_between low high) is && rises (int (pos n) ∷ is)) ≡ (list_all (lies_between (n + 1) high) is && rises is)
 above low n high [] h = refl
 above low n high (int (pos m) ∷ is) h =
@@ -38,7 +38,7 @@ by_test true true x r y e = e refl
 by_test true false x r y e = refl
 by_test false l x r y e = refl
 
--- a number in front of others: it lies between the ends, and they lie above it
+-- a number in front of others that ascend: it is within the ends, and they are above it
 ascend-cons : (low high n : ℕ) (is : List PlainValue) → ascend low high (int (pos n) ∷ is) ≡ (nat_le low n && nat_lt n high && ascend (n + 1) high is)
 ascend-cons low high n is = by_test (nat_le low n) (nat_lt n high) _ _ _ (λ t. above low n high is (leb-true low n t))
 
@@ -94,11 +94,11 @@ ascend-index low high (int (pos m) ∷ is) zero e h f = cc
 ascend-index low high (int (pos m) ∷ is) (suc i) e h f = ascend-index (m + 1) high is i (ascend_parts low high m is e).2 (omega arith) f
 ascend-index low high (v ∷ is) i e h f = cc
 
--- no place below i has the index n
+-- no position below i has the index n
 abbrev pub NoneBelow : List PlainValue → ℕ → ℕ → Type 0
 NoneBelow is n i = (j : ℕ) → j < i → is_index (row_at is j) n ≡ false
 
--- nor has one from i on
+-- no position from i on has it
 abbrev pub NoneFrom : List PlainValue → ℕ → ℕ → Type 0
 NoneFrom is n i = (j : ℕ) → i ≤ j → is_index (row_at is j) n ≡ false
 

@@ -1,4 +1,4 @@
--- Patches: what stands at a row, and how many looks its search takes.
+-- Patches: the value of a row, and the steps of a binary search.
 use Rattle.std.proofs.Common.{◌≡◌, ◌<◌, ◌≤◌, ◌+◌, ◌-◌, ◌*◌, ◌^◌, add-one, ◌∙◌, ℕ, zero, suc, List, [], ◌∷◌, length, refl, arith, add-one, Bool, true, false, cond, Some, None}
 use Rattle.std.proofs.Math.Nat as nat
 use Rattle.std.proofs.lemmas.Bool.{cond-true, cond-false, ltb-false}
@@ -8,7 +8,7 @@ use Rattle.vx_base.specs.PlainValue.{PlainValue, null}
 use Rattle.vx_model.specs.Rows.{row_at, patched, is_index, place_of}
 use Rattle.vx_model.proofs.PatchLemmas.{NoneBelow}
 
--- ---- what stands at a row, by the place of its patch
+-- ---- the value of a row, by the position of its patch
 
 first_patched : (is rs : List PlainValue) (fill : PlainValue) (n i : ℕ) → length is ≡ length rs → i < length is → NoneBelow is n i → is_index (row_at is i) n ≡ true → patched is rs fill n ≡ row_at rs i
 first_patched [] rs fill n i l h b e = absurd (omega arith)
@@ -32,9 +32,9 @@ patched-fill is rs fill n e = unpatched is rs fill n (λ j m. let past = no_plac
     no_place true k h e = absurd cc
     no_place false k h e = h refl
 
--- ---- the looks that a search by halves takes
+-- ---- the steps of a binary search
 
--- one more look, where s places of n are left and at most half of them after it
+-- one more step, which leaves at most half of the s positions
 pub looks-next : (p s t n : ℕ) → 0 < s → 2 * t ≤ s → 2 ^ p * s ≤ n → (2 ^ (p + 1) * t ≤ n) × (2 ^ (p + 1) ≤ 2 * n + 1)
 looks-next p s t n some half left =
     let twice : 2 ^ (p + 1) ≡ 2 * 2 ^ p = rw (add-one p) (nat.pow-succ' 2 p) in
@@ -43,7 +43,7 @@ looks-next p s t n some half left =
     let one : 2 ^ p ≤ 2 ^ p * s = nat.le-mul_of_pos_right (2 ^ p) some in
     (rw twice (omega (arith, fewer, again, left)), rw twice (omega (arith, one, left)))
 
--- the same, where the looks are the steps from s0 on, and the places those from low to high
+-- for steps counted from s0 on, and positions from low to high
 pub looks-after : (s0 s s' low high t n : ℕ) → s0 ≤ s → s' ≡ s + 1 → low < high → 2 * t ≤ high - low → 2 ^ (s - s0) * (high - low) ≤ n → (2 ^ (s' - s0) * t ≤ n) × (2 ^ (s' - s0) ≤ 2 * n + 1)
 looks-after s0 s s' low high t n rose next some half left =
     let more : s' - s0 ≡ s - s0 + 1 = omega arith in

@@ -1,6 +1,6 @@
--- The constructors refuse no plain tree of a nested column's values.
-use Rattle.std.proofs.Common.{◌≡◌, ◌∙◌, ℕ, List, length, Bool, true, false, Option, Some, None, refl, sym, ap}
-use Rattle.std.specs.Prelude.{IsTrue, not}
+-- The constructors accept the plain trees within the plain tree of a nested column.
+use Rattle.std.proofs.Common.{◌≡◌, ℕ, List, length, Bool, true, false, Option, Some, None, refl, ap}
+use Rattle.std.specs.Prelude.{not}
 use Rattle.std.specs.List.{list_all}
 use Rattle.std.proofs.lemmas.Bool.{and_from, eq-eqb}
 use Rattle.vx_base.specs.declared.error.VortexError.{VortexError}
@@ -16,8 +16,8 @@ use Rattle.vx_base.specs.PlainValue.{PlainValue}
 use Rattle.vx_base.specs.Storable.{same_refl}
 use Rattle.vx_model.specs.Nested.{struct_rows, names_of, list_rows, elements, fixed_elements}
 use Rattle.vx_model.specs.Plain.{validity, plain_of, plain_fields, plain_offsets}
-use Rattle.vx_model.specs.Refusals.{validity_length, validity_allowed, structure_refusal, list_refusal, fixed_size_list_refusal, timestamp_refusal}
-use Rattle.vx_model.specs.Tree.{Tree, Validity}
+use Rattle.vx_model.specs.Refusals.{validity_allowed, structure_refusal, list_refusal, fixed_size_list_refusal, timestamp_refusal}
+use Rattle.vx_model.specs.Tree.{Validity}
 use Rattle.vx_model.specs.WellFormed.{IsValidityOf}
 use Rattle.vx_model.proofs.MadeLemmas.{has_length}
 use Rattle.vx_model.proofs.NestedLemmas.{struct_rows-fit, length-struct_rows}

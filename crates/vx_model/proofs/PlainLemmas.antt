@@ -26,13 +26,13 @@ use Rattle.vx_model.specs.Tree.{list_of}
 use Rattle.vx_model.specs.Rows.{rows, masked_rows, valid_rows, field_rows, cut_at, parts_of, each_before, list_value}
 use Rattle.vx_model.specs.TreeType.{tree_type, field_types}
 use Rattle.vx_model.specs.Column.{Column, column, column_of, IsColumn}
-use Rattle.vx_model.specs.Nested.{within, first_within, rest_within, struct_rows, names_of, list_rows, joined, elements, fixed_rows, fixed_elements}
+use Rattle.vx_model.specs.Nested.{within, first_within, rest_within, struct_rows, names_of, list_rows, concatenated, elements, fixed_rows, fixed_elements}
 use Rattle.vx_model.specs.Offsets.{offsets_of, offset_values}
 use Rattle.vx_model.specs.Plain.{valid_bits, validity, plain_of, plain_fields, plain_offsets, plain, IsPlain, FewElements, FewFieldElements}
 use Rattle.vx_model.specs.WellFormed.{WellFormed, AllWellFormed, IsView, IsList, IsFixedSizeList, IsValidityOf, RowsFit, are_offsets, all_have_rows}
 use Rattle.vx_model.proofs.JoinedLemmas.{length-offset_values, cut_joined, joined_offsets, offsets_lie}
 use Rattle.vx_model.proofs.MadeLemmas.{primitive_made}
-use Rattle.vx_model.proofs.NestedLemmas.{struct_rows-fit, length-struct_rows, firsts-fit, rests-fit, each_before-back, no_fields, elements-fit, fixed_rows-sized, fixed_elements-fit, length-fixed_rows, length-joined, parts_of-joined}
+use Rattle.vx_model.proofs.NestedLemmas.{struct_rows-fit, length-struct_rows, firsts-fit, rests-fit, each_before-back, no_fields, elements-fit, fixed_rows-sized, fixed_elements-fit, length-fixed_rows, length-concatenated, parts_of-concatenated}
 use Rattle.vx_model.proofs.NullsLemmas.{nulls_made}
 
 pub length-valid_bits : (vs : List PlainValue) → length (valid_bits vs) ≡ length vs
@@ -40,7 +40,7 @@ length-valid_bits vs = length-map vs _
 
 -- ---- items of values, with the default beneath nulls
 
--- each value that fits a type and isn't null comes back from its item
+-- each value of a type other than null comes back from its item
 module _ {A : Type 0} (t : PlainType) (item : PlainValue → A) (value : A → PlainValue) (back : (v : PlainValue) → is_null v ≡ false → fits t v ≡ true → value (item v) ≡ v) where
   row-back : (v : PlainValue) → fits t v ≡ true → cond (not (is_null v)) (value (item v)) null ≡ v
   row-back = by_null (λ v. fits t v ≡ true → cond (not (is_null v)) (value (item v)) null ≡ v) (λ h. refl) (λ v e h. rw e (back v e h))
@@ -130,7 +130,7 @@ mutual
   rows-plain_of (fixed_size_list t size n) vs h =
       let own =
       ap (parts_of size (length vs)) (rows-plain_of t (fixed_elements t size vs) (fixed_elements-fit t size n vs h))
-      ∙ ap (λ len. parts_of size len (fixed_elements t size vs)) (sym (length-fixed_rows t size vs)) ∙ parts_of-joined size (list_rows (fixed_rows t size vs)) (fixed_rows-sized t size n vs h) in
+      ∙ ap (λ len. parts_of size len (fixed_elements t size vs)) (sym (length-fixed_rows t size vs)) ∙ parts_of-concatenated size (list_rows (fixed_rows t size vs)) (fixed_rows-sized t size n vs h) in
       ap (λ rs. valid_rows (validity vs) (map list_value rs)) own ∙ fixed_rows-back t size n vs h
 
   -- and so each struct's fields
@@ -221,12 +221,12 @@ plain_fields-rows (types.more name t fs) rs len e h =
     and_from _ _ (eq-eqb _ _ (ap length (rows-plain_of t (map first_within rs) (firsts-fit name t fs rs h)) ∙ length-map rs first_within ∙ e))
     (plain_fields-rows fs (map rest_within rs) len (length-map rs rest_within ∙ e) (rests-fit name t fs rs h))
 
--- a bit a value
+-- a bit per value
 pub validity-rows : (t : PlainType) (vs : List PlainValue) (len : ℕ) → list_all (fits t) vs ≡ true → length vs ≡ len → IsValidityOf (validity vs) len (nullability_of t)
 validity-rows t vs len h e = subst (λ k. IsValidityOf (validity vs) k (nullability_of t)) (length-map vs is_null ∙ e) (IsValidityOf-validity is_null t vs h)
 
-offsets_well_formed : (rows : List (List PlainValue)) → length (joined rows) < 2 ^ 64 → WellFormed (plain_offsets rows)
-offsets_well_formed rows l = primitive_made U64 (map pos (offsets_of rows)) None NonNullable refl refl (offsets_lie U64 (length (joined rows)) 0 rows (omega arith) (lt-ltb _ _ l))
+offsets_well_formed : (rows : List (List PlainValue)) → length (concatenated rows) < 2 ^ 64 → WellFormed (plain_offsets rows)
+offsets_well_formed rows l = primitive_made U64 (map pos (offsets_of rows)) None NonNullable refl refl (offsets_lie U64 (length (concatenated rows)) 0 rows (omega arith) (lt-ltb _ _ l))
 
 pub lists : (t : PlainType) (n : Nullability) (vs : List PlainValue) → list_all (fits (list t n)) vs ≡ true → IsList (plain_of t (elements vs)) (plain_offsets (list_rows vs)) (validity vs) n
 lists t n vs h =
@@ -244,7 +244,7 @@ pub fixed_lists : (t : PlainType) (size : ℕ) (n : Nullability) (vs : List Plai
 fixed_lists t size n vs h =
     record {
       lengths =
-          ap length (rows-plain_of t (fixed_elements t size vs) (fixed_elements-fit t size n vs h)) ∙ length-joined size (list_rows (fixed_rows t size vs)) (fixed_rows-sized t size n vs h)
+          ap length (rows-plain_of t (fixed_elements t size vs) (fixed_elements-fit t size n vs h)) ∙ length-concatenated size (list_rows (fixed_rows t size vs)) (fixed_rows-sized t size n vs h)
           ∙ ap (λ len. len * size) (length-fixed_rows t size vs);
       validity = validity-rows (fixed_size_list t size n) vs (length vs) h refl;
     }

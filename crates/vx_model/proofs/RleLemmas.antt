@@ -31,7 +31,7 @@ pub ruleset rle_reads = (length-rle, row_at-rle)
 
 -- ---- each row is a row of the values
 
--- where all places are places of values, so is each
+-- where all indices are in bounds, each is
 place_at : (vs os is : List PlainValue) (len i : ℕ) → list_all (is_place (length vs)) (below (rle_place os is) len) ≡ true → i < len → is_place (length vs) (rle_place os is i) ≡ true
 place_at vs os is len i h l =
     let within : i < length (below (rle_place os is) len) = rw (length-below (rle_place os is) len) l in
@@ -40,7 +40,7 @@ place_at vs os is len i h l =
 found : (vs : List PlainValue) (z : ℤ) → IsCode vs z → IsRowOf vs (looked_up vs (int z))
 found vs z c = record { place = c.place; within = c.within; is = ap (λ y. looked_up vs (int y)) c.is }
 
--- a row of any values that the places are places of
+-- a row of any values of which the indices are in bounds
 pub rle-some : (vs os is : List PlainValue) (len i : ℕ) → list_all (is_place (length vs)) (below (rle_place os is) len) ≡ true → i < len → IsRowOf vs (looked_up vs (rle_place os is i))
 rle-some vs os is len i h l = found vs _ (code_is vs _ (place_at vs os is len i h l))
 
@@ -73,14 +73,14 @@ rle_accepted values indices offsets len h v w u =
           (λ i l. row_of-passes (fits (tree_type values)) (rows values) (row_of values indices offsets len i) (rle-some (rows values) (rows offsets) (rows indices) len i places.0 l) (rows_fit values v)),
     )
 
--- ---- the places of a node
+-- ---- the indices of a node
 
--- a row lies in a block that there is
+-- the block of a row is in bounds
 pub block-within : (len i : ℕ) → i < len → (i / block_rows < block_count len) × (i < block_rows * block_count len)
 block-within len i l = (omega arith, omega arith)
 
 module _ (values indices offsets : Tree) (len i : ℕ) (h : WellFormed (rle values indices offsets len)) (l : i < len) where
-  -- its block's offset and its own index are there
+  -- the offset of its block and its own index are in bounds
   pub rle-within : (i / block_rows < length (rows offsets)) × (i < length (rows indices))
   rle-within =
       let both = block-within len i l in
@@ -88,7 +88,7 @@ module _ (values indices offsets : Tree) (len i : ℕ) (h : WellFormed (rle valu
       let index = h.3.indices_length in
       (omega (arith, both.0), omega (arith, both.1))
 
-  -- their sum is the place of a value
+  -- their sum is in bounds of the values
   pub rle-code : IsCode (rows values) (whole_or_zero (row_at (rows offsets) (i / block_rows)) +ℤ whole_or_zero (row_at (rows indices) i))
   rle-code = code_is (rows values) _ (place_at (rows values) (rows offsets) (rows indices) len i h.3.places l)
 

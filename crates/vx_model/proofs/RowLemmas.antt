@@ -1,4 +1,4 @@
--- Lengths of lists of rows, and the row at a place.
+-- The number of rows, and the row at an index.
 use Rattle.std.proofs.Common.{◌≡◌, ◌<◌, ℕ, zero, suc, ℤ, pos, List, [], ◌∷◌, map, length, refl, sym, true, ap, ◌∙◌, Some, None, arith, Bool, false, cond}
 use Rattle.std.specs.Prelude.{replicate, slice_index_or}
 use Rattle.std.proofs.lemmas.List.{get_or-map, length-map, length-replicate}
@@ -50,7 +50,7 @@ pub length-cells : (valid : Validity) (xs : List ℤ) → validity_length valid 
 length-cells None xs h = length-map xs int
 length-cells (Some bits) xs h = length-masked_rows bits (map int xs) (eqb-true (length bits) (length xs) h ∙ sym (length-map xs int)) ∙ length-map xs int
 
--- ---- the row at a place, node by node
+-- ---- the row at an index, node by node
 
 pub length-primitive : (p : PType) (xs : List ℤ) (valid : Validity) (n : Nullability) → WellFormed (primitive p xs valid n) → length (rows (primitive p xs valid n)) ≡ length xs
 length-primitive p xs valid n h = length-valid_rows valid (map int xs) n (rw length-map h.0.validity) ∙ length-map xs int

@@ -15,7 +15,7 @@ use Rattle.vx_model.proofs.MadeLemmas.{rows_fit}
 use Rattle.vx_model.proofs.PackedLemmas.{length-below, row_at-below, below-passes, passed}
 use Rattle.vx_model.proofs.PatchLemmas.{ascend_parts}
 
--- where the last run ends; 0 where there is none
+-- the end of the last run, 0 where there is none
 abbrev pub last_end : List PlainValue → ℕ
 last_end ends = offset_at ends (length ends - 1)
 
@@ -27,7 +27,7 @@ row_at-run_end ends values i l = row_at-below (run_value (rows ends) (rows value
 
 pub ruleset run_end_reads = (length-run_end, row_at-run_end)
 
--- ---- the ends that ascend
+-- ---- ends that ascend
 
 pub end-between : (low high : ℕ) (ends : List PlainValue) (k : ℕ) → ascend low high ends ≡ true → k < length ends → (low ≤ offset_at ends k) × (offset_at ends k < high)
 end-between low high [] k e l = absurd (omega arith)
@@ -45,7 +45,7 @@ ends-rise low high (int (pos n) ∷ ends) zero (suc k) e l m = let rest = end-be
 ends-rise low high (int (pos n) ∷ ends) (suc j) (suc k) e l m = ends-rise (n + 1) high ends j k (ascend_parts low high n ends e).2 (omega arith) (omega arith)
 ends-rise low high (v ∷ ends) j (suc k) e l m = absurd cc
 
--- the ends before a place are at most i
+-- the ends before a position are at most i
 abbrev pub EndsBefore : List PlainValue → ℕ → ℕ → Type 0
 EndsBefore ends i place = (k : ℕ) → k < place → offset_at ends k ≤ i
 
@@ -88,7 +88,7 @@ run-within (v ∷ ends) i place b l =
 
 -- ---- the value of a row
 
--- an end behind a row, as a natural number
+-- an end above a row, as a natural number
 pub is_behind : (v : PlainValue) (i : ℕ) → int_lt (pos i) (whole_or_zero v) ≡ nat_lt i (unwrap_or (index_of v) 0)
 is_behind (int (pos n)) i = refl
 is_behind (int (negsuc n)) i = sym (le-ltb i 0 (omega arith))
@@ -102,7 +102,7 @@ run_value-place (v ∷ ends) (w ∷ values) i zero e l b a = cond-true _ _ _ (is
 run_value-place (v ∷ ends) (w ∷ values) i (suc place) e l b a =
     cond-false _ _ _ (is_behind v i ∙ le-ltb _ _ (b 0 (omega arith))) ∙ run_value-place ends values i place (omega arith) (omega arith) (λ k m. b (suc k) (omega arith)) a
 
--- the same, where the end before it alone is known
+-- the same value, from the end before it alone
 pub run_value-between : (low high : ℕ) (ends values : List PlainValue) (i place : ℕ) → ascend low high ends ≡ true → length ends ≡ length values → place < length ends → (0 < place → offset_at ends (place - 1) ≤ i) → i < offset_at ends place
     → run_value ends values i ≡ row_at values place
 run_value-between low high ends values i place e same l b a = run_value-place ends values i place same l before a

@@ -34,9 +34,9 @@ module _ (p : PType) (n : Nullability) (first step : ℤ) (len : ℕ) where
 
 pub ruleset sequence_reads = (length-sequence, row_at-sequence)
 
--- ---- each row lies in the type
+-- ---- each row is in the range of the type
 
--- a number between two that lie there does
+-- a number between two values of a type is in its range
 held_between : (p : PType) (a z b : ℤ) → lies_in p a ≡ true → lies_in p b ≡ true → a ≤ℤ z → z ≤ℤ b → lies_in p z ≡ true
 held_between p a (pos n) (pos m) h k l r = lt-ltb n (2 ^ natural_bits p) (let most = ltb-true m (2 ^ natural_bits p) k in omega (arith, ints))
 held_between p a (pos n) (negsuc m) h k l r = absurd (omega (arith, ints))
@@ -45,14 +45,14 @@ held_between p (negsuc m) (negsuc n) b h k l r =
     and_from _ _ c.0 (lt-ltb n (2 ^ natural_bits p) (let most = ltb-true m (2 ^ natural_bits p) c.1 in omega (arith, ints)))
 held_between p (pos m) (negsuc n) b h k l r = absurd (omega (arith, ints))
 
--- a row up to the last lies between the first and the last
+-- each row lies between the first and the last
 between_ends : (p : PType) (first step : ℤ) (i last : ℕ) → i ≤ last → lies_in p first ≡ true → lies_in p (first +ℤ pos last *ℤ step) ≡ true → lies_in p (first +ℤ pos i *ℤ step) ≡ true
 between_ends p first (pos s) i last l h k = let up = mul-le-mul_right s l in held_between p first (first +ℤ pos (i * s)) (first +ℤ pos (last * s)) h k (omega (arith, ints)) (omega (arith, ints))
 between_ends p first (negsuc s) i last l h k =
     let down = mul-le-mul_right (suc s) l in
     held_between p (first +ℤ pos last *ℤ negsuc s) (first +ℤ pos i *ℤ negsuc s) first k h (omega (arith, ints)) (omega (arith, ints))
 
--- where there are rows the first and the last lie there
+-- the first and the last row are in range, if there are rows
 ends_held : (b c d : Bool) → b ≡ false → (b || c && d) ≡ true → (c ≡ true) × (d ≡ true)
 ends_held true c d e h = absurd cc
 ends_held false c d e h = and_parts c d h
@@ -62,7 +62,7 @@ row-held p first step len i h l =
     let ends = ends_held (len == 0) (lies_in p first) (lies_in p (first +ℤ pos (len - 1) *ℤ step)) (ne_eqb len 0 (λ e. omega arith)) h.rows_held in
     between_ends p first step i (len - 1) (omega arith) ends.0 ends.1
 
--- the next row lies a step behind
+-- the next row is a step further
 pub row-next : (first step : ℤ) (i : ℕ) → first +ℤ pos (i + 1) *ℤ step ≡ (first +ℤ pos i *ℤ step) +ℤ step
 row-next first (pos s) i = let more : (i + 1) * s ≡ i * s + s = rw (add-one i) (suc-mul i s) in omega (arith, ints, more)
 row-next first (negsuc s) i = let more : (i + 1) * suc s ≡ i * suc s + suc s = rw (add-one i) (suc-mul i (suc s)) in omega (arith, ints, more)

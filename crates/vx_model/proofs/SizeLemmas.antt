@@ -1,4 +1,4 @@
--- How large plain trees and children are.
+-- Bounds on the sizes of plain trees and children.
 use Rattle.std.proofs.Common.{◌≡◌, ◌<◌, ◌≤◌, ◌+◌, ◌*◌, ◌^◌, ℕ, List, [], ◌∷◌, map, length, true, Some, None, refl, arith}
 use Rattle.std.specs.Prelude.{nat_le, sum_by}
 use Rattle.std.specs.List.{list_all, list_any}
@@ -27,7 +27,7 @@ bytes_of-range I16 = (omega arith, omega arith)
 bytes_of-range I32 = (omega arith, omega arith)
 bytes_of-range I64 = (omega arith, omega arith)
 
--- at most one bit a row
+-- at most one bit per row
 validity_size-le : (vs : List PlainValue) → validity_size (validity vs) ≤ bit_bytes (length vs)
 validity_size-le vs =
     cond_both (list_any is_null vs) (Some (valid_bits vs)) None (λ valid. validity_size valid ≤ bit_bytes (length vs))
@@ -55,7 +55,7 @@ sum-long_bytes-le (bs ∷ items) h =
     let later = sum-long_bytes-le items b.1 in
     rw (sum_by-cons long_bytes bs items) (omega arith)
 
--- and no more than 16 more than the longest value
+-- and at most 16 bytes more than the longest value
 size-views-le : (t : PlainType) → is_bytes t ≡ true → (vs : List PlainValue) → list_all (fits t) vs ≡ true
     → 16 * length (map bytes_or_empty vs) + sum_by long_bytes (map bytes_or_empty vs) + validity_size (validity vs) ≤ length vs * (2 ^ 32 + 16) + bit_bytes (length vs)
 size-views-le t i vs h =
@@ -77,6 +77,6 @@ size-plain_of-le (binary n) vs f h = size-views-le (binary n) refl vs h
 size-plain_of-le (timestamp k n) vs f h = size-wholes-le I64 vs
 size-plain_of-le t vs f h = absurd cc
 
--- no sum of such sizes comes near the end of 128 bits
+-- no sum of such sizes comes near 2^128
 pub small_plain : (c : Column) → is_flat c.dtype ≡ true → IsColumn c → length c.values < 2 ^ 64 → size (plain c) < 2 ^ 100
 small_plain c f h few = let most = size-plain_of-le c.dtype c.values f h in omega arith

@@ -32,11 +32,11 @@ both-sums [] ns = refl
 both-sums (m ∷ ms) [] = refl
 both-sums (m ∷ ms) (n ∷ ns) = ap (λ rest. (m + n) ∷ rest) (both-sums ms ns)
 
--- the same counts with one row more before them
+-- counts with one more row in front
 counts-next : (t : PlainType) (v : PlainValue) (vs ws : List PlainValue) → counts t vs ≡ counts t ws → counts t (v ∷ vs) ≡ counts t (v ∷ ws)
 counts-next t v vs ws e = counts-append t (v ∷ []) vs ∙ ap (sums (counts t (v ∷ []))) e ∙ sym (counts-append t (v ∷ []) ws)
 
--- a row counts as much behind others as before them
+-- a row counts as much after others as in front of them
 counts-later : (t : PlainType) (v : PlainValue) (vs ws : List PlainValue) → counts t (v ∷ vs ++ ws) ≡ counts t (vs ++ v ∷ ws)
 counts-later t v vs ws =
     counts-append t (v ∷ []) (vs ++ ws) ∙ ap (sums (counts t (v ∷ []))) (counts-append t vs ws) ∙ sums-swap (counts t (v ∷ [])) (counts t vs) (counts t ws)
@@ -44,7 +44,7 @@ counts-later t v vs ws =
 
 -- ---- what ascends
 
--- there are no more numbers than places for them
+-- there are at most as many numbers as the range has
 pub ascend-few : (low high : ℕ) (is : List PlainValue) → ascend low high is ≡ true → low ≤ high → length is + low ≤ high
 ascend-few low high is e = by_ascent high (λ low is. low ≤ high → length is + low ≤ high) (λ low l. omega arith) (λ low n is a b c rest l. let few = rest (omega arith) in omega arith) low is e
 

@@ -15,7 +15,7 @@ use Rattle.vx_model.proofs.PackedLemmas.{length-below, row_at-below, below-passe
 use Rattle.vx_model.proofs.PatchLemmas.{ascend-within, place-found, place-none, NoneBelow, NoneFrom}
 use Rattle.vx_model.proofs.PatchedLemmas.{patched-place, patched-fill}
 
--- ---- what stands at a row, where indices ascend
+-- ---- the value of a row, where indices ascend
 
 -- where the index at a place is the row's, the patch there
 pub patched-found : (low high : ℕ) (is vs : List PlainValue) (fill : PlainValue) (n place : ℕ) → ascend low high is ≡ true → length is ≡ length vs → place < length is → index_of (row_at is place) ≡ Some n → patched is vs fill n ≡ row_at vs place
@@ -37,7 +37,7 @@ module _ (len offset : ℕ) (indices values : Tree) (fill : PlainScalar) where
   pub row_at-sparse : (i : ℕ) → i < len → row_at (rows (sparse len offset indices values fill)) i ≡ patched (rows indices) (rows values) fill.value (offset + i)
   row_at-sparse i l = row_at-below row_of len i l
 
-  -- ---- by the place of a patch
+  -- ---- by the position of a patch
 
   module _ (h : WellFormed (sparse len offset indices values fill)) where
     -- where the search for a row's patch ends at a place

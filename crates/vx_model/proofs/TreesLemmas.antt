@@ -1,4 +1,4 @@
--- Lists of trees as they stand inside a tree.
+-- Trees inside a tree, as lists.
 use Rattle.std.proofs.Common.{◌≡◌, ◌<◌, ◌+◌, ℕ, zero, suc, List, [], ◌∷◌, ◌++◌, length, take, get_or, slice_get, Some, refl, ap, ◌∙◌, arith}
 use Rattle.std.specs.Prelude.{◌==◌, ◌&&◌, nat_le, sum_by}
 use Rattle.std.specs.List.{list_all}
@@ -58,7 +58,7 @@ pub sizes-of_list : (ts : List Tree) → sizes (of_list ts) ≡ sum_by size ts
 sizes-of_list [] = refl
 sizes-of_list (t ∷ ts) = rw (sum_by-cons size t ts) (ap (λ n. size t + n) (sizes-of_list ts))
 
--- the extents of one tree after the other are few where those of each are
+-- the extents of several trees are within the row limit where those of each are
 pub few-of_list : (ts : List Tree) → list_all (λ extent. nat_le extent row_limit) (all_extents (of_list ts)) ≡ list_all (λ t. list_all (λ extent. nat_le extent row_limit) (extents t)) ts
 few-of_list [] = refl
 few-of_list (t ∷ ts) = list_all-append (λ extent. nat_le extent row_limit) (extents t) (all_extents (of_list ts)) ∙ ap (λ r. list_all (λ extent. nat_le extent row_limit) (extents t) && r) (few-of_list ts)

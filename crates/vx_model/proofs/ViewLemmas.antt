@@ -20,7 +20,7 @@ use Rattle.vx_model.proofs.FlatLemmas.{length-flat, row_at-flat, any_null-flat, 
 use Rattle.vx_model.proofs.MadeLemmas.{kept_validity}
 use Rattle.vx_model.proofs.PackedLemmas.{passed}
 
--- values and their validity that are accepted
+-- accepted values and their validity
 pub record IsAccepted (t : PlainType) (vs : List (List ℕ)) (valid : Validity) : Type 0 where
   pub view : IsView vs (kept valid) t
   pub fitting : list_all (fits t) (valid_rows (kept valid) (map bytes vs)) ≡ true

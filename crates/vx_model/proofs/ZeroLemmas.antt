@@ -5,7 +5,7 @@ use Rattle.std.proofs.lemmas.List.{take_all}
 use Rattle.vx_model.specs.Decoded.{zeroed, zero_beneath}
 
 module _ {A : Type 0} (default : A) where
-  -- the item at a place, or the default where its bit is false
+  -- the item at an index, or the default where its bit is false
   abbrev pub kept_at : List A → ℕ → Bool → A
   kept_at xs i bit = cond bit (slice_index_or xs i default) default
 
@@ -18,9 +18,9 @@ module _ {A : Type 0} (default : A) where
   pub zeroed-next : (bits : List Bool) (xs : List A) (i : ℕ) → i < length bits → i < length xs → zeroed default (take (i + 1) bits) xs ≡ slice_set (zeroed default (take i bits) xs) i (kept_at (zeroed default (take i bits) xs) i (slice_index_or bits i false))
   zeroed-next bits xs i h l = rw add-one (zeroed-take-suc bits xs i h l)
 
--- tested by any test, and the items behind the last by any item
+-- with any test, and any item out of bounds
 module _ {A : Type 0} (is_default : A → Bool) (other : A) where
-  -- whether the item at a place passes where its bit is false
+  -- whether the item at an index passes where its bit is false
   abbrev pub zero_at : List Bool → List A → ℕ → Bool
   zero_at bits xs i = slice_index_or bits i false || is_default (slice_index_or xs i other)
 

@@ -1,4 +1,4 @@
--- Integers as their zigzag: their rows, that a constructor's tree is well formed, and what their decoding has to show.
+-- Zigzags: their rows, that a constructor's tree is well formed, and their decoding.
 use Rattle.std.proofs.Common.{◌≡◌, ◌<◌, ◌∙◌, ℕ, ℤ, pos, negsuc, List, length, map, refl, ap, sym, arith, true, None}
 use Rattle.std.specs.Prelude.{not, unsigned_abs}
 use Rattle.std.specs.List.{list_all, list_any}
@@ -47,7 +47,7 @@ zig_zag_accepted encoded h w =
     let a = passed _ _ _ h in
     (w, record { unsigned = a.0 }, all_unzigzagged_fit (tree_type encoded) (rows encoded) a.0 (rows_fit encoded w))
 
--- ---- what is read of a row is a word
+-- ---- a row is a word of 64 bits
 
 lies_in_word : (p : PType) (z : ℤ) → not (is_signed p) ≡ true → lies_in p z ≡ true → lies_in U64 z ≡ true
 lies_in_word U8 (pos n) e h = lt-ltb _ _ (omega (arith, ltb-true _ _ h))

@@ -16,38 +16,39 @@ use Rattle.vx_model.specs.Plain.{plain, validity}
 use Rattle.vx_model.specs.Site.{Site, fresh, down}
 use Rattle.vx_model.specs.Size.{size}
 
--- how a leaf column at a site becomes a tree
+-- a way to make the tree of a leaf column at a site
 abbrev pub Leaves : Type 0
 Leaves = Column → Site → Tree
 
--- a constant, masked or not
+-- whether a tree is a constant, masked or not
 abbrev pub is_one_value : Tree → Bool
 is_one_value (constant s len) = true
 is_one_value (masked child valid) = true
 is_one_value _ = false
 
--- a scheme's tree that stands, and is smaller than another tree
+-- whether a scheme's tree was chosen, and is smaller than another tree
 abbrev pub is_better : Column → Tree → Tree → Bool
 is_better c made other = not (same stored_tree made (plain c)) && nat_lt (size made) (size other)
 
--- the tree that a site makes of timestamps, where it is a constant or better than the compressed storage under Timestamp; else that
+-- the tree made of timestamps themselves where it is a constant, or smaller than a Timestamp over their compressed storage; else
+-- the latter
 abbrev pub site_or_storage : Column → Tree → Tree → Tree
 site_or_storage c made storage = if is_one_value made || is_better c made storage then made else storage
 
--- the name of the root in a history
+-- the name that stands for the root in a history
 abbrev pub root_name : List ℕ
 root_name = codes "vortex.compressor.root"
 
--- the site of a list's offsets: one below the root, as its child 1
+-- the site of a list's offsets: one level below the root, as its child 1, so that fewer schemes may nest there
 abbrev pub offsets_site : Site
 offsets_site = down fresh root_name 1
 
--- the offsets of lists in the narrowest unsigned type that holds them
+-- the offsets of lists, in the narrowest unsigned type with all of them in range
 abbrev pub narrow_offsets : List (List PlainValue) → Column
 narrow_offsets rows = column (primitive (offsets_type (sum_by length rows)) NonNullable) (offset_values rows)
 
--- A leaf type begins at the fresh site, and so do timestamps and the integers that they are. Each field of structs and the
--- elements of lists are columns of their own; so are the offsets of lists, below the root.
+-- Columns of a leaf type are judged at the fresh site, and so are timestamps and their storage. Each field of a struct and the
+-- elements of a list are columns of their own; the offsets of a list are a leaf column below the root.
 abbrev mutual
   pub cascade_of : Leaves → PlainType → List PlainValue → Tree
   cascade_of leaves types.null_type values = nulls (length values)
@@ -75,7 +76,7 @@ abbrev mutual
 abbrev pub cascade : Leaves → Column → Tree
 cascade leaves c = cascade_of leaves c.dtype c.values
 
--- ---- the columns within a column that are judged, each with the site where it begins
+-- ---- the columns within a column that are judged, each with the site at which it begins
 
 abbrev mutual
   pub beginnings : PlainType → List PlainValue → List (Column × Site)

@@ -1,4 +1,4 @@
--- A column: a type and a list of values, null where there is none.
+-- Columns: a type and a list of values.
 use Rattle.std.specs.Prelude.{List, IsTrue}
 use Rattle.std.specs.List.{list_all}
 use Rattle.vx_base.specs.PlainType.{PlainType}
@@ -13,11 +13,11 @@ pub record Column : Type 0 where
   pub dtype : PlainType
   pub values : List PlainValue
 
--- the column of this type with these values
+-- a column from its type and values
 abbrev pub column : PlainType → List PlainValue → Column
 column t vs = record { dtype = t; values = vs }
 
--- each value fits the type
+-- each value is of the type
 abbrev pub IsColumn : Column → Type 0
 IsColumn c = IsTrue (list_all (fits c.dtype) c.values)
 

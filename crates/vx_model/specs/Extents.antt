@@ -1,4 +1,4 @@
--- How many rows a column and each nested column have, and how many a tree as it is given.
+-- The rows of a column and of each nested column: their counts, and the extents of a tree, which bound them.
 use Rattle.std.specs.Prelude.{ℕ, ◌+◌, ◌*◌, ◌^◌, ◌-◌, Bool, List, [], ◌∷◌, ◌++◌, map, length, nat_le}
 use Rattle.std.specs.List.{list_all}
 use Rattle.vx_base.specs.PlainScalar.{PlainScalar}
@@ -10,7 +10,7 @@ use Rattle.vx_model.specs.Nested.{first_within, rest_within, struct_rows, elemen
 use Rattle.vx_model.specs.Tree as trees
 use Rattle.vx_model.specs.Rows.{rows, offset_at}
 
--- the rows of the column, then of each nested column in the order of the type
+-- the number of rows of the column, and then of each nested column, in the order of the type
 abbrev mutual
   pub counts : PlainType → List PlainValue → List ℕ
   counts types.null_type values = length values ∷ []
@@ -23,22 +23,23 @@ abbrev mutual
   counts (types.list t n) values = length values ∷ counts t (elements values)
   counts (types.fixed_size_list t size n) values = length values ∷ counts t (fixed_elements t size values)
 
-  -- of each field
+  -- the counts of each field's column
   pub field_counts : PlainFields → List PlainValues → List ℕ
   field_counts types.none rows = []
   field_counts (types.more name t fs) rows = counts t (map first_within rows) ++ field_counts fs (map rest_within rows)
 
--- two columns' counts, one behind the other in each nested column
+-- the sums of two lists of counts, which are the counts of the concatenated columns
 abbrev pub both : List ℕ → List ℕ → List ℕ
 both [] others = []
 both (count ∷ counts) [] = []
 both (count ∷ counts) (other ∷ others) = (count + other) ∷ both counts others
 
--- of so many rows with one value
+-- the counts of `len` rows of one value
 abbrev pub repeated : ℕ → PlainScalar → List ℕ
 repeated len s = map (λ count. len * count) (counts s.dtype (s.value ∷ []))
 
--- the same of a tree, a constant's value and a fill counted once a row
+-- the extents of a tree, without decoding it: as the counts of its rows, with the values of a constant and of a fill counted in
+-- each of their rows, and rows beneath a null counted as they are stored
 abbrev mutual
   pub extents : Tree → List ℕ
   extents (trees.primitive p xs valid n) = length xs ∷ []
@@ -63,15 +64,15 @@ abbrev mutual
   extents (sequence p n first step len) = len ∷ []
   extents (delta bases deltas len valid n) = len ∷ []
 
-  -- of several trees, one after the other
+  -- of several trees, one after another
   pub all_extents : Trees → List ℕ
   all_extents none = []
   all_extents (more t ts) = extents t ++ all_extents ts
 
--- the greatest number of rows that is compressed
+-- the row limit of compression
 abbrev pub row_limit : ℕ
 row_limit = 2 ^ 31
 
--- each extent is within the limit of rows
+-- whether each extent is within the row limit
 abbrev pub extents_fit : Tree → Bool
 extents_fit t = list_all (λ extent. nat_le extent row_limit) (extents t)

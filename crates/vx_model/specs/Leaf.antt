@@ -9,28 +9,28 @@ use Rattle.vx_model.specs.Plain.{plain, valid_bits}
 use Rattle.vx_model.specs.Site.{Site}
 use Rattle.vx_model.specs.Size.{size}
 
--- the tree that the chosen scheme makes of a column at a site, if one is chosen
+-- a choice: the tree that the chosen scheme makes of a column at a site, None where none is chosen
 abbrev pub Chooses : Type 0
 Chooses = Column → Site → Option Tree
 
--- no scheme is there to be chosen
+-- the choice without schemes
 abbrev pub no_scheme : Chooses
 no_scheme c site = None
 
--- the value of the first valid row
+-- the first value that isn't null
 abbrev pub first_valid : List PlainValue → Option PlainValue
 first_valid [] = None
 first_valid (v ∷ vs) = if is_null v then first_valid vs else Some v
 
--- a row is null or v
+-- whether a value is null or v
 abbrev pub null_or : PlainValue → PlainValue → Bool
 null_or v w = is_null w || same_value w v
 
--- every row is null or v
+-- whether every value is null or v
 abbrev pub each_null_or : PlainValue → List PlainValue → Bool
 each_null_or v values = list_all (null_or v) values
 
--- the value that all valid rows have
+-- the one value of all valid rows, None where there are two or no valid row
 abbrev pub one_value : List PlainValue → Option PlainValue
 one_value values = option_and_then (λ v. if each_null_or v values then Some v else None) (first_valid values)
 
@@ -40,22 +40,23 @@ one_value_tree c v =
     if list_any is_null c.values then masked (constant (scalar c.dtype v) (length c.values)) (valid_bits c.values)
     else constant (scalar c.dtype v) (length c.values)
 
--- the tree where it is smaller than the plain one, else the plain one
+-- a tree if it is smaller than the plain one, else the plain one
 abbrev pub smaller_or_plain : Column → Tree → Tree
 smaller_or_plain c t = if nat_lt (size t) (size (plain c)) then t else plain c
 
--- the tree that was chosen, where it is smaller than the plain one
+-- the chosen tree if there is one and it is smaller than the plain one, else the plain one
 abbrev pub chosen_or_plain : Column → Option Tree → Tree
 chosen_or_plain c None = plain c
 chosen_or_plain c (Some t) = smaller_or_plain c t
 
--- by the value that all valid rows have, if there is one
+-- a constant where all valid rows have one value, else the choice; each against the plain tree
 abbrev pub by_value : Chooses → Column → Site → Option PlainValue → Tree
 by_value chooses c site (Some v) = smaller_or_plain c (one_value_tree c v)
 by_value chooses c site None = chosen_or_plain c (chooses c site)
 
--- An empty column stays plain; nulls alone become a constant; outside samples, equal valid values become a constant or a
--- masked one where that is smaller; else the chosen scheme's tree stands where it is smaller than the plain one.
+-- An empty column stays plain, and a column of nulls is a constant. Where all valid rows are equal, a constant, masked if there
+-- are nulls, stands if it is smaller than the plain tree; samples are not tested for that, since a sample of equal rows says
+-- nothing of its column. Else the chosen scheme's tree stands if it is smaller than the plain one.
 abbrev pub leaf : Chooses → Column → Site → Tree
 leaf chooses c site =
     if length c.values == 0 then plain c

@@ -10,22 +10,22 @@ use Rattle.vx_base.specs.PlainType as types
 use Rattle.vx_base.specs.PlainValue.{PlainValue, PlainValues, null, items, items_or_empty}
 use Rattle.vx_base.specs.PlainValue as vals
 
--- the values within a value, none of any that holds no others
+-- the items of a list or the field values of a struct, none of any other value
 abbrev pub within : PlainValue → PlainValues
 within (items vs) = vs
 within _ = vals.none
 
--- the first of several values, null where there is none
+-- the first value, null where there is none
 abbrev pub first_within : PlainValues → PlainValue
 first_within vals.none = null
 first_within (vals.more v vs) = v
 
--- the others
+-- the values after the first
 abbrev pub rest_within : PlainValues → PlainValues
 rest_within vals.none = vals.none
 rest_within (vals.more v vs) = vs
 
--- the fields' values of each struct; of a null those of the default
+-- the field values of each struct, and in place of null those of the default
 abbrev pub struct_rows : PlainFields → List PlainValue → List PlainValues
 struct_rows fs values = map (λ v. within (or_default (items (field_defaults fs)) v)) values
 
@@ -34,27 +34,27 @@ abbrev pub names_of : PlainFields → List (List ℕ)
 names_of types.none = []
 names_of (types.more name t fs) = name ∷ names_of fs
 
--- the items of each list; of a null none
+-- the items of each list, and none in place of null
 abbrev pub list_rows : List PlainValue → List (List PlainValue)
 list_rows values = map items_or_empty values
 
--- the items of all rows, one row after the other
-abbrev pub joined : {A : Type 0} → List (List A) → List A
-joined [] = []
-joined (row ∷ rows) = row ++ joined rows
+-- lists concatenated
+abbrev pub concatenated : {A : Type 0} → List (List A) → List A
+concatenated [] = []
+concatenated (row ∷ rows) = row ++ concatenated rows
 
--- the elements of all lists, one list after the other
+-- the elements of all lists, one list after another
 abbrev pub elements : List PlainValue → List PlainValue
-elements values = joined (list_rows values)
+elements values = concatenated (list_rows values)
 
--- the items of each list of fixed size; of a null those of the default
+-- lists of fixed size, with the default in place of null
 abbrev pub fixed_rows : PlainType → ℕ → List PlainValue → List PlainValue
 fixed_rows t size values = map (or_default (default_of (types.fixed_size_list t size NonNullable))) values
 
--- the elements of all of these, one list after the other
+-- the elements of these lists, one list after another
 abbrev pub fixed_elements : PlainType → ℕ → List PlainValue → List PlainValue
 fixed_elements t size values = elements (fixed_rows t size values)
 
--- the narrowest unsigned type of offsets up to this one
+-- the narrowest unsigned type with `end` in range
 abbrev pub offsets_type : ℕ → PType
 offsets_type end = unwrap_or (narrow_of (pos 0) (pos end)) U64

@@ -1,4 +1,4 @@
--- Rows of items that stand one after the other, and the offsets between them.
+-- Offsets between rows that are concatenated.
 use Rattle.std.specs.Prelude.{ℕ, ◌+◌, pos, List, [], ◌∷◌, map, length}
 use Rattle.vx_base.specs.declared.dtype.Nullability.TheVariants.{NonNullable}
 use Rattle.vx_base.specs.declared.ptype.PType.TheVariants.{U64}
@@ -6,20 +6,20 @@ use Rattle.vx_base.specs.PlainType as types
 use Rattle.vx_base.specs.PlainValue.{PlainValue, int, bytes_or_empty}
 use Rattle.vx_model.specs.Column.{Column, column}
 
--- where each row begins, and where the last one ends, if the first one begins here
+-- the offset of each row, and the end of the last one, where the first begins at `here`
 abbrev pub offsets_from : {A : Type 0} → ℕ → List (List A) → List ℕ
 offsets_from here [] = here ∷ []
 offsets_from here (row ∷ rows) = here ∷ offsets_from (here + length row) rows
 
--- the offsets of rows, from 0 on: one more than there are rows
+-- the prefix sums of the rows' lengths, from 0 on: one more than there are rows
 abbrev pub offsets_of : {A : Type 0} → List (List A) → List ℕ
 offsets_of rows = offsets_from 0 rows
 
--- the same as values
+-- the offsets as values
 abbrev pub offset_values : {A : Type 0} → List (List A) → List PlainValue
 offset_values rows = map int (map pos (offsets_of rows))
 
--- the column of the offsets of rows
+-- the offsets as a column of u64
 abbrev pub offsets_column : {A : Type 0} → List (List A) → Column
 offsets_column rows = column (types.primitive U64 NonNullable) (offset_values rows)
 

@@ -1,5 +1,5 @@
--- The plain tree of a column: no encoding, the default beneath nulls, which is an empty list in columns of lists, list
--- offsets of 64 unsigned bits from 0 on, and validity bits exactly where some row is null.
+-- The plain tree of a column, the one without any encoding: defaults beneath nulls, list offsets as u64 from 0 on, and validity
+-- bits exactly where some row is null.
 use Rattle.std.specs.Prelude.{◌≡◌, ◌<◌, ◌^◌, pos, Bool, List, map, length, None, Some, not, if◌then◌else◌}
 use Rattle.std.specs.List.{list_any}
 use Rattle.vx_base.specs.declared.ptype.PType.TheVariants.{U64, I64}
@@ -13,19 +13,19 @@ use Rattle.vx_model.specs.Nested.{first_within, rest_within, struct_rows, names_
 use Rattle.vx_model.specs.Offsets.{offsets_of}
 use Rattle.vx_model.specs.Column.{Column, column_of}
 
--- true where the row isn't null
+-- true where a row isn't null
 abbrev pub valid_bits : List PlainValue → List Bool
 valid_bits values = map (λ v. not (is_null v)) values
 
--- one truth value a row where some row is null, else none
+-- the validity bits where some row is null, else None
 abbrev pub validity : List PlainValue → Validity
 validity values = if list_any is_null values then Some (valid_bits values) else None
 
--- the offsets of lists, as 64 unsigned bits each
+-- the offsets of lists as a plain tree of u64
 abbrev pub plain_offsets : List (List PlainValue) → Tree
 plain_offsets rows = primitive U64 (map pos (offsets_of rows)) None NonNullable
 
--- by the type
+-- the plain tree of values, by their type
 abbrev mutual
   pub plain_of : PlainType → List PlainValue → Tree
   plain_of types.null_type values = nulls (length values)
@@ -44,15 +44,15 @@ abbrev mutual
   plain_fields types.none rows = trees.none
   plain_fields (types.more name t fs) rows = trees.more (plain_of t (map first_within rows)) (plain_fields fs (map rest_within rows))
 
--- the one tree of a column without any encoding
+-- the plain tree of a column
 abbrev pub plain : Column → Tree
 plain c = plain_of c.dtype c.values
 
--- a tree that is the plain one of its own column
+-- a tree is the plain tree of its own column
 abbrev pub IsPlain : Tree → Type 0
 IsPlain t = t ≡ plain (column_of t)
 
--- all lists of a column have fewer than 2^64 elements together, in each nested column too: their offsets have 64 bits
+-- all lists of a column have fewer than 2^64 elements together, in each nested column too, so that u64 offsets hold them
 abbrev mutual
   pub FewElements : PlainType → List PlainValue → Type 0
   FewElements (types.structure fs n) values = FewFieldElements fs (struct_rows fs values)

@@ -1,5 +1,5 @@
--- The rows of a tree, the values that it stands for; the children are decoded first.
-use Rattle.std.specs.Prelude.{ℕ, zero, suc, ◌+◌, ◌*◌, ◌/◌, ℤ, pos, unsigned_abs, ◌+ℤ◌, ◌*ℤ◌, int_lt, fold, ◌-◌, Bool, true, false, ◌==◌, List, [], ◌∷◌, map, Option, None, Some, position, replicate, slice_index_or, unwrap_or, length, take, drop, cond}
+-- The rows of a tree: the values that it stands for.
+use Rattle.std.specs.Prelude.{ℕ, zero, suc, ◌+◌, ◌/◌, ℤ, pos, unsigned_abs, ◌+ℤ◌, ◌*ℤ◌, int_lt, ◌-◌, Bool, true, false, ◌==◌, List, [], ◌∷◌, map, Option, None, Some, position, replicate, slice_index_or, unwrap_or, length, take, drop, cond}
 use Rattle.std.specs.List.{range_with_len}
 use Rattle.vx_base.specs.Masks.{rows_between}
 use Rattle.vx_base.specs.Packed.{packed_row}
@@ -20,25 +20,25 @@ masked_rows [] rows = []
 masked_rows (bit ∷ bits) [] = []
 masked_rows (bit ∷ bits) (row ∷ rows) = cond bit row null ∷ masked_rows bits rows
 
--- null where the row isn't valid
+-- null where the validity is false
 abbrev pub valid_rows : Validity → List PlainValue → List PlainValue
 valid_rows None rows = rows
 valid_rows (Some bits) rows = masked_rows bits rows
 
--- row i is valid
+-- whether row i is valid
 abbrev pub is_valid_at : Validity → ℕ → Bool
 is_valid_at None i = true
 is_valid_at (Some bits) i = slice_index_or bits i false
 
--- row i, null where there is none
+-- row i, null out of bounds
 abbrev pub row_at : List PlainValue → ℕ → PlainValue
 row_at rows i = slice_index_or rows i null
 
--- f at each number below n
+-- f at 0 to n - 1
 abbrev pub below : {A : Type 0} → (ℕ → A) → ℕ → List A
 below f n = map f (range_with_len 0 n)
 
--- the natural number that a row is
+-- the natural number of a row, None of any other value
 abbrev pub index_of : PlainValue → Option ℕ
 index_of (int (pos k)) = Some k
 index_of _ = None
@@ -48,47 +48,47 @@ abbrev pub is_index : PlainValue → ℕ → Bool
 is_index (int (pos k)) n = k == n
 is_index _ n = false
 
--- the place of the patch whose index is n
+-- the position of the first index that is n
 abbrev pub place_of : List PlainValue → ℕ → Option ℕ
 place_of is n = position (λ i. is_index i n) is
 
--- that patch, else what it patches
+-- the value of the first patch whose index is n, and `fill` where there is none
 abbrev pub patched : List PlainValue → List PlainValue → PlainValue → ℕ → PlainValue
 patched [] rows fill n = fill
 patched (i ∷ is) [] fill n = fill
 patched (i ∷ is) (row ∷ rows) fill n = cond (is_index i n) row (patched is rows fill n)
 
--- a row as it is packed
+-- row i as its packed bits
 abbrev pub packed_at : PlainPacked → ℕ → PlainValue
 packed_at k i = int (pos (packed_row k.bytes k.width i))
 
--- the function of a value's whole number; null stays null
+-- a function on integers applied to a value; null stays null
 abbrev pub each_int : (ℤ → ℤ) → PlainValue → PlainValue
 each_int f null = null
 each_int f v = int (f (whole_or_zero v))
 
--- a whole number and the reference, summed in the reference's type
+-- reference + z, wrapped in the reference's type
 abbrev pub summed : PlainScalar → ℤ → ℤ
 summed reference z = wrap (integer_of reference.dtype) (whole_or_zero reference.value +ℤ z)
 
--- the same of a row
+-- reference + row
 abbrev pub moved : PlainScalar → PlainValue → PlainValue
 moved reference = each_int (summed reference)
 
--- the whole number whose zigzag a whole number is
+-- the integer with this zigzag
 abbrev pub unzigzagged_whole : ℤ → ℤ
 unzigzagged_whole z = unzigzag (unsigned_abs z)
 
--- the same of a row
+-- a row, from its zigzag
 abbrev pub unzigzagged : PlainValue → PlainValue
 unzigzagged = each_int unzigzagged_whole
 
--- the value whose place a code is; null of a null code
+-- the value with a code as its index; null of a null code
 abbrev pub looked_up : List PlainValue → PlainValue → PlainValue
 looked_up values (int (pos k)) = row_at values k
 looked_up values _ = null
 
--- the offset at a place
+-- offset i, 0 where it is no natural number
 abbrev pub offset_at : List PlainValue → ℕ → ℕ
 offset_at offsets i = unwrap_or (index_of (row_at offsets i)) 0
 
@@ -100,18 +100,18 @@ cut_at offsets all = below (λ i. rows_between all (offset_at offsets i) (offset
 abbrev pub list_value : List PlainValue → PlainValue
 list_value vs = items (vals.of_list vs)
 
--- so many lists of items, one after the other, each of one size
+-- `len` consecutive parts of `size` items each
 abbrev pub parts_of : {A : Type 0} → ℕ → ℕ → List A → List (List A)
 parts_of size zero xs = []
 parts_of size (suc len) xs = take size xs ∷ parts_of size len (drop size xs)
 
--- a column's rows, each before the row beside it
+-- each row of a column in front of the values beside it
 abbrev pub each_before : List PlainValue → List PlainValues → List PlainValues
 each_before [] rows = []
 each_before (v ∷ column) [] = []
 each_before (v ∷ column) (row ∷ rows) = vals.more v row ∷ each_before column rows
 
--- the value of the first run that ends behind row i
+-- the value of row i's run: the first with an exclusive end above i
 abbrev pub run_value : List PlainValue → List PlainValue → ℕ → PlainValue
 run_value [] values i = null
 run_value (end ∷ ends) [] i = null
@@ -121,15 +121,15 @@ run_value (end ∷ ends) (v ∷ values) i = cond (int_lt (pos i) (whole_or_zero 
 abbrev pub block_rows : ℕ
 block_rows = 1024
 
--- the place of row i's value: where its block's values begin, and its own place among them
+-- the index of row i's value: the offset of its block plus its own index within the block
 abbrev pub rle_place : List PlainValue → List PlainValue → ℕ → PlainValue
 rle_place offsets indices i = int (whole_or_zero (row_at offsets (i / block_rows)) +ℤ whole_or_zero (row_at indices i))
 
--- row i from its block's base and the block's differences up to its own
+-- row i by delta decoding: the base of its block plus the block's differences up to row i, wrapped
 abbrev pub summed_up : PType → List PlainValue → List PlainValue → ℕ → PlainValue
 summed_up p bases deltas i = int (undelta_row p (map whole_or_zero bases) (map whole_or_zero deltas) i)
 
--- the values that a tree stands for, row by row
+-- the rows of a tree, node by node
 abbrev mutual
   pub rows : Tree → List PlainValue
   rows (bool bs valid n) = valid_rows valid (map truth bs)
@@ -154,12 +154,12 @@ abbrev mutual
   rows (sequence p n first step len) = below (λ i. int (first +ℤ pos i *ℤ step)) len
   rows (delta bases deltas len valid n) = valid_rows valid (below (summed_up (integer_of (tree_type bases)) (rows bases) (rows deltas)) len)
 
-  -- of so many rows, in each the values of the fields
+  -- `len` rows, each the values of the fields
   pub field_rows : Trees → ℕ → List PlainValues
   field_rows none len = replicate len vals.none
   field_rows (more t ts) len = each_before (rows t) (field_rows ts len)
 
--- a row of packed integers where it is valid: its patch, else its bits
+-- a valid row of packed integers: the value of its patch, else its bits
 abbrev pub packed_or_patch : PlainPacked → Option PlainPatches → ℕ → PlainValue
 packed_or_patch k None i = packed_at k i
 packed_or_patch k (Some p) i = patched (rows p.indices) (rows p.values) (packed_at k i) (p.offset + i)

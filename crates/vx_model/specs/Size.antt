@@ -1,4 +1,4 @@
--- The bytes of a tree.
+-- The size of a tree in bytes.
 use Rattle.std.specs.Prelude.{ℕ, min, ◌-◌, ◌^◌, ◌+◌, ◌*◌, ◌/◌, nat_le, List, length, sum_by, if◌then◌else◌, Option, Some, None}
 use Rattle.vx_base.specs.Integers.{bytes_of}
 use Rattle.vx_base.specs.Packed.{packed_size}
@@ -9,16 +9,16 @@ use Rattle.vx_base.specs.PlainValue as vals
 use Rattle.vx_model.specs.Tree.{Tree, Trees, Validity, PlainPatches, bool, var_bin_view, var_bin, timestamp, constant, masked, bit_packed, bit_packed_with, frame_of_reference, zig_zag, dict, nulls, structure, list, fixed_size_list, none, more, sparse, run_end, rle, sequence, delta}
 use Rattle.vx_model.specs.Tree as trees
 
--- whole bytes that hold this many bits
+-- the bytes of a number of bits, rounded up
 abbrev pub bit_bytes : ℕ → ℕ
 bit_bytes bits = (bits + 7) / 8
 
--- the bytes of validity, one bit a row
+-- the bytes of validity, at a bit per row
 abbrev pub validity_size : Validity → ℕ
 validity_size None = 0
 validity_size (Some bits) = bit_bytes (length bits)
 
--- the bytes of a value of a type, with those within; none of null
+-- the bytes of a value of a type, with those within; 0 of null
 abbrev mutual
   pub payload : PlainType → PlainValue → ℕ
   payload t null = 0
@@ -30,21 +30,21 @@ abbrev mutual
   payload (types.fixed_size_list t size n) (items vs) = items_payload t vs
   payload _ (items vs) = 0
 
-  -- of each value by the type of its field
+  -- of each value, by its field's type
   pub fields_payload : PlainFields → PlainValues → ℕ
   fields_payload (types.more name t fs) (vals.more v vs) = payload t v + fields_payload fs vs
   fields_payload _ _ = 0
 
-  -- of each value by one type
+  -- of each value, by the one type
   pub items_payload : PlainType → PlainValues → ℕ
   items_payload t vals.none = 0
   items_payload t (vals.more v vs) = payload t v + items_payload t vs
 
--- what stands beside the 16 bytes of a value: its bytes, where they are more than 12
+-- the bytes of a text or binary beside its view of 16 bytes, which holds up to 12 of them inline
 abbrev pub long_bytes : List ℕ → ℕ
 long_bytes bs = if nat_le (length bs) 12 then 0 else length bs
 
--- the bytes of a tree
+-- the size of a tree, node by node
 abbrev mutual
   pub size : Tree → ℕ
   size (bool bs valid n) = bit_bytes (length bs) + validity_size valid
@@ -69,16 +69,16 @@ abbrev mutual
   size (sequence p n first step len) = 0
   size (delta bases deltas len valid n) = size bases + size deltas + validity_size valid
 
-  -- of several trees together
+  -- the sum over several trees
   pub sizes : Trees → ℕ
   sizes none = 0
   sizes (more t ts) = size t + sizes ts
 
--- the bytes of patches, where there are patches
+-- the size of patches, if there are any
 abbrev pub patches_size : Option PlainPatches → ℕ
 patches_size None = 0
 patches_size (Some p) = size p.indices + size p.values
 
--- the bytes as 128 bits count them
+-- the size, saturated at 128 bits
 abbrev pub nbytes : Tree → ℕ
 nbytes t = min (size t) (2 ^ 128 - 1)

@@ -1,4 +1,4 @@
--- A tree of encodings as plain data: its fields in the order of the node's constructor in code.
+-- Trees of encodings as plain data. The fields of a node stand in the order of its constructor in the code.
 use Rattle.std.specs.Prelude.{ℕ, suc, ◌+◌, ℤ, Bool, List, [], ◌∷◌, Option, None, Some}
 use Rattle.vx_base.specs.declared.ptype.PType.{PType}
 use Rattle.vx_base.specs.declared.dtype.Nullability.{Nullability}
@@ -6,11 +6,11 @@ use Rattle.vx_base.specs.PlainScalar.{PlainScalar}
 use Rattle.vx_base.specs.PlainType.{PlainType}
 use Rattle.vx_base.specs.Timestamps.{PlainTimestamp}
 
--- one truth value a row, true where the row is valid; none where every row is
+-- a bit per row, true where the row is valid; None where every row is
 abbrev pub Validity : Type 0
 Validity = Option (List Bool)
 
--- integers of a type, so many bits each, in bytes
+-- integers of a type, packed at `width` bits
 pub record PlainPacked : Type 0 where
   pub ptype : PType
   pub width : ℕ
@@ -19,7 +19,7 @@ pub record PlainPacked : Type 0 where
   pub valid : Validity
   pub nullability : Nullability
 
--- integers of this type, packed so
+-- packed integers from their parts
 abbrev pub plain_packed : PType → ℕ → List ℕ → ℕ → Validity → Nullability → PlainPacked
 plain_packed p width bytes len valid n = record { ptype = p; width = width; bytes = bytes; len = len; valid = valid; nullability = n }
 
@@ -32,41 +32,42 @@ mutual
     primitive : PType → List ℤ → Validity → Nullability → Tree
     -- texts or binaries, their validity and type
     var_bin_view : List (List ℕ) → Validity → PlainType → Tree
-    -- the same, each from one offset into the bytes to the next
+    -- texts or binaries, each from one offset into the bytes to the next
     var_bin : Tree → List ℕ → Validity → PlainType → Tree
     -- timestamps of a kind, over integers of 64 signed bits
     timestamp : Tree → PlainTimestamp → Tree
-    -- one scalar in every row
+    -- a scalar in each of `len` rows
     constant : PlainScalar → ℕ → Tree
     -- the child's rows, null where the mask is false
     masked : Tree → List Bool → Tree
-    -- integers of some bits each, without patches
+    -- packed integers without patches
     bit_packed : PlainPacked → Tree
-    -- and with patches: their array length and offset, indices and values
+    -- packed integers with patches: their array length, offset, indices and values
     bit_packed_with : PlainPacked → ℕ → ℕ → Tree → Tree → Tree
-    -- integers less a reference
+    -- the differences of integers from a reference, and the reference
     frame_of_reference : Tree → PlainScalar → Tree
-    -- integers as their zigzag
+    -- the zigzags of integers
     zig_zag : Tree → Tree
-    -- the places of each row's value, and the values
+    -- for each row the index of its value, and the values
     dict : Tree → Tree → Tree
-    -- so many nulls
+    -- `len` nulls
     nulls : ℕ → Tree
-    -- the names of fields, a tree for each, the rows, their validity and nullability
+    -- the names of fields, a tree for each, the number of rows, their validity and nullability
     structure : List (List ℕ) → Trees → ℕ → Validity → Nullability → Tree
     -- the elements of all lists, the offsets between them, their validity and nullability
     list : Tree → Tree → Validity → Nullability → Tree
-    -- the elements of all lists, how many each list has, the rows, their validity and nullability
+    -- the elements of all lists, the size of each list, the number of rows, their validity and nullability
     fixed_size_list : Tree → ℕ → ℕ → Validity → Nullability → Tree
-    -- a scalar in every row but the patched ones; the array length, offset, indices and values of the patches
+    -- the array length, offset, indices and values of patches, and a scalar in every other row
     sparse : ℕ → ℕ → Tree → Tree → PlainScalar → Tree
-    -- where each run of rows ends, and the value of each
+    -- the exclusive end of each run of rows, and its value
     run_end : Tree → Tree → Tree
-    -- the values of runs, the place of each row's value among those of its block, where each block's begin, and the rows
+    -- the values of runs, for each row the index of its value within its block, for each block the offset of its values, and the
+    -- number of rows
     rle : Tree → Tree → Tree → ℕ → Tree
-    -- integers of a type from a first one on, each a step from the one before
+    -- an arithmetic sequence: its type and nullability, first, step and number of rows
     sequence : PType → Nullability → ℤ → ℤ → ℕ → Tree
-    -- a base for each block, the difference of each row from the one before, the rows, their validity and nullability
+    -- a base for each block, for each row the difference from the row before, the number of rows, their validity and nullability
     delta : Tree → Tree → ℕ → Validity → Nullability → Tree
 
   -- trees inside a tree, in their order
@@ -74,7 +75,7 @@ mutual
     none : Trees
     more : Tree → Trees → Trees
 
--- trees as they stand inside a tree, from a list of them
+-- trees in the form that a tree holds, from a list
 abbrev pub of_list : List Tree → Trees
 of_list [] = none
 of_list (t ∷ ts) = more t (of_list ts)
@@ -84,7 +85,7 @@ abbrev pub list_of : Trees → List Tree
 list_of none = []
 list_of (more t ts) = t ∷ list_of ts
 
--- how many nodes it has, one for a node's patches, and one for each tree in a list
+-- the measure by which recursion over trees ends: the nodes, and 1 more for patches and for each tree in a list
 abbrev mutual
   pub node_count : Tree → ℕ
   node_count (bool bs valid n) = 1
@@ -113,26 +114,26 @@ abbrev mutual
   nodes_count none = 0
   nodes_count (more t ts) = suc (node_count t + nodes_count ts)
 
--- the same of a list
+-- `nodes_count`, over a list
 abbrev pub list_count : List Tree → ℕ
 list_count ts = nodes_count (of_list ts)
 
--- Patches: the value whose index is x stands at row x less the offset, in an array of so many rows.
+-- Patches of an array of `array_len` rows: the value with index x is row x - offset.
 pub record PlainPatches : Type 0 where
   pub array_len : ℕ
   pub offset : ℕ
   pub indices : Tree
   pub values : Tree
 
--- patches of these parts
+-- patches from their parts
 abbrev pub patches : ℕ → ℕ → Tree → Tree → PlainPatches
 patches len offset indices values = record { array_len = len; offset = offset; indices = indices; values = values }
 
--- how many nodes patches have, and one more
+-- the measure of patches, by which recursion ends
 abbrev pub patches_count : PlainPatches → ℕ
 patches_count p = suc (node_count p.indices + node_count p.values)
 
--- packed integers with the patches that there are
+-- packed integers, with patches if there are any
 abbrev pub packed_of : PlainPacked → Option PlainPatches → Tree
 packed_of k None = bit_packed k
 packed_of k (Some p) = bit_packed_with k p.array_len p.offset p.indices p.values

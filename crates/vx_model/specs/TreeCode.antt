@@ -122,7 +122,7 @@ abbrev mutual
   to_all none = gnil
   to_all (more t ts) = gcons (to t) (to_all ts)
 
--- any tree, where there is none to read
+-- a tree for what stores none; nothing relies on it
 abbrev pub some_tree : Tree
 some_tree = constant (stored_scalar.from gnil) 0
 
@@ -198,7 +198,7 @@ tree_at number label inside =
     (cond (number == 19) (sequence_by (stored_sequence.from label))
     (delta_by (stored_delta.from label) (tree_1 inside) (tree_2 inside)))))))))))))))))))))
 
--- what is read as a tree, and as trees
+-- a stored tree of numbers read as a tree, and as trees
 abbrev pub read : Gv → Tree × Trees
 read gnil = (some_tree, none)
 read (gnum n) = (some_tree, none)
@@ -239,11 +239,11 @@ mutual
 abbrev pub stored_tree : Storable Tree
 stored_tree = record { to = to; from = from; back = from-to }
 
--- from this code equality of trees is decided
+-- the code by which the logic decides equality of trees
 abbrev pub tree_code : Coded Tree
 tree_code = code_of stored_tree
 
--- from this code equality of lists of trees is decided
+-- the code by which the logic decides equality of lists of trees
 abbrev pub trees_code : Coded (List Tree)
 trees_code = coded_list tree_code
 
@@ -267,6 +267,6 @@ stored_patches =
       back = λ p i. patches_by (stored_patches_parts.back (patches_parts p) i);
     }
 
--- from this code equality of patches is decided
+-- the code by which the logic decides equality of patches
 abbrev pub patches_code : Coded PlainPatches
 patches_code = code_of stored_patches

@@ -5,11 +5,11 @@ use Rattle.vx_base.specs.PlainType.{PlainType, PlainFields, integer_of, nullabil
 use Rattle.vx_base.specs.PlainType as types
 use Rattle.vx_model.specs.Tree.{Tree, Trees, bool, primitive, var_bin_view, var_bin, timestamp, constant, masked, bit_packed, bit_packed_with, frame_of_reference, zig_zag, dict, nulls, structure, list, fixed_size_list, more, sparse, run_end, rle, sequence, delta}
 
--- the signed type of an integer type's width, as nullable as it
+-- the signed type of an integer type's width, with its nullability
 abbrev pub zig_zag_type : PlainType → PlainType
 zig_zag_type encoded = types.primitive (signed_of (integer_of encoded)) (nullability_of encoded)
 
--- the values' type, nullable where the values or the codes are
+-- the type of the values, nullable where the values or the codes are
 abbrev pub dict_type : PlainType → PlainType → PlainType
 dict_type codes values = with_nullability values (or_nullable (nullability_of values) (nullability_of codes))
 
@@ -38,7 +38,7 @@ abbrev mutual
   tree_type (sequence p n first step len) = types.primitive p n
   tree_type (delta bases deltas len valid n) = types.primitive (integer_of (tree_type bases)) n
 
-  -- each name with the type of its tree
+  -- the fields: each name, and the type of its tree
   pub field_types : List (List ℕ) → Trees → PlainFields
   field_types (name ∷ names) (more t ts) = types.more name (tree_type t) (field_types names ts)
   field_types _ _ = types.none

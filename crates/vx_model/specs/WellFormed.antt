@@ -1,5 +1,5 @@
--- When a tree is well formed: each node's own conditions hold, and every row fits the type.
-use Rattle.std.specs.Prelude.{◌≡◌, ℕ, ◌+◌, ◌*◌, ◌/◌, ◌^◌, ℤ, pos, ◌+ℤ◌, ◌*ℤ◌, ◌-◌, Bool, true, false, ◌&&◌, ◌||◌, ◌==◌, nat_lt, nat_le, int_le, int_lt, IsTrue, List, [], ◌∷◌, length, Some, None}
+-- Well-formed trees: the invariant of an array. Each node's own conditions hold, and every row is of the tree's type.
+use Rattle.std.specs.Prelude.{◌≡◌, ℕ, ◌+◌, ◌*◌, ◌^◌, ℤ, pos, ◌+ℤ◌, ◌*ℤ◌, ◌-◌, Bool, true, false, ◌&&◌, ◌||◌, ◌==◌, nat_lt, nat_le, int_le, int_lt, IsTrue, List, [], ◌∷◌, length, Some, None}
 use Rattle.std.specs.List.{list_all, list_any}
 use Rattle.vx_base.specs.declared.ptype.PType.{PType}
 use Rattle.vx_base.specs.declared.ptype.PType.TheVariants.{I64}
@@ -15,34 +15,34 @@ use Rattle.vx_model.specs.Tree.{Tree, Trees, Validity, PlainPacked, PlainPatches
 use Rattle.vx_model.specs.Rows.{rows, offset_at, cut_at, below, block_rows, rle_place}
 use Rattle.vx_model.specs.TreeType.{tree_type}
 
--- bits stand exactly where some row isn't valid: a bit a row, one of them false, in a nullable node alone
+-- validity in its one form, of `len` rows: bits only in a nullable node, one per row, and one of them false
 abbrev pub IsValidityOf : Validity → ℕ → Nullability → Type 0
 IsValidityOf None len n = Unit {0}
 IsValidityOf (Some bits) len n = (length bits ≡ len) × (n ≡ Nullable) × (list_all (λ bit. bit) bits ≡ false)
 
--- each integer lies in the type, and validity has a bit a row and no false without nulls
+-- each integer is in the range of the type, valid or not
 pub record IsPrimitive (p : PType) (xs : List ℤ) (valid : Validity) (n : Nullability) : Type 0 where
   pub held : IsTrue (list_all (lies_in p) xs)
   pub validity : IsValidityOf valid (length xs) n
 
--- of a type of texts or binaries: each shorter than 2^32 bytes, also where the row isn't valid
+-- of a text or binary type, with fewer than 2^32 bytes in each row, valid or not
 pub record IsView (vs : List (List ℕ)) (valid : Validity) (t : PlainType) : Type 0 where
   pub byte_type : IsTrue (is_bytes t)
   pub short : IsTrue (list_all is_short vs)
   pub validity : IsValidityOf valid (length vs) (nullability_of t)
 
--- a whole number from low on, below high
+-- whether a value is an integer of `low` to `high - 1`
 abbrev pub lies_between : ℕ → ℕ → PlainValue → Bool
 lies_between low high (int (pos n)) = nat_le low n && nat_lt n high
 lies_between low high _ = false
 
--- no number is above its neighbour behind
+-- whether integers never decrease
 abbrev pub never_falls : List PlainValue → Bool
 never_falls [] = true
 never_falls (v ∷ []) = true
 never_falls (v ∷ w ∷ vs) = int_le (whole_or_zero v) (whole_or_zero w) && never_falls (w ∷ vs)
 
--- offsets into so many items: none outside, the first 0, the last their end, none above its neighbour behind
+-- whether values are offsets into `len` items: in bounds, the first 0, the last `len`, never decreasing
 abbrev pub are_offsets : ℕ → List PlainValue → Bool
 are_offsets len offsets =
     list_all (lies_between 0 (len + 1)) offsets && (offset_at offsets 0 == 0) && (offset_at offsets (length offsets - 1) == len) && never_falls offsets
@@ -55,84 +55,85 @@ pub record IsVarBin (offsets : Tree) (bs : List ℕ) (valid : Validity) (t : Pla
   pub ends : IsTrue (are_offsets (length bs) (rows offsets))
   pub values : IsView (cut_at (rows offsets) bs) valid t
 
--- the storage has whole numbers of 64 signed bits
+-- the storage is of type i64
 pub record IsTimestamp (storage : Tree) : Type 0 where
   pub storage_type : tree_type storage ≡ types.primitive I64 (nullability_of (tree_type storage))
 
--- the child is of a nullable leaf type and has no null, and the mask has a bit a row
+-- the child is of a nullable flat type and has no null itself, and the mask has a bit per row
 pub record IsMasked (child : Tree) (valid : List Bool) : Type 0 where
   pub flat : IsTrue (is_flat (tree_type child))
   pub nullable : IsTrue (is_nullable (tree_type child))
   pub lengths : length valid ≡ length (rows child)
   pub no_null : list_any is_null (rows child) ≡ false
 
--- each number is less than its neighbour behind
+-- whether integers strictly increase
 abbrev pub rises : List PlainValue → Bool
 rises [] = true
 rises (v ∷ []) = true
 rises (v ∷ w ∷ vs) = int_lt (whole_or_zero v) (whole_or_zero w) && rises (w ∷ vs)
 
--- whole numbers from low on, below high, each less than its neighbour behind
+-- whether values are integers of `low` to `high - 1`, strictly increasing
 abbrev pub ascend : ℕ → ℕ → List PlainValue → Bool
 ascend low high vs = list_all (lies_between low high) vs && rises vs
 
--- of an array of len rows
+-- patches of an array of `len` rows: non-null integers as indices, strictly increasing and in bounds, and as many values
 pub record IsPatches (len offset : ℕ) (indices values : Tree) : Type 0 where
   pub indices_type : IsTrue (is_integer (tree_type indices))
   pub not_null : is_nullable (tree_type indices) ≡ false
   pub lengths : length (rows indices) ≡ length (rows values)
   pub ascending : IsTrue (ascend offset (offset + len) (rows indices))
 
--- whole blocks of rows, none wider than the type's natural numbers
+-- packed integers: the bytes of whole blocks, at a width that no negative number needs
 pub record IsWellPacked (k : PlainPacked) : Type 0 where
   pub held : IsTrue (list_all (λ byte. nat_lt byte 256) k.bytes)
   pub sized : length k.bytes ≡ packed_size k.width k.len
   pub narrow : IsTrue (nat_le k.width (natural_bits k.ptype))
   pub validity : IsValidityOf k.valid k.len k.nullability
 
--- patches of an array of len rows are those of packed integers
+-- patches of an array of `len` rows belong to packed integers
 pub record IsPatched (k : PlainPacked) (len : ℕ) (values : Tree) : Type 0 where
   pub lengths : len ≡ k.len
   pub values_type : tree_type values ≡ types.primitive k.ptype NonNullable
 
--- the unsigned type of a reference's width, as nullable as another type
+-- the unsigned type of a reference's width, with the nullability of another type
 abbrev pub differences_type : PlainType → PlainType → PlainType
 differences_type reference t = types.primitive (unsigned_of (integer_of reference)) (nullability_of t)
 
--- the reference is an integer that isn't null, and the child has the unsigned type of its width
+-- the reference is an integer other than null, and the differences are of the unsigned type of its width
 pub record IsFrame (encoded : Tree) (reference : PlainScalar) : Type 0 where
   pub reference_type : IsTrue (is_integer reference.dtype)
   pub not_null : is_null reference.value ≡ false
   pub fitting : IsTrue (fits reference.dtype reference.value)
   pub encoded_type : tree_type encoded ≡ differences_type reference.dtype (tree_type encoded)
 
--- the child's type is unsigned
+-- the zigzags are unsigned
 pub record IsZigZag (encoded : Tree) : Type 0 where
   pub unsigned : IsTrue (is_unsigned (tree_type encoded))
 
--- a code is null, or a place among so many values
+-- whether a code is null, or in bounds of `len` values
 abbrev pub is_place : ℕ → PlainValue → Bool
 is_place len null = true
 is_place len (int (pos k)) = nat_lt k len
 is_place len _ = false
 
--- the codes are integers, the values of a leaf type, and each code that isn't null is a place of a value
+-- codes are integers, values are of a flat type, and each code other than null is in bounds of the values
 pub record IsDict (codes values : Tree) : Type 0 where
   pub codes_type : IsTrue (is_integer (tree_type codes))
   pub values_type : IsTrue (is_flat (tree_type values))
   pub places : IsTrue (list_all (is_place (length (rows values))) (rows codes))
 
--- a tree for each name, each of so many rows
+-- whether each tree has `len` rows
 abbrev pub all_have_rows : ℕ → Trees → Bool
 all_have_rows len none = true
 all_have_rows len (more t ts) = length (rows t) == len && all_have_rows len ts
 
+-- a tree for each name, each of `len` rows
 pub record IsStruct (names : List (List ℕ)) (fields : Trees) (len : ℕ) (valid : Validity) (n : Nullability) : Type 0 where
   pub named : length names ≡ length (list_of fields)
   pub lengths : IsTrue (all_have_rows len fields)
   pub validity : IsValidityOf valid len n
 
--- the offsets of lists are whole numbers, never null, and lead through all elements
+-- offsets are integers, never null, and go through all elements
 pub record IsList (elements offsets : Tree) (valid : Validity) (n : Nullability) : Type 0 where
   pub offsets_type : IsTrue (is_integer (tree_type offsets))
   pub not_null : is_nullable (tree_type offsets) ≡ false
@@ -140,17 +141,17 @@ pub record IsList (elements offsets : Tree) (valid : Validity) (n : Nullability)
   pub ends : IsTrue (are_offsets (length (rows elements)) (rows offsets))
   pub validity : IsValidityOf valid (length (rows offsets) - 1) n
 
--- there are as many elements as all lists have together
+-- there are `size` elements for each list
 pub record IsFixedSizeList (elements : Tree) (size len : ℕ) (valid : Validity) (n : Nullability) : Type 0 where
   pub lengths : length (rows elements) ≡ len * size
   pub validity : IsValidityOf valid len n
 
--- the patches' values are of the fill's type
+-- the values of the patches are of the fill's type
 pub record IsSparse (values : Tree) (fill : PlainScalar) : Type 0 where
   pub values_type : tree_type values ≡ fill.dtype
   pub fitting : IsTrue (fits fill.dtype fill.value)
 
--- runs of integers: their ends rise from above 0
+-- runs of integers, with strictly increasing ends, the first above 0, so that no run is empty
 pub record IsRunEnd (ends values : Tree) : Type 0 where
   pub ends_type : IsTrue (is_integer (tree_type ends))
   pub not_null : is_nullable (tree_type ends) ≡ false
@@ -158,7 +159,7 @@ pub record IsRunEnd (ends values : Tree) : Type 0 where
   pub lengths : length (rows ends) ≡ length (rows values)
   pub rising : IsTrue (ascend 1 (2 ^ 64) (rows ends))
 
--- each row's value has a place; the numbers behind the last row are not looked at
+-- each row's value is in bounds; indices in the padding of the last block may be anything
 pub record IsRle (values indices offsets : Tree) (len : ℕ) : Type 0 where
   pub values_type : IsTrue (is_integer (tree_type values))
   pub indices_type : IsTrue (is_integer (tree_type indices))
@@ -169,12 +170,12 @@ pub record IsRle (values indices offsets : Tree) (len : ℕ) : Type 0 where
   pub offsets_length : length (rows offsets) ≡ block_count len
   pub places : IsTrue (list_all (is_place (length (rows values))) (below (rle_place (rows offsets) (rows indices)) len))
 
--- the step lies in the type, and the first and the last row do where there are rows
+-- the step is in the range of the type, and so are the first and the last row, if there are rows
 pub record IsSequence (p : PType) (first step : ℤ) (len : ℕ) : Type 0 where
   pub step_held : IsTrue (lies_in p step)
   pub rows_held : IsTrue (len == 0 || lies_in p first && lies_in p (first +ℤ pos (len - 1) *ℤ step))
 
--- a base and 1,024 differences for each block, of one integer type
+-- a base and 1,024 differences for each block, of one non-nullable integer type
 pub record IsDelta (bases deltas : Tree) (len : ℕ) (valid : Validity) (n : Nullability) : Type 0 where
   pub bases_type : tree_type bases ≡ types.primitive (integer_of (tree_type bases)) NonNullable
   pub deltas_type : tree_type deltas ≡ tree_type bases
@@ -182,11 +183,11 @@ pub record IsDelta (bases deltas : Tree) (len : ℕ) (valid : Validity) (n : Nul
   pub deltas_length : length (rows deltas) ≡ block_rows * block_count len
   pub validity : IsValidityOf valid len n
 
--- every row fits the tree's type
+-- every row is of the tree's type
 abbrev pub RowsFit : Tree → Type 0
 RowsFit t = IsTrue (list_all (fits (tree_type t)) (rows t))
 
--- each node's own conditions hold, and every row fits the type
+-- a well-formed tree, node by node
 abbrev mutual
   pub WellFormed : Tree → Type 0
   WellFormed (primitive p xs valid n) = IsPrimitive p xs valid n × RowsFit (primitive p xs valid n)
@@ -216,11 +217,11 @@ abbrev mutual
   WellFormed (sequence p n first step len) = IsSequence p first step len × RowsFit (sequence p n first step len)
   WellFormed (delta bases deltas len valid n) = WellFormed bases × WellFormed deltas × IsDelta bases deltas len valid n × RowsFit (delta bases deltas len valid n)
 
-  -- the same of each of several trees
+  -- each of several trees is well formed
   pub AllWellFormed : Trees → Type 0
   AllWellFormed none = Unit {0}
   AllWellFormed (more t ts) = WellFormed t × AllWellFormed ts
 
--- the trees of the patches are well formed, and their indices ascend within the array's rows
+-- the trees of the patches are well formed, and their indices strictly increase within the bounds of the array
 abbrev pub WellFormedPatches : PlainPatches → Type 0
 WellFormedPatches p = WellFormed p.indices × WellFormed p.values × IsPatches p.array_len p.offset p.indices p.values

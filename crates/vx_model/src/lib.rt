@@ -1,2 +1,2 @@
-//! What a column, a tree and its compression are: definitions that the contracts of the crates above cite, and lemmas about them.
+//! Definitions that the contracts of the crates above cite, of columns, trees and compression, and lemmas about them.
 #![tactic(auto)]

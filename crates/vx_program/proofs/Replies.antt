@@ -5,41 +5,41 @@ use Rattle.std.proofs.lemmas.Bool.{le-ltb, lt-ltb}
 use Rattle.std.specs.Io.KnownBytes.{Consumes, IsAtEnd}
 use Rattle.vx_program.specs.Reading.{limit}
 use Rattle.vx_document.specs.Document.{document}
-use Rattle.vx_program.specs.Answer.{Reply, IsReply, answer, is_built, refusal, of_bytes, of_document}
+use Rattle.vx_program.specs.Answer.{Reply, IsReply, answer, is_supported, refusal, of_bytes, of_document}
 use Rattle.vx_program.specs.Statuses.{IsUsage, IsTooLong}
 
--- the bytes, where they are told
-abbrev told : Option (List ℕ) → List ℕ
-told None = []
-told (Some bytes) = bytes
+-- the bytes, where they are known
+abbrev known : Option (List ℕ) → List ℕ
+known None = []
+known (Some bytes) = bytes
 
-is_told : (left : Option (List ℕ)) → IfSome left (λ all. told left ≡ all)
-is_told None = tt
-is_told (Some bytes) = refl
+is_known : (left : Option (List ℕ)) → IfSome left (λ all. known left ≡ all)
+is_known None = tt
+is_known (Some bytes) = refl
 
 all_came : (old new : Option (List ℕ)) (bytes : List ℕ) → Consumes old new bytes → IsAtEnd new → IfSome old (λ all. bytes ≡ all)
 all_came None new bytes came end = tt
 all_came (Some x) None bytes came end = absurd came
 all_came (Some x) (Some y) bytes came end = sym (came ∙ ap (λ l. bytes ++ l) end ∙ append-nil bytes)
 
--- as many or more were to come
+-- what came is no longer than what was to come
 as_many : (old new : Option (List ℕ)) (bytes : List ℕ) → Consumes old new bytes → (all : List ℕ) × IfSome old (λ xs. all ≡ xs) × (length bytes ≤ length all)
 as_many None new bytes came = (bytes, tt, omega arith)
 as_many (Some x) None bytes came = absurd came
 as_many (Some x) (Some y) bytes came = (x, refl, omega (arith, ap length came, length-append bytes y))
 
-module _ (words : List (List ℕ)) (reply : Reply) (old new : Option (List ℕ)) (before now : ℕ) where
-  pub reply_usage : IsUsage words → now ≡ before → reply ≡ refusal 2 (codes "Usage") → IsReply old before now words reply
+module _ (args : List (List ℕ)) (reply : Reply) (old new : Option (List ℕ)) (before now : ℕ) where
+  pub reply_usage : IsUsage args → now ≡ before → reply ≡ refusal 2 (codes "Usage") → IsReply old before now args reply
   unfolding answer
-  reply_usage other same e = inl (told old, is_told old, rw other e, same)
+  reply_usage other same e = inl (known old, is_known old, rw other e, same)
 
-  pub reply_whole : (bytes : List ℕ) → is_built words ≡ true → Consumes old new bytes → IsAtEnd new → length bytes ≤ limit → now ≡ before → reply ≡ of_document (document bytes) → IsReply old before now words reply
+  pub reply_whole : (bytes : List ℕ) → is_supported args ≡ true → Consumes old new bytes → IsAtEnd new → length bytes ≤ limit → now ≡ before → reply ≡ of_document (document bytes) → IsReply old before now args reply
   unfolding answer of_bytes
   reply_whole bytes built came end short same e =
       let not_long : ltb limit (length bytes) ≡ false = le-ltb limit (length bytes) short in
       inl (bytes, all_came old new bytes came end, rw (built, not_long) e, same)
 
-  pub reply_long : (bytes : List ℕ) → is_built words ≡ true → Consumes old new bytes → length bytes ≡ limit + 1 → now ≡ before → reply ≡ refusal 7 (codes "TooLong") → IsReply old before now words reply
+  pub reply_long : (bytes : List ℕ) → is_supported args ≡ true → Consumes old new bytes → length bytes ≡ limit + 1 → now ≡ before → reply ≡ refusal 7 (codes "TooLong") → IsReply old before now args reply
   unfolding answer of_bytes
   reply_long bytes built came long same e =
       let all = as_many old new bytes came in

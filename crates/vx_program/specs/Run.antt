@@ -4,10 +4,10 @@ use Rattle.std.specs.Io.KnownBytes.{Appends}
 use Rattle.vx_program.specs.Answer.{Reply}
 use Rattle.vx_program.specs.Writing.{Fails}
 
--- a reply that has P was written whole, with its status, and no fault of the sink was counted
+-- a reply with P and this status was written whole, and the sink's count of faults is as it was
 abbrev pub Replies : (Reply → Type 0) → Option (List ℕ) → Option (List ℕ) → ℕ → ℕ → ℕ → Type 0
 Replies P old new before now status = (text : List ℕ) × P (status, text) × Appends old new text × (now ≡ before)
 
--- less than the whole of a reply that has P was written, and a fault of the sink was counted
+-- less than the whole of a reply with P was written, and the sink's count of faults rose
 abbrev pub Breaks : (Reply → Type 0) → Option (List ℕ) → Option (List ℕ) → ℕ → ℕ → Type 0
 Breaks P old new before now = (reply : Reply) × P reply × Fails old new before now reply.1

@@ -1,46 +1,47 @@
--- Why a status is answered.
+-- The cause of each status.
 use Rattle.std.specs.Prelude.{◌≡◌, ◌≢◌, ◌↔◌, ◌⊎◌, ◌<◌, ◌≤◌, ◌+◌, ℕ, List, length, true, false, Option, Some, None, IfSome, IsSomeAnd}
 use Rattle.vx_program.specs.Reading.{limit}
 use Rattle.vx_document.specs.Document.{document}
-use Rattle.vx_program.specs.Answer.{is_built, counts_fit}
+use Rattle.vx_program.specs.Answer.{is_supported, counts_fit}
 
--- The reply was written whole: 1 and 6 stand in the place of its status.
+-- The reply was written whole. Where it was not, 1 or 6 stands in the place of its status.
 abbrev pub IsWritten : ℕ → Type 0
 IsWritten status = (status ≢ 1) × (status ≢ 6)
 
--- the same, and no read failed
+-- the reply was written whole, and no read failed
 abbrev pub IsAnswered : ℕ → Type 0
 IsAnswered status = (status ≢ 1) × (status ≢ 5) × (status ≢ 6)
 
--- The status comes exactly where its cause holds of all bytes of a source that tells them: 1, 5 and 6 stand in its place.
+-- The status comes exactly where its cause holds of all bytes of the source, if they are known. Only 1, 5 and 6 may stand in
+-- its place.
 abbrev pub ComesExactly : ℕ → ℕ → Option (List ℕ) → (List ℕ → Type 0) → Type 0
 ComesExactly status result left IsCause = IsAnswered result → IfSome left (λ all. result ≡ status ↔ IsCause all)
 
--- The reply rests on all bytes of the source.
+-- the statuses of replies that depend on all bytes of the source
 abbrev pub RestsOnAll : ℕ → Type 0
 RestsOnAll status = (status ≡ 0) ⊎ (status ≡ 3) ⊎ (status ≡ 4)
 
--- 2: the words have none of the built forms
+-- 2: the command line is not supported
 abbrev pub IsUsage : List (List ℕ) → Type 0
-IsUsage words = is_built words ≡ false
+IsUsage args = is_supported args ≡ false
 
--- 7: of the bytes that were still to come, more than the limit came
+-- 7: more bytes came than the limit
 abbrev pub IsTooLong : List ℕ → Option (List ℕ) → Type 0
 IsTooLong old None = ⊥
 IsTooLong old (Some new) = limit + length new < length old
 
--- a built form and no more bytes than the limit
+-- a supported command line and no more bytes than the limit
 abbrev pub IsRead : List (List ℕ) → List ℕ → Type 0
-IsRead words bytes = (is_built words ≡ true) × (length bytes ≤ limit)
+IsRead args bytes = (is_supported args ≡ true) × (length bytes ≤ limit)
 
--- 3: the bytes are no document
+-- 3: the bytes are not a document
 abbrev pub IsBadDocument : List (List ℕ) → List ℕ → Type 0
-IsBadDocument words bytes = IsRead words bytes × (document bytes ≡ None)
+IsBadDocument args bytes = IsRead args bytes × (document bytes ≡ None)
 
--- 4: they are one with a count of rows above the limit of rows
+-- 4: they are a document with a column above the row limit
 abbrev pub HasTooManyRows : List (List ℕ) → List ℕ → Type 0
-HasTooManyRows words bytes = IsRead words bytes × IsSomeAnd (document bytes) (λ d. counts_fit d.column ≡ false)
+HasTooManyRows args bytes = IsRead args bytes × IsSomeAnd (document bytes) (λ d. counts_fit d.column ≡ false)
 
--- 0: they are one whose counts fit
+-- 0: they are a document, and each of its columns is within the row limit
 abbrev pub IsCompressible : List (List ℕ) → List ℕ → Type 0
-IsCompressible words bytes = IsRead words bytes × IsSomeAnd (document bytes) (λ d. counts_fit d.column ≡ true)
+IsCompressible args bytes = IsRead args bytes × IsSomeAnd (document bytes) (λ d. counts_fit d.column ≡ true)

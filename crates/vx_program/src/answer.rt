@@ -1,17 +1,16 @@
-//! From words and a source to a status and a text.
+//! From arguments and a source to a status and a text.
 
-ghost use Rattle.std.specs.Prelude.{◌≡◌, ◌<◌, ◌+◌, ◌^◌, ◌↔◌, true, List, ℕ, Option, IfOk, IfSome, OnErr, string_bytes, length, map};
+ghost use Rattle.std.specs.Prelude.{◌≡◌, ◌<◌, ◌+◌, ◌↔◌, true, List, ℕ, Option, IfOk, IfSome, OnErr, string_bytes, length, map};
 ghost use Rattle.std.specs.Cow.{cow_str_bytes};
 ghost use Rattle.std.specs.Io.KnownBytes.{IsAtEnd};
 ghost use Rattle.vx_model.specs.Column.{column_of};
 ghost use Rattle.vx_model.specs.Plain.{IsPlain};
-ghost use Rattle.vx_model.specs.Size.{size};
 ghost use Rattle.vx_document.specs.Document.{document};
 ghost use Rattle.vx_program.specs.Reading.{limit, TakesAtMost};
 ghost use Rattle.vx_scheme.specs.NoMeaning.{no_meaning};
 ghost use Rattle.vx_btrblocks.specs.AnyMeaning.{any_meaning};
 ghost use Rattle.vx_btrblocks.specs.Shipped.{shipped_schemes};
-ghost use Rattle.vx_program.specs.Answer.{texts_of, is_built, counts_fit, report, of_column, of_document, IsReply};
+ghost use Rattle.vx_program.specs.Answer.{texts_of, is_supported, counts_fit, report, of_column, of_document, IsReply};
 ghost use Rattle.vx_program.specs.Statuses.{RestsOnAll, IsUsage, IsTooLong};
 
 use crate::outside::Source;
@@ -26,16 +25,16 @@ use vx_document::{Document, DocumentColumn, Unread, read_document, report_text};
 /// The whole output is written.
 pub const DONE: u8 = 0;
 
-/// Memory was wanting, and nothing is written.
+/// Memory ran out, and nothing is written.
 pub const NO_MEMORY: u8 = 1;
 
-/// The words have none of the built forms.
+/// The arguments are not the only supported command line, `compress`.
 pub const USAGE: u8 = 2;
 
-/// The bytes are no document.
+/// The bytes are not a document.
 pub const BAD_DOCUMENT: u8 = 3;
 
-/// The library refuses the document; the output has the error's name.
+/// A column of the document is above the row limit; the output has the error's name.
 pub const REFUSED: u8 = 4;
 
 /// A read failed.
@@ -47,7 +46,7 @@ pub const WRITE_FAULT: u8 = 6;
 /// More than 2^26 bytes came.
 pub const TOO_LONG: u8 = 7;
 
-/// A text to be written, and the status once it is.
+/// A text to write, and the status of a run that wrote it whole.
 #[derive(Drop)]
 pub struct Reply {
     /// 0, 2 to 5 or 7.
@@ -56,7 +55,7 @@ pub struct Reply {
     pub text: CowStr<'static>,
 }
 
-// A refusal whose text is constant. It takes no memory.
+// A refusal, whose text is a constant and takes no memory.
 fn refusal(status: u8, text: &'static str) -> Reply
     ensures status { result.status ≡ status }
     ensures text { cow_str_bytes result.text ≡ text.now }
@@ -67,19 +66,18 @@ fn refusal(status: u8, text: &'static str) -> Reply
     }
 }
 
-// The one built form: the word `compress` alone.
-fn is_built(words: &[String]) -> bool
-    ensures { result ≡ is_built (texts_of words.now) }
+// Whether the arguments are the only supported command line, `compress` alone.
+fn is_supported(args: &[String]) -> bool
+    ensures { result ≡ is_supported (texts_of args.now) }
 {
-    match words {
-        [word] => word.as_str() == "compress",
+    match args {
+        [arg] => arg.as_str() == "compress",
         _ => false,
     }
 }
 
-// The reply to a column, by its compressed tree.
+// The listing of a compressed tree, with the bytes of the plain tree and its own.
 fn report(alloc: Global, plain: u128, tree: ArrayRef) -> Result<Reply, AllocError>
-    requires { size tree < 2 ^ 128 }
     ensures { IfOk result (λ r. (r.status, cow_str_bytes r.text)
         ≡ report plain tree) }
 {
@@ -87,8 +85,8 @@ fn report(alloc: Global, plain: u128, tree: ArrayRef) -> Result<Reply, AllocErro
     Ok(Reply { status: DONE, text })
 }
 
-// The reply to a column whose counts fit, by its plain tree, over a compressor of the shipped schemes. The context's
-// words place samples. No memory holds a tree of 2^128 bytes, so one of that size counts as want of it.
+// The reply to the plain tree of a column within the row limit, by a compressor of the shipped schemes. The context has
+// the sample words.
 fn reply_over(
     alloc: Global,
     compressor: &BtrBlocksCompressor<NoScheme>,
@@ -101,16 +99,13 @@ fn reply_over(
     ensures { IfOk result (λ r. (r.status, cow_str_bytes r.text) ≡ of_column ctx.old (column_of array)) }
 {
     let plain = array.nbytes();
-    if plain == u128::MAX {
-        return Err(AllocError);
-    }
     match compressor.compress_owned(array, ctx) {
         Ok(tree) => report(alloc, plain, tree),
         Err(_) => Err(AllocError),
     }
 }
 
-// The same over a compressor of its own.
+// The reply to a plain tree, by a compressor made for it.
 fn reply_to_array(
     alloc: Global,
     array: ArrayRef,
@@ -126,7 +121,7 @@ fn reply_to_array(
     }
 }
 
-// The reply to a column whose counts fit. Only now its plain tree is made.
+// The reply to a column within the row limit. Its plain tree is made only here, behind the test of the limit.
 fn reply_to_column(
     alloc: Global,
     column: DocumentColumn,
@@ -135,14 +130,13 @@ fn reply_to_column(
     requires { counts_fit column ≡ true }
     ensures { IfOk result (λ r. (r.status, cow_str_bytes r.text) ≡ of_column ctx.old column) }
 {
-    column.known();
     match column.into_plain(alloc) {
         Ok(array) => reply_to_array(alloc, array, ctx),
         Err(_) => Err(AllocError),
     }
 }
 
-// The reply to a document. Counts above the limit are refused before any tree is made.
+// The reply to a document. A column above the row limit is refused before any tree is made.
 #[tactic(auto, unfolding(crate::specs::Answer::of_column))]
 fn reply_to_document(alloc: Global, document: Document) -> Result<Reply, AllocError>
     requires { 0 < length document.words }
@@ -157,7 +151,7 @@ fn reply_to_document(alloc: Global, document: Document) -> Result<Reply, AllocEr
     reply_to_column(alloc, column, &mut ctx)
 }
 
-// The reply of the built form to these bytes.
+// The reply of `compress` to these bytes.
 #[tactic(auto, unfolding(crate::specs::Answer::of_document))]
 fn reply_to_bytes(alloc: Global, bytes: Vec<u8>) -> Result<Reply, AllocError>
     ensures { IfOk result (λ r. (r.status, cow_str_bytes r.text)
@@ -170,22 +164,24 @@ fn reply_to_bytes(alloc: Global, bytes: Vec<u8>) -> Result<Reply, AllocError>
     }
 }
 
-/// The reply to the words and to all that the source gives. For words that have no built form it takes no memory.
+/// The reply to the arguments and to all that the source gives. An Err is want of memory, where no fault was counted.
+/// For any command line but `compress` it reads nothing and takes no memory.
 pub fn reply_to<I: Source>(
     alloc: Global,
-    words: &[String],
+    args: &[String],
     source: &mut I,
 ) -> Result<Reply, AllocError>
     ensures answer { IfOk result (λ r. IsReply (I.left source.old) (I.faults source.old)
-        (I.faults source.new) (texts_of words.now) (r.status, cow_str_bytes r.text)) }
-    ensures no_memory { OnErr result (is_built (texts_of words.now) ≡ true) }
+        (I.faults source.new) (texts_of args.now) (r.status, cow_str_bytes r.text)) }
+    ensures no_memory { OnErr result (is_supported (texts_of args.now) ≡ true) }
+    ensures no_fault { OnErr result (I.faults source.new ≡ I.faults source.old) }
     ensures ended { IfOk result (λ r. RestsOnAll r.status → IsAtEnd (I.left source.new)) }
     ensures too_long { IfOk result (λ r. IfSome (I.left source.old) (λ old.
         r.status ≡ 7 ↔ IsTooLong old (I.left source.new))) }
     ensures most { TakesAtMost (I.left source.old) (I.left source.new) (limit + 1) }
-    ensures nothing_read { IsUsage (texts_of words.now) → source.new ≡ source.old }
+    ensures nothing_read { IsUsage (texts_of args.now) → source.new ≡ source.old }
 {
-    if !is_built(words) {
+    if !is_supported(args) {
         return Ok(refusal(USAGE, "refused: Usage\n"));
     }
     match read_all(alloc, source)? {

@@ -1,4 +1,4 @@
-//! All that a source gives, up to a limit.
+//! Reads all that a source gives, up to a limit.
 
 ghost use Rattle.std.specs.Prelude.{◌≡◌, ◌<◌, ◌≤◌, ◌+◌, IfOk, OnErr, vec_len, length};
 ghost use Rattle.vx_program.specs.Reading.{limit, Came, Blames, TakesAtMost, Adds, TurnBlames};
@@ -6,41 +6,41 @@ ghost use Rattle.vx_program.specs.Reading.{limit, Came, Blames, TakesAtMost, Add
 use crate::outside::Source;
 use std::alloc::{AllocError, Global};
 
-/// The greatest number of bytes that is read whole.
+/// The greatest number of bytes that is read whole, 64 MiB: it bounds the memory that a document can take.
 pub const LIMIT: usize = 1 << 26;
 
-/// How many bytes a turn has room for.
+/// The bytes that one read has room for: 64 KiB, the most that a pipe of Linux holds by default.
 const PIECE: usize = 1 << 16;
 
 /// What came from a source.
 #[derive(Drop)]
 pub enum Input {
-    /// All bytes, at most the limit.
+    /// All bytes, at most `LIMIT`.
     Whole(Vec<u8>),
-    /// One byte above the limit came.
+    /// More than `LIMIT` bytes came; one above it was read.
     TooLong,
     /// A read failed.
     Fault,
 }
 
-/// What one read came to.
+// What one read came to.
 enum Turn {
-    /// At least one byte.
+    // At least one byte.
     More,
-    /// The end.
+    // The end.
     End,
-    /// A failure.
+    // A failure.
     Fault,
 }
 
-// So many zeros. The length is a parameter, since a proof would write out a long list of zeros.
+// `len` zeros. The length is a parameter: of a constant length a proof would write the list out.
 fn zeros(alloc: Global, len: usize) -> Result<Vec<u8>, AllocError>
     ensures { IfOk result (λ v. vec_len v ≡ len) }
 {
     vec![in alloc; 0u8; len]
 }
 
-/// Adds to `bytes` what one read into `piece` gives.
+// Appends to `bytes` what one read into `piece` gives.
 fn read_more<I: Source>(
     source: &mut I,
     piece: &mut [u8],
@@ -63,8 +63,8 @@ fn read_more<I: Source>(
     Ok(Turn::More)
 }
 
-/// Reads to the first of a fault, the end and one byte above the limit. The only refusal is want of memory, where no
-/// fault is counted.
+/// Reads until a fault, the end, or one byte above `LIMIT`, whichever comes first. An Err is want of memory alone; the
+/// count of faults is then as it was.
 pub fn read_all<I: Source>(alloc: Global, source: &mut I) -> Result<Input, AllocError>
     ensures bytes { IfOk result (Came (I.left source.old) (I.left source.new)) }
     ensures cause { IfOk result (Blames (I.faults source.old) (I.faults source.new)) }
@@ -73,7 +73,7 @@ pub fn read_all<I: Source>(alloc: Global, source: &mut I) -> Result<Input, Alloc
 {
     let mut bytes = Vec::new(alloc);
     let mut piece = zeros(alloc, PIECE)?;
-    // Each turn takes at least one byte.
+    // Each turn but the last takes at least one byte, so LIMIT + 1 turns reach one of the three.
     for _turn in 0..LIMIT + 1 {
         let room = piece.len().min(LIMIT + 1 - bytes.len());
         match read_more(source, &mut piece[..room], &mut bytes)? {

@@ -1,4 +1,4 @@
-//! A source and a sink in memory, whose reads and writes don't fail.
+//! A source and a sink in memory. Their reads and writes never fail.
 
 ghost use Rattle.std.specs.Prelude.{◌≡◌, ◌≤◌, ◌-◌, Some, length, vec_len, vec_capacity, []};
 
@@ -6,7 +6,7 @@ use crate::outside::{Failed, Sink, Source};
 use std::alloc::Global;
 use vx_base::{Bytes, VortexError, VortexResult};
 
-/// Gives all of its bytes, as many at a call as the buffer has room for.
+/// Gives the bytes of a list, at each call as many as the buffer has room for.
 #[derive(Drop)]
 pub struct SureSource {
     bytes: Bytes,
@@ -51,7 +51,7 @@ pub struct SureSink {
 impl SureSink {
     ghost use Rattle.vx_program.specs.Sure.{sink_bytes};
 
-    /// A sink with nothing written.
+    /// A sink to which nothing is written yet.
     pub fn new(alloc: Global) -> Self
         ensures { sink_bytes result ≡ [] }
     {
@@ -67,7 +67,7 @@ impl SureSink {
         &self.bytes
     }
 
-    /// The bytes written, as a list of their own, with the sink's memory.
+    /// The bytes written, in the memory that the sink has for them.
     pub fn into_bytes(self) -> Bytes
         ensures { result ≡ sink_bytes self }
     {

@@ -1,4 +1,4 @@
-//! A text to a sink, whole or up to a fault.
+//! Writes a text to a sink, whole or up to a fault.
 
 ghost use Rattle.std.specs.Prelude.{◌≡◌, ◌≢◌, ◌≤◌, Err, OnOk, OnErr, IfErr, length};
 ghost use Rattle.std.specs.Io.KnownBytes.{Appends};
@@ -7,16 +7,16 @@ ghost use Rattle.vx_program.specs.declared.writing.Stop.TheVariants as stop;
 
 use crate::outside::{Failed, Sink};
 
-/// Why a text isn't written whole.
+/// Why a text is not written whole.
 #[derive(Clone, Copy, Debug, PartialEq, Eq)]
 pub enum Stop {
-    /// There was no memory for it, and nothing is written.
+    /// The sink had no memory for it. Nothing is written.
     NoMemory,
-    /// A write failed, and less than the whole is written.
+    /// A write failed. A front of the text is written, less than the whole.
     Failed,
 }
 
-/// Writes piece after piece, to the end or the first fault.
+// Writes what is left, write after write, until the end or the first fault.
 fn write_whole<O: Sink>(sink: &mut O, bytes: &[u8]) -> Result<(), Failed>
     requires { length bytes.now ≤ O.spare sink.old }
     ensures done { OnOk result (Appends (O.written sink.old) (O.written sink.new) bytes.now) }
@@ -31,8 +31,8 @@ fn write_whole<O: Sink>(sink: &mut O, bytes: &[u8]) -> Result<(), Failed>
     Ok(())
 }
 
-/// Asks for room for the whole text, and then writes it. No memory is wanted between the writes, and none at all where
-/// there is room already.
+/// Asks for room for the whole text, then writes it. So want of memory comes before the first byte or not at all, and
+/// never where the sink has the room already.
 pub fn deliver<O: Sink>(sink: &mut O, text: &str) -> Result<(), Stop>
     ensures done { OnOk result (Appends (O.written sink.old) (O.written sink.new) text.now) }
     ensures same { OnOk result (O.faults sink.new ≡ O.faults sink.old) }

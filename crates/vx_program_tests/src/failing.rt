@@ -2,7 +2,7 @@
 
 use std::io::{self, ErrorKind, Read, Write};
 
-/// Gives two bytes at its first read and the end from its third on; the second read fails.
+/// Gives two bytes at the first read, fails at the second, and is at its end from the third on.
 #[derive(Drop)]
 pub(crate) struct Torn {
     pub(crate) reads: u8,

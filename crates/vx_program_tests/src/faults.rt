@@ -1,7 +1,7 @@
 //! Failing reads, writes and flushes, one by one and in a run.
 
 use crate::failing::{Blocked, Torn};
-use crate::whole::{document, word};
+use crate::whole::{document, one_arg};
 use std::test::Fail;
 use vx_program::{Failed, Sink, Source, StdSink, StdSource, SureSink, SureSource, run};
 
@@ -41,23 +41,23 @@ fn each_failed_write_and_flush_is_told(rt: HostRuntime) -> Result<(), Fail> {
 
 #[test]
 fn a_failed_read_ends_a_run(rt: HostRuntime) -> Result<(), Fail> {
-    let words = word(rt.alloc(), "compress")?;
+    let args = one_arg(rt.alloc(), "compress")?;
     let mut source = StdSource::new(Torn { reads: 1 });
     let mut sink = SureSink::new(rt.alloc());
-    let status = run(rt.alloc(), words.as_slice(), &mut source, &mut sink);
+    let status = run(rt.alloc(), args.as_slice(), &mut source, &mut sink);
     assert!(rt; status == 5 && sink.bytes().as_slice() == b"refused: ReadFault\n".as_slice());
     Ok(())
 }
 
 #[test]
 fn a_failed_write_ends_a_run(rt: HostRuntime) -> Result<(), Fail> {
-    let words = word(rt.alloc(), "compress")?;
+    let args = one_arg(rt.alloc(), "compress")?;
     let mut source = SureSource::new(document(rt.alloc())?);
     let mut sink = StdSink::new(Blocked {
         writes: 1,
         flushes: 0,
     });
-    let status = run(rt.alloc(), words.as_slice(), &mut source, &mut sink);
+    let status = run(rt.alloc(), args.as_slice(), &mut source, &mut sink);
     assert!(rt; status == 6);
     Ok(())
 }

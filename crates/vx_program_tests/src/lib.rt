@@ -1,5 +1,4 @@
-//! Tests of the program: how the adapters of std meet failing calls, and that bytes, documents and listings go through
-//! whole.
+//! Tests of the program: what the adapters of std answer where a call of std fails, and whole runs from bytes to bytes.
 #![tactic(auto)]
 
 #[cfg(test)]

@@ -1,6 +1,6 @@
-//! The listing of a tree, written by the rules.
+//! Listings of small trees. The expected lines are worked out by hand.
 
-use std::alloc::Global;
+use std::alloc::{AllocError, Global};
 use std::test::Fail;
 use vx_array::{ArrayRef, Patches};
 use vx_base::Nullability::NonNullable;
@@ -10,14 +10,11 @@ use vx_fixtures::{accepted, flat};
 use vx_program::listing_text;
 
 // Whether the listing of the tree is this text.
-fn lists(alloc: Global, tree: &ArrayRef, text: &str) -> Result<bool, Fail> {
-    if tree.nbytes() == u128::MAX {
-        return Err(Fail::from("too many bytes"));
-    }
+fn lists(alloc: Global, tree: &ArrayRef, text: &str) -> Result<bool, AllocError> {
     Ok(listing_text(alloc, tree)?.as_str() == text)
 }
 
-// 9, 7 and 9 by their places.
+// The rows 9, 7 and 9 as a dictionary.
 fn dict(alloc: Global) -> VortexResult<ArrayRef> {
     let codes = flat(alloc, U8, NonNullable, &[1, 0, 1])?;
     let values = flat(alloc, U8, NonNullable, &[7, 9])?;
@@ -33,7 +30,7 @@ fn codes_come_before_their_values(rt: HostRuntime) -> Result<(), Fail> {
     Ok(())
 }
 
-// 1 but for rows 1, 3 and 5, whose indices begin with 2.
+// Eight rows of 1, but for 10, 20 and 30 in the rows 1, 3 and 5. The offset 2 stands in each index.
 fn sparse(alloc: Global) -> VortexResult<ArrayRef> {
     let indices = flat(alloc, U8, NonNullable, &[3, 5, 7])?;
     let values = flat(alloc, I32, NonNullable, &[10, 20, 30])?;
@@ -42,7 +39,7 @@ fn sparse(alloc: Global) -> VortexResult<ArrayRef> {
     accepted(ArrayRef::sparse(alloc, patches, fill))
 }
 
-// Three indices of a byte and values of 4, and 5 bytes of the fill.
+// 20 bytes: three indices of 1 byte, three values of 4, and 1 + 4 of the fill.
 #[test]
 fn the_numbers_of_a_sparse_column(rt: HostRuntime) -> Result<(), Fail> {
     let tree = sparse(rt.alloc())?;

@@ -1,6 +1,6 @@
 //! Documents of nested types, from bytes to bytes. The expected texts come from a model of the program.
 
-use crate::whole::word;
+use crate::whole::one_arg;
 use std::alloc::Global;
 use std::test::Fail;
 use vx_base::Bytes;
@@ -8,9 +8,9 @@ use vx_program::run_in_memory;
 
 // Whether the document is answered with this status and this text.
 fn answers(alloc: Global, document: &str, want: u8, text: &str) -> Result<bool, Fail> {
-    let words = word(alloc, "compress")?;
+    let args = one_arg(alloc, "compress")?;
     let bytes = Bytes::from_vec(Vec::from_slice(alloc, document.as_bytes())?);
-    let (status, sink) = run_in_memory(alloc, words.as_slice(), bytes);
+    let (status, sink) = run_in_memory(alloc, args.as_slice(), bytes);
     Ok(status == want && sink.bytes().as_slice() == text.as_bytes())
 }
 

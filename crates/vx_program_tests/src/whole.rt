@@ -1,4 +1,4 @@
-//! What goes through whole, with ample memory.
+//! Reads, writes and a run that succeed.
 
 use std::alloc::{AllocError, Global};
 use std::test::Fail;
@@ -32,11 +32,11 @@ fn texts_are_delivered_whole(rt: HostRuntime) -> Result<(), Fail> {
     Ok(())
 }
 
-/// One word.
-pub(crate) fn word(alloc: Global, text: &str) -> Result<Vec<String>, AllocError> {
-    let mut words = Vec::new(alloc);
-    words.push(String::from_str(alloc, text)?)?;
-    Ok(words)
+/// A command line of one argument.
+pub(crate) fn one_arg(alloc: Global, text: &str) -> Result<Vec<String>, AllocError> {
+    let mut args = Vec::new(alloc);
+    args.push(String::from_str(alloc, text)?)?;
+    Ok(args)
 }
 
 /// Three sevens.
@@ -47,9 +47,9 @@ pub(crate) fn document(alloc: Global) -> Result<Bytes, AllocError> {
 
 #[test]
 fn a_column_is_listed(rt: HostRuntime) -> Result<(), Fail> {
-    let words = word(rt.alloc(), "compress")?;
+    let args = one_arg(rt.alloc(), "compress")?;
     let bytes = document(rt.alloc())?;
-    let (status, sink) = run_in_memory(rt.alloc(), words.as_slice(), bytes);
+    let (status, sink) = run_in_memory(rt.alloc(), args.as_slice(), bytes);
     let listing = b"vortex.constant i64 len=3 size=9 value=7\nplain=24 tree=9\n".as_slice();
     assert!(rt; status == 0 && sink.bytes().as_slice() == listing);
     Ok(())

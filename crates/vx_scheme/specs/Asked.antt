@@ -11,34 +11,34 @@ use Rattle.vx_scheme.specs.Meaning.{Meaning, PlainSplit, kept, finished, parts, 
 use Rattle.vx_scheme.specs.declared.estimate.CompressionEstimate.TheVariants.{Deferred}
 use Rattle.vx_scheme.specs.declared.estimate.DeferredEstimate.TheVariants.{Callback}
 
--- the most rows that a column of a site has: those of the greatest column, an offset more, and 1,024 for each level
+-- the row limit of a column at any site: 2^31 of the document, 1 for the offsets of a list, and 1,024 for each of 3 + 1 levels
 abbrev pub most_rows : ℕ
 most_rows = 2 ^ 31 + 4097
 
--- a plain tree that any scheme may be given
+-- a plain tree that a scheme may be given
 pub record IsSiteTree (tree : Tree) : Type 0 where
   pub plain : IsPlain tree
   pub some : 0 < length (rows tree)
   pub few : length (rows tree) ≤ most_rows
 
--- a column that a scheme judges and splits: one that it takes, with rows
+-- a column that a scheme estimates and splits: of a type that it takes, with at least one row
 pub record IsAsked (m : Meaning) (c : Column) : Type 0 where
   pub column : IsColumn c
   pub taken : m.takes c.dtype ≡ true
   pub some : 0 < length c.values
   pub few : length c.values ≤ most_rows
 
--- it put its verdict off until it is asked again
+-- the estimate of the scheme is to be asked again
 abbrev pub HasPutOff : Meaning → Column → Site → Type 0
 HasPutOff m c site = m.estimate c site ≡ Deferred Callback
 
--- the column became parts
+-- the column was split into parts
 abbrev pub HasParts : PlainSplit → Type 0
 HasParts kept = ⊥
 HasParts (finished tree) = ⊥
 HasParts (parts columns) = Unit {0}
 
--- one tree for each part, of that part's type and rows
+-- one tree for each part, with that part's type and rows
 abbrev pub FitParts : PlainSplit → List Tree → Type 0
 FitParts made trees = map column_of trees ≡ parts_of made
 

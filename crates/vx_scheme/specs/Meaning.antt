@@ -1,4 +1,4 @@
--- What a scheme means, as plain data: no clause above names a scheme's type.
+-- What a scheme means, as plain data, so that the clauses above are over any schemes and name no scheme's type.
 use Rattle.std.specs.Prelude.{ℕ, Bool, List, [], map}
 use Rattle.vx_base.specs.PlainType.{PlainType}
 use Rattle.vx_base.specs.declared.array_id.ArrayId.{ArrayId}
@@ -13,13 +13,13 @@ use Rattle.vx_stats.specs.declared.options.GenerateStatsOptions.{GenerateStatsOp
 use Rattle.vx_scheme.specs.declared.split.Split.{Split}
 use Rattle.vx_scheme.specs.declared.split.Split.TheVariants as splits
 
--- what a scheme makes of a column: nothing, its tree, or parts that are compressed one by one
+-- how a scheme splits a column: not at all (the column stays plain), into a finished tree, or into parts to be compressed
 pub data PlainSplit : Type 0 where
   kept : PlainSplit
   finished : Tree → PlainSplit
   parts : List Column → PlainSplit
 
--- what a scheme means: its name, its types and rules, what it expects, what it splits a column into, and what it joins
+-- the meaning of a scheme: its name, the types it takes, its rules, its estimate of a column at a site, how it splits the column, and the tree it joins from the trees of the parts
 pub record Meaning : Type 0 where
   pub name : List ℕ
   pub takes : PlainType → Bool
@@ -33,13 +33,13 @@ pub record Meaning : Type 0 where
   pub splits : Column → Site → PlainSplit
   pub joined : Column → Site → List Tree → Tree
 
--- parts are plain trees
+-- the split with its parts as plain trees
 abbrev pub split_of : PlainSplit → Split
 split_of kept = splits.Kept
 split_of (finished tree) = splits.Finished tree
 split_of (parts columns) = splits.Parts (map plain columns)
 
--- the parts that are compressed, none where there are none
+-- the parts of a split; none unless it made parts
 abbrev pub parts_of : PlainSplit → List Column
 parts_of kept = []
 parts_of (finished tree) = []

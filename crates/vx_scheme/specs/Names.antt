@@ -1,4 +1,4 @@
--- The names of schemes: which are one, and what a hash is fed.
+-- The names of schemes: equality, and what they feed a hash.
 use Rattle.std.specs.Prelude.{◌≡◌, ℕ, Bool, true, nat_eq, List}
 use Rattle.std.proofs.Common.{ap, sym}
 use Rattle.std.specs.Cmp.Lexicographic.{pointwise, same_text}
@@ -10,14 +10,14 @@ use Rattle.vx_scheme.specs.declared.scheme_id.SchemeId.{SchemeId}
 abbrev pub name_of : SchemeId → List ℕ
 name_of id = id.name.now
 
--- the two names have the same bytes
+-- equality of names, byte by byte
 abbrev pub same_name : List ℕ → List ℕ → Bool
 same_name = pointwise nat_eq
 
--- what an id feeds a hash: its name
+-- an id feeds a hash its name
 abbrev pub name_writes : SchemeId → HashWrites
 name_writes id = fed.str (name_of id)
 
--- ids of one name feed alike
+-- equal ids feed a hash alike
 pub names_alike : (a b : SchemeId) → same_name (name_of a) (name_of b) ≡ true → name_writes a ≡ name_writes b
 names_alike a b e = ap fed.str (same_text (name_of a) (name_of b) (sym e))

@@ -1,4 +1,4 @@
--- What the scheme that takes nothing means.
+-- The meaning of the scheme that takes no type.
 use Rattle.std.specs.Prelude.{◌≡◌, true, false, [], codes}
 use Rattle.vx_model.specs.Plain.{plain}
 use Rattle.vx_scheme.specs.Lawful.{Lawful}
@@ -7,7 +7,7 @@ use Rattle.vx_scheme.specs.declared.estimate.CompressionEstimate.TheVariants.{Ve
 use Rattle.vx_scheme.specs.declared.estimate.EstimateVerdict.TheVariants.{Skip}
 use Rattle.vx_scheme.specs.declared.no_scheme.NoScheme.{NoScheme}
 
--- it takes no type, makes no node and has no rule
+-- takes no type, makes no node, has no rule
 abbrev pub no_meaning : NoScheme → Meaning
 no_meaning s = record {
   name = codes "vortex.none";
@@ -23,7 +23,7 @@ no_meaning s = record {
   joined = λ c site trees. plain c;
 }
 
--- since it is asked about no column, it is lawful
+-- lawful, since it takes no column
 pub no_lawful : (s : NoScheme) → Lawful (no_meaning s)
 no_lawful s = record {
   finished_well = λ c site tree asked e. absurd (never asked.taken);

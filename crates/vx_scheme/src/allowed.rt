@@ -6,8 +6,8 @@ ghost use Rattle.vx_scheme.specs.Allowed.{is_allowed, is_in, BoundsNothing};
 
 use vx_base::{ArrayId, IdSet};
 
-/// What bounds the encodings: those that are registered, those of the chosen editions, and those that are left out. A
-/// set that isn't there bounds nothing.
+/// The encodings that are allowed: those that are registered and in the chosen editions, without the excluded ones. None
+/// in place of a set is no bound.
 #[derive(Clone, Copy, Debug, PartialEq, Eq)]
 pub struct AllowedIds {
     pub registered: Option<IdSet>,
@@ -28,7 +28,7 @@ impl AllowedIds {
         }
     }
 
-    /// Whether the id is in each set that is there, and not left out.
+    /// Whether the id is in each set that is present, and not excluded.
     pub fn is_allowed(&self, id: ArrayId) -> bool
         ensures { result ≡ is_allowed self.now id }
     {

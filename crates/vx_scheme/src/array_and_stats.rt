@@ -1,4 +1,4 @@
-//! A plain array with what is kept of its statistics.
+//! A plain array with its cached statistics.
 
 ghost use Rattle.std.specs.Prelude.{◌≡◌, ◌<◌, ◌/◌, nat_lt, true, false, length, IsTrue, is_ok};
 ghost use Rattle.std.specs.Borrow.{sem};
@@ -17,7 +17,8 @@ use vx_array::ArrayRef;
 use vx_base::{ExecutionCtx, VortexError, VortexResult};
 use vx_stats::{GenerateStatsOptions, IntegerStats};
 
-/// A plain array, and each of its statistics from the first call on that asked for it.
+/// A plain array with its statistics, each of which is computed by the first call that asks for it, and then kept. The
+/// summary has no distinct values; the statistics have what the options request.
 #[derive(Drop)]
 pub struct ArrayAndStats {
     array: ArrayRef,
@@ -75,22 +76,22 @@ impl ArrayAndStats {
         self.array
     }
 
-    /// How many rows the array has.
+    /// The number of rows of the array.
     pub fn array_len(&self) -> u64
         ensures { result ≡ length (rows self.now.array) }
     {
         self.array.len()
     }
 
-    /// What its statistics are asked to have.
+    /// What its statistics include.
     pub fn options(&self) -> GenerateStatsOptions
         ensures { result ≡ self.now.options }
     {
         self.opts
     }
 
-    /// The statistics of an array of integers without distinct values, made once. They take no memory. Refuses
-    /// TooManyRows exactly above 2^32 - 1 rows.
+    /// The summary of an array of integers: its statistics without distinct values, kept from now on. It takes no memory.
+    /// Refuses TooManyRows exactly above 2^32 - 1 rows.
     pub fn integer_summary(&mut self) -> VortexResult<&IntegerStats>
         requires { IsTrue (is_integer (tree_type self.old.array)) }
         ensures* kept { sem 𝓛 (LendsSummary self.entry (is_ok result)) }
@@ -108,7 +109,7 @@ impl ArrayAndStats {
         }
     }
 
-    // The statistics with what the options ask for.
+    // The statistics with what the options request, which the caller keeps.
     fn completed(&mut self, alloc: Global) -> VortexResult<IntegerStats>
         requires { IsTrue (is_integer (tree_type self.old.array)) }
         ensures answer { Decided (stats_refusal (rows self.old.array)) (λ stats. stats ≡ stats_of self.old.options (integer_of (tree_type self.old.array)) (rows self.old.array)) result }
@@ -123,8 +124,8 @@ impl ArrayAndStats {
         }
     }
 
-    /// The statistics of an array of integers with what the options ask for, kept from now on. Where they aren't kept
-    /// yet, refuses TooManyRows exactly above 2^32 - 1 rows, and NoMemory. The context stays as it was.
+    /// The statistics of an array of integers with what the options request, kept from now on. Where they aren't kept yet,
+    /// refuses TooManyRows exactly above 2^32 - 1 rows, and NoMemory. The context stays as it was.
     pub fn integer_stats(&mut self, ctx: &mut ExecutionCtx) -> VortexResult<&IntegerStats>
         requires { IsTrue (is_integer (tree_type self.old.array)) }
         ensures* kept { sem 𝓛 (LendsIntegers self.entry (is_ok result)) }
@@ -140,7 +141,7 @@ impl ArrayAndStats {
         }
     }
 
-    // Whether it is shown that more than half of the values are distinct. False tells nothing.
+    // A test without counting that more than half of the values are distinct. False says nothing.
     fn shows_mostly_distinct(&mut self, alloc: Global) -> VortexResult<bool>
         requires { IsTrue (is_integer (tree_type self.old.array)) }
         ensures answer { Decided (stats_refusal (rows self.old.array)) (λ shown. shown ≡ true → value_count (rows self.old.array) / 2 < distinct_count (rows self.old.array)) result }
@@ -155,15 +156,17 @@ impl ArrayAndStats {
         }
     }
 
-    /// Whether more than half of the values of an array of integers are distinct; its options ask for distinct values.
-    /// Where nearly all are, they aren't sorted to tell so; else the statistics are kept from now on. Where they aren't
-    /// kept yet, refuses TooManyRows exactly above 2^32 - 1 rows, and NoMemory. The context stays as it was.
+    /// Whether more than half of the values of an array of integers are distinct; its options request distinct values.
+    /// Where a test without counting shows that they are, nothing is counted. Else they are counted, and the statistics are
+    /// kept from now on, as they are whenever the answer is false. Where they aren't kept yet, refuses TooManyRows exactly
+    /// above 2^32 - 1 rows, and NoMemory. The context stays as it was.
     pub fn is_mostly_distinct(&mut self, ctx: &mut ExecutionCtx) -> VortexResult<bool>
         requires integer { IsTrue (is_integer (tree_type self.old.array)) }
         requires asked { self.old.options.count_distinct_values ≡ true }
         ensures answer { KeptOrDecided self.old.integers_kept (stats_refusal (rows self.old.array)) (λ many. many ≡ nat_lt (value_count (rows self.old.array) / 2) (distinct_count (rows self.old.array))) result }
         ensures same { SameArray self.old self.new }
         ensures stays { StaysKept self.old self.new }
+        ensures kept { result ≡ Ok false → self.new.integers_kept ≡ true }
         ensures ctx { ctx.new ≡ ctx.old }
     {
         if self.integers.is_none() && self.shows_mostly_distinct(ctx.alloc())? {

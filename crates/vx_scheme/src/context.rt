@@ -1,4 +1,4 @@
-//! Where in a compression a column stands.
+//! Where in the cascade a column stands.
 
 ghost use Rattle.std.specs.Prelude.{◌≤◌, ◌+◌};
 
@@ -6,14 +6,14 @@ use crate::MAX_CASCADE;
 use crate::scheme_id::SchemeId;
 use vx_stats::GenerateStatsOptions;
 
-/// A site of the cascade: how many schemes may still follow, whether the column is a sample, and the schemes above with
-/// the child numbers on the way down, the outermost first. With it go the statistics that the schemes at the site ask
-/// for together. It is small and copied as it is passed on; none of its calls takes memory.
+/// A site of the cascade: the budget of schemes that may still follow, whether the column is a sample, and the history,
+/// which is the schemes above, outermost first, each with the number of its child on the way down. With it go the
+/// statistics that the schemes of the site request together. It is small and copied; no call takes memory.
 #[derive(Clone, Copy, Debug)]
 pub struct CompressorContext {
     budget: usize,
     sampled: bool,
-    // The schemes above are the first `depth` entries.
+    // The history is the first `depth` entries; the others are padding.
     history: [(SchemeId, usize); MAX_CASCADE],
     depth: usize,
     options: GenerateStatsOptions,
@@ -26,7 +26,7 @@ impl CompressorContext {
     ghost use Rattle.vx_scheme.specs.Contexts.{site_of, options_of, entries_of, leaf_site, sample_site};
     ghost use Rattle.vx_scheme.specs.Names.{name_of};
 
-    /// Where a column begins: the whole budget, no sample, nothing above, no options.
+    /// The fresh site: the whole budget, no sample, an empty history, no options.
     pub fn new() -> CompressorContext
         ensures site { site_of result ≡ fresh }
         ensures options { (options_of result).count_distinct_values ≡ false }
@@ -40,21 +40,21 @@ impl CompressorContext {
         }
     }
 
-    /// Whether the column is a sample of another one.
+    /// Whether the column is a sample.
     pub fn is_sample(&self) -> bool
         ensures { result ≡ (site_of self.now).sampled }
     {
         self.sampled
     }
 
-    /// The statistics that the schemes at the site ask for.
+    /// The statistics that the schemes of the site request together.
     pub fn merged_stats_options(&self) -> GenerateStatsOptions
         ensures { result ≡ options_of self.now }
     {
         self.options
     }
 
-    /// The schemes above, the outermost first, each with the number of its child on the way down.
+    /// The history: the schemes above, outermost first, each with the number of its child on the way down.
     pub fn cascade_history(&self) -> &[(SchemeId, usize)]
         ensures history { entries_of result.now ≡ (site_of self.now).history }
         ensures within { length result.now + (site_of self.now).budget ≤ 3 }
@@ -62,14 +62,14 @@ impl CompressorContext {
         &self.history[..self.depth]
     }
 
-    /// Whether no scheme may follow: the budget is 0.
+    /// Whether the budget is 0, so that no scheme may follow.
     pub fn finished_cascading(&self) -> bool
         ensures { result ≡ ((site_of self.now).budget == 0) }
     {
         self.budget == 0
     }
 
-    /// How many schemes may still follow one another, at most `MAX_CASCADE`.
+    /// How many schemes may still stand one below the other, at most `MAX_CASCADE`.
     pub fn budget(&self) -> usize
         ensures budget { result ≡ (site_of self.now).budget }
         ensures within { result ≤ 3 }
@@ -77,7 +77,7 @@ impl CompressorContext {
         self.budget
     }
 
-    /// The same with budget 0.
+    /// This site with budget 0.
     pub fn as_leaf(mut self) -> CompressorContext
         ensures site { site_of result ≡ leaf_site (site_of self) }
         ensures options { options_of result ≡ options_of self }
@@ -86,7 +86,7 @@ impl CompressorContext {
         self
     }
 
-    /// The same, of a sample.
+    /// This site for a sample of its column.
     pub fn with_sampling(mut self) -> CompressorContext
         ensures site { site_of result ≡ sample_site (site_of self) }
         ensures options { options_of result ≡ options_of self }
@@ -95,7 +95,7 @@ impl CompressorContext {
         self
     }
 
-    /// The same with these options in place of its own.
+    /// This site with other options.
     pub fn with_merged_stats_options(mut self, opts: GenerateStatsOptions) -> CompressorContext
         ensures site { site_of result ≡ site_of self }
         ensures options { options_of result ≡ opts }
@@ -104,7 +104,7 @@ impl CompressorContext {
         self
     }
 
-    /// The site of a scheme's child: the budget is one less, and the scheme stands above, last.
+    /// The site of a scheme's child: the budget is one less, and the history ends with the scheme and the child's number.
     pub fn descend(mut self, id: SchemeId, child_index: usize) -> CompressorContext
         requires { 0 < (site_of self).budget }
         ensures site { site_of result ≡ down (site_of self) (name_of id) child_index }

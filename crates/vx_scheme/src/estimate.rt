@@ -1,11 +1,11 @@
-//! What a scheme tells of a column before it is tried.
+//! Estimates: what a scheme expects to do for a column.
 
 ghost use Rattle.std.specs.Prelude.{◌≡◌};
 ghost use Rattle.vx_scheme.specs.Scores.{finite_of};
 
 use vx_base::Fraction;
 
-/// A scheme's answer on a column: its verdict, or how it is to be found.
+/// A scheme's estimate of a column: a verdict, or how the compressor finds one.
 #[derive(Clone, Copy, Debug)]
 pub enum CompressionEstimate {
     Verdict(EstimateVerdict),
@@ -15,24 +15,24 @@ pub enum CompressionEstimate {
 /// What a scheme expects of itself.
 #[derive(Clone, Copy, Debug)]
 pub enum EstimateVerdict {
-    /// It can't serve the column.
+    /// The scheme can't serve the column.
     Skip,
-    /// It is to be chosen, whatever the others tell.
+    /// The scheme is to be chosen, whatever the others expect.
     AlwaysUse,
-    /// The bytes of the plain column to those of its tree.
+    /// `bytes of the plain column / bytes of the tree`.
     Ratio(Fraction),
 }
 
-/// How a verdict is found that the statistics alone don't give.
+/// How a verdict is found that statistics alone don't give.
 #[derive(Clone, Copy, Debug)]
 pub enum DeferredEstimate {
     /// The scheme is tried on a sample of the column.
     Sample,
-    /// The scheme is asked again, with the score that it has to pass.
+    /// The scheme is asked again, by `resolve_estimate`, with the score to beat.
     Callback,
 }
 
-/// How well a trial did: the bytes before to those after, unless none were left.
+/// The outcome of a trial: `bytes before / bytes after`, unless no bytes were left.
 #[derive(Clone, Copy, Debug, PartialEq)]
 pub enum EstimateScore {
     FiniteCompression(Fraction),
@@ -40,7 +40,7 @@ pub enum EstimateScore {
 }
 
 impl EstimateScore {
-    /// The ratio; None exactly at `ZeroBytes`.
+    /// The ratio; None exactly of `ZeroBytes`.
     pub fn finite_ratio(self) -> Option<Fraction>
         ensures { result ≡ finite_of self }
     {

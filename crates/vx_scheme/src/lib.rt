@@ -1,4 +1,4 @@
-//! What a scheme is: the trait with its laws, and what its signatures name.
+//! The trait of a compression scheme with its laws, and the types of its signatures.
 #![tactic(auto)]
 
 mod allowed;
@@ -29,5 +29,5 @@ pub use vx_stats::{
     laws_of_distinct, laws_of_merge,
 };
 
-/// How many schemes may follow one another below the first.
+/// The budget of a fresh site: at most this many schemes stand one below the other.
 pub const MAX_CASCADE: usize = 3;

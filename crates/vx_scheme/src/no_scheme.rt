@@ -1,4 +1,4 @@
-//! The scheme that takes nothing.
+//! The scheme that takes no column.
 
 use crate::allowed::AllowedIds;
 use crate::array_and_stats::ArrayAndStats;
@@ -13,7 +13,7 @@ use vx_array::{ArrayRef, Arrays};
 use vx_base::{DType, ExecutionCtx, Fraction, IdSet, Steps, VortexResult};
 use vx_stats::GenerateStatsOptions;
 
-/// A scheme that takes no column, `vortex.none`: for a list of schemes with none of the caller's own.
+/// A scheme that takes no column, `vortex.none`: the type of a list of schemes that has none of the caller's own.
 #[derive(Clone, Copy, Debug, PartialEq, Eq)]
 pub struct NoScheme;
 
@@ -91,7 +91,7 @@ impl Scheme for NoScheme {
         Ok(Split::Kept)
     }
 
-    // It has no parts, so the column stays plain.
+    // It makes no parts, so nothing is promised; the plain column is an honest answer.
     fn join(
         &self,
         column: &mut ArrayAndStats,

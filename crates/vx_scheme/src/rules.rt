@@ -1,28 +1,28 @@
-//! The rules by which schemes keep others, or themselves, from sites below.
+//! Rules of exclusion: which scheme may not stand below which children of another one.
 
 use crate::scheme_id::SchemeId;
 use crate::selection::ChildSelection;
 use vx_base::Items;
 
-/// A scheme's rule against another one: `excluded` may not stand anywhere below these children of the scheme that has
-/// the rule. For a scheme that knows what doesn't pay beneath it.
+/// A rule of the scheme above: `excluded` may not stand anywhere below these children of the scheme that has the rule.
+/// For a scheme that knows what doesn't pay below it.
 #[derive(Clone, Copy, Debug)]
 pub struct DescendantExclusion {
     pub excluded: SchemeId,
     pub children: ChildSelection,
 }
 
-/// A scheme's rule against itself: it may not stand anywhere below these children of `ancestor`. For a scheme that
-/// knows above whom it doesn't pay.
+/// A rule of the scheme below: the scheme that has it may not stand anywhere below these children of `ancestor`. For a
+/// scheme that knows below what it doesn't pay.
 #[derive(Clone, Copy, Debug)]
 pub struct AncestorExclusion {
     pub ancestor: SchemeId,
     pub children: ChildSelection,
 }
 
-/// A scheme's rules against others.
+/// The rules of a scheme against others.
 pub type DescendantRules = Items<DescendantExclusion>;
-/// A scheme's rules against itself.
+/// The rules of a scheme against itself.
 pub type AncestorRules = Items<AncestorExclusion>;
 /// Ids of schemes.
 pub type SchemeIds = Items<SchemeId>;

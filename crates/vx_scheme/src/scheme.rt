@@ -1,4 +1,4 @@
-//! The trait of a scheme, with its laws.
+//! The trait of a compression scheme, with its laws.
 
 ghost use Rattle.std.specs.Prelude.{◌≡◌, ◌+◌, true, Bool};
 ghost use Rattle.vx_base.specs.Answers.{Answers, OrMemory};
@@ -33,65 +33,64 @@ use vx_stats::GenerateStatsOptions;
 
 /// A way to compress a column.
 ///
-/// A compressor asks each scheme of its list that matches the column's type for an estimate, tries some on a sample,
-/// chooses one, and has it split the column. A finished tree is the answer. Parts are compressed first, each at a site
-/// of its own one level below, and the scheme joins their trees.
+/// The compressor asks each scheme that matches the type of the column for an estimate, tries some on a sample, chooses
+/// one, and has it split the column. A finished tree is the answer. Parts are compressed first, each at a site of its own
+/// one level below, and the scheme joins their trees.
 ///
-/// What a scheme means is told as plain data by `meaning`, and every call answers by it: from the column and the site
-/// alone, whatever statistics are kept and whatever other options were merged. Each scheme proves its laws, `lawful`
-/// and `keeps_name`, so code over `S: Scheme` may rest on them.
+/// `meaning` says what a scheme does, as plain data, and every call answers by it: from the column and the site alone,
+/// whichever statistics are kept already and whichever options were merged. Each scheme proves the laws `lawful` and
+/// `keeps_name`, on which code over `S: Scheme` relies.
 ///
-/// A column is handed over with its statistics, whose options include the scheme's own. It is plain, and has at least
-/// one row and at most 2^31 + 4,097. Where the scheme matches its type, the answers below are promised, and a call that
-/// takes memory refuses NoMemory alone; on any other type nothing is. No call changes the array, its options or the
-/// sample words.
+/// A column comes with its statistics, whose options include the scheme's own. It is plain, and has 1 to 2^31 + 4,097
+/// rows. The answers below are promised where the scheme matches its type, and a call that takes memory refuses NoMemory
+/// alone; on any other type nothing is promised. No call changes the array, its options or the sample words.
 pub trait Scheme: Copy {
-    /// What the scheme means, as plain data.
+    /// The meaning of the scheme, as plain data.
     ghost meaning: { Self → Meaning };
 
-    /// The scheme as it is where only these encodings are allowed.
+    /// The scheme restricted to the encodings that are allowed.
     ghost refined: { Self → (ArrayId → Bool) → Self };
 
-    /// The name, as `vortex.int.dict`. No two schemes of a list have the same.
+    /// The name, as `vortex.int.dict`. It is unique within a list of schemes.
     fn scheme_name(&self) -> &'static str
         ensures { result.now ≡ (meaning self.now).name };
 
-    /// The id of the name.
+    /// The id of the scheme, made of its name.
     fn id(&self) -> SchemeId
         ensures { name_of result ≡ (meaning self.now).name }
     {
         SchemeId::of(self.scheme_name())
     }
 
-    /// Whether columns of the type may be compressed by it.
+    /// Whether the scheme takes columns of the type.
     fn matches(&self, dtype: &DType) -> bool
         ensures { result ≡ (meaning self.now).takes (type_of dtype.now) };
 
-    /// The encodings that it may make, and without which it is left out of a list.
+    /// The encodings of the nodes that it makes. Where one of them isn't allowed, the scheme is left out of the list.
     fn produced_encodings(&self) -> IdSet
         ensures { (id : ArrayId) → holds result id ≡ (meaning self.now).produces id };
 
-    /// The scheme where only some encodings are allowed. The name stays.
+    /// The scheme restricted to the encodings that are allowed. The name stays.
     fn refine(&self, allowed: &AllowedIds) -> Self
         ensures { result ≡ refined self.now (is_allowed allowed.now) };
 
-    /// The statistics that it needs beyond those that always come.
+    /// The statistics that it requests beyond those that are always computed.
     fn stats_options(&self) -> GenerateStatsOptions
         ensures { result ≡ (meaning self.now).options };
 
-    /// The most parts that it splits a column into. They are its children, numbered from 0.
+    /// The most parts that it splits a column into: its children, numbered from 0.
     fn num_children(&self) -> usize
         ensures { result ≡ (meaning self.now).children };
 
-    /// Which schemes may not stand below which of its children.
+    /// Rules of exclusion: which schemes may not stand below which of its children.
     fn descendant_exclusions(&self, alloc: Global) -> VortexResult<DescendantRules>
         ensures { OrMemory result (λ rules. descendants_of rules ≡ (meaning self.now).descendants) };
 
-    /// Below which children of which schemes it may not stand.
+    /// Rules of exclusion: below which children of which schemes it may not stand.
     fn ancestor_exclusions(&self, alloc: Global) -> VortexResult<AncestorRules>
         ensures { OrMemory result (λ rules. ancestors_of rules ≡ (meaning self.now).ancestors) };
 
-    /// What it expects to do for the column, or how that is found. Some row of the column has a value.
+    /// The estimate of a column in which some row isn't null: a verdict, or how the compressor finds one.
     fn expected_compression_ratio(
         &self,
         column: &mut ArrayAndStats,
@@ -105,9 +104,9 @@ pub trait Scheme: Copy {
         ensures column { SameArray column.old column.new }
         ensures ctx { ctx.new ≡ ctx.old };
 
-    /// The verdict that `Deferred(Callback)` put off; after any other estimate nothing is promised. Where there is a
-    /// threshold, a ratio that isn't above it can't win, and Skip may stand in its place, so a scheme may stop as soon as
-    /// it knows that. The column is as for the estimate.
+    /// The verdict after the estimate `Deferred(Callback)`; after any other estimate nothing is promised. A ratio that
+    /// isn't above the threshold can't win, so Skip may stand for it, and a scheme may stop as soon as it knows that. The
+    /// column is as for the estimate.
     fn resolve_estimate(
         &self,
         column: &mut ArrayAndStats,
@@ -122,8 +121,8 @@ pub trait Scheme: Copy {
         ensures column { SameArray column.old column.new }
         ensures ctx { ctx.new ≡ ctx.old };
 
-    /// The scheme's tree, or the parts of the column, also where every row is null. Takes one step of the count, also
-    /// where memory runs out.
+    /// The tree of the column, or its parts. Rows may be null, even all of them. Adds one to the count of steps, also where
+    /// memory runs out.
     fn split<L: Ledger>(
         &self,
         column: &mut ArrayAndStats,
@@ -138,8 +137,8 @@ pub trait Scheme: Copy {
         ensures ctx { ctx.new ≡ ctx.old }
         ensures step { steps.new ≡ steps.old + 1 };
 
-    /// The tree of the column, from one tree for each part that `split` made of it at this site, of that part's type and
-    /// rows. Where `split` makes no parts, nothing is promised. The trees are given up where memory runs out.
+    /// The tree of the column over `trees`, one for each part that `split` makes of it at this site, with that part's type
+    /// and rows. Where `split` makes no parts, nothing is promised. The trees are dropped where memory runs out.
     fn join(
         &self,
         column: &mut ArrayAndStats,
@@ -154,7 +153,7 @@ pub trait Scheme: Copy {
         ensures column { SameArray column.old column.new }
         ensures ctx { ctx.new ≡ ctx.old };
 
-    /// Its trees stand for the column, and its parts are few and small.
+    /// Its trees are lossless, and its parts are few and small.
     ghost lawful: { (s : Self) → Lawful (meaning s) };
 
     /// A refined scheme keeps its name.

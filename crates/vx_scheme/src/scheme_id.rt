@@ -6,8 +6,8 @@ ghost use Rattle.vx_scheme.specs.Names.{name_of};
 use std::fmt;
 use std::hash::{Hash, Hasher};
 
-/// A scheme's id, which is its name: two are equal exactly where their names are, and hash alike there. Display gives
-/// the name.
+/// The id of a scheme, which is its name: ids are equal exactly where their names are, and equal ids hash alike. Display
+/// writes the name.
 #[derive(Clone, Copy, Debug)]
 pub struct SchemeId {
     name: &'static str,

@@ -15,7 +15,7 @@ pub enum ChildSelection {
 }
 
 impl ChildSelection {
-    /// Whether the child is one of them.
+    /// Whether the selection has the child.
     pub fn contains(&self, child_index: usize) -> bool
         ensures { result ≡ selects self.now child_index }
     {

@@ -1,14 +1,14 @@
-//! What a scheme makes of a column.
+//! How a scheme splits a column.
 
 use vx_array::{ArrayRef, Arrays};
 
-/// A scheme's first half of its work on a column.
+/// The answer of `Scheme::split`, the first half of a compression.
 #[derive(Drop)]
 pub enum Split {
-    /// The scheme can't serve the column, which stays plain.
+    /// The scheme does nothing for the column, which stays plain.
     Kept,
-    /// The scheme's tree.
+    /// The tree of the column.
     Finished(ArrayRef),
-    /// Plain columns, which are compressed one by one and joined by the scheme. The first is child 0.
+    /// Plain columns, the children from 0 on. The compressor compresses each, and the scheme joins their trees.
     Parts(Arrays),
 }

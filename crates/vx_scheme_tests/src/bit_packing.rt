@@ -1,4 +1,4 @@
-//! The scheme of bit packing, over columns worked by hand.
+//! The bit-packing scheme, over columns worked by hand.
 
 use crate::shapes::makes;
 use std::test::Fail;

@@ -1,5 +1,5 @@
-//! What bundles tell of small columns worked by hand. A bundle has one way out of each function that owns it, since its
-//! drop is proved at each.
+//! Bundles of small columns worked by hand. A function that owns a bundle has one way out, since the drop is proved at
+//! each.
 
 ghost use Rattle.std.specs.Prelude.{IsTrue};
 ghost use Rattle.vx_base.specs.PlainType.{is_integer};
@@ -12,7 +12,7 @@ use vx_base::{ExecutionCtx, VortexResult};
 use vx_fixtures::{bundle, context};
 use vx_scheme::ArrayAndStats;
 
-// How many values and how many distinct ones a summary has, and then the statistics.
+// The value count and the distinct count of the summary, and then of the statistics.
 fn counts_of(
     column: &mut ArrayAndStats,
     ctx: &mut ExecutionCtx,
@@ -25,7 +25,7 @@ fn counts_of(
     Ok([of_summary, (stats.value_count(), stats.distinct_count())])
 }
 
-// The same of a bundle of these rows.
+// The counts of a bundle of these rows.
 fn counts_of_rows(alloc: Global, rows: &[Option<i128>]) -> VortexResult<[(u32, Option<u32>); 2]> {
     let mut ctx = context(alloc)?;
     let mut column = bundle(alloc, I64, rows)?;
@@ -33,7 +33,7 @@ fn counts_of_rows(alloc: Global, rows: &[Option<i128>]) -> VortexResult<[(u32, O
 }
 
 #[test]
-fn a_bundle_tells_its_statistics(rt: HostRuntime) -> Result<(), Fail> {
+fn a_bundle_has_its_statistics(rt: HostRuntime) -> Result<(), Fail> {
     let counts = counts_of_rows(rt.alloc(), &[Some(5), Some(5), None])?;
     assert!(rt; counts == [(2, None), (2, Some(1))]);
     Ok(())
@@ -51,19 +51,19 @@ const FAR: Option<i128> = Some(1_000_000_007);
 #[test]
 fn more_than_half_of_the_values_are_most(rt: HostRuntime) -> Result<(), Fail> {
     for (rows, most) in [
-        // Three of four, far apart, and half of them.
+        // In a wide range: three of four, and half of them.
         (&[Some(0), FAR, Some(-7), FAR][..], true),
         (&[Some(0), FAR, Some(0), FAR], false),
-        // Close together.
+        // In a narrow range.
         (&[Some(7), Some(8), Some(7)], true),
-        // Rising.
+        // Ascending.
         (&[Some(7), Some(8), Some(9)], true),
-        // A null is neither a value nor distinct.
+        // A null is no value.
         (&[FAR, None, FAR, None], false),
         (&[], false),
     ] {
-        let told = are_mostly_distinct(rt.alloc(), rows)?;
-        assert!(rt; told == most, "{rows:?}");
+        let answer = are_mostly_distinct(rt.alloc(), rows)?;
+        assert!(rt; answer == most, "{rows:?}");
     }
     Ok(())
 }

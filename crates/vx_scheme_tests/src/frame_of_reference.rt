@@ -1,4 +1,4 @@
-//! The scheme of frames of reference, over columns worked by hand.
+//! The frame-of-reference scheme, over columns worked by hand.
 
 use crate::shapes::makes;
 use std::test::Fail;
@@ -14,7 +14,7 @@ fn columns_without_a_gain_are_skipped(rt: HostRuntime) -> Result<(), Fail> {
     for (site, ptype, rows, estimate) in [
         (top, U8, [Some(9), Some(6)], Told::Ratio(8, 2)),
         (top, I16, [Some(-1), Some(0)], Told::Ratio(16, 1)),
-        // As many digits, from 0 already, no span, and no scheme may follow.
+        // The greatest has no more digits than the span; the least is 0; the span is 0; budget 0.
         (top, U8, [Some(3), Some(1)], Told::Nothing),
         (top, U8, [Some(9), Some(0)], Told::Nothing),
         (top, I16, [Some(-9), None], Told::Nothing),

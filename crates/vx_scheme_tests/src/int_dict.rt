@@ -1,4 +1,4 @@
-//! The scheme of dictionaries of integers, over columns worked by hand.
+//! The dictionary scheme of integers, over columns worked by hand.
 
 use crate::shapes::makes;
 use std::test::Fail;

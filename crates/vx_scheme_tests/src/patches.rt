@@ -1,4 +1,4 @@
-//! Patches in their short form: the type of the indices, and what becomes of the values.
+//! Compressed patches: the type of the indices, and what becomes of the values.
 
 use crate::shapes::{Shape, has_shape};
 use std::alloc::Global;
@@ -13,7 +13,7 @@ use vx_schemes::compress_patches;
 // The rows that are patched.
 const ROWS: u64 = 5_000_000_000;
 
-// Whether the short form of patches of five billion rows has the same rows and offset, and these indices and values.
+// Whether compressed patches of five billion rows have their rows and offset, and these indices and values.
 fn shortens(alloc: Global, offset: u64, indices: Shape, values: Shape) -> VortexResult<bool> {
     let (_, _, _, places) = indices;
     let (_, _, _, items) = values;
@@ -59,7 +59,7 @@ fn equal_values_are_one_scalar(rt: HostRuntime) -> Result<(), Fail> {
     Ok(())
 }
 
-// The bytes of the short form of patches with these two values, where they became one scalar.
+// The bytes of compressed patches of these two values, where they became one scalar.
 fn shared_bytes(alloc: Global, values: ArrayRef) -> VortexResult<Option<u128>> {
     let places = column(alloc, U64, &[Some(1), Some(300)])?;
     let patches = accepted(Patches::new(ROWS, 0, places, values))?;

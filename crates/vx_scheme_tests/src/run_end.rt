@@ -1,4 +1,4 @@
-//! The scheme of run ends, over columns worked by hand.
+//! The run-end scheme, over columns worked by hand.
 
 use crate::run_length::in_turn;
 use crate::shapes::makes;

@@ -1,4 +1,4 @@
-//! The scheme of runs in blocks, over columns worked by hand.
+//! The run-length scheme, over columns worked by hand.
 
 use crate::shapes::makes;
 use std::alloc::Global;
@@ -29,7 +29,7 @@ fn four_values_a_run_are_tried_where_a_scheme_may_follow(rt: HostRuntime) -> Res
     Ok(())
 }
 
-// Numbers one after another, each in so many rows.
+// Numbers one after another, each in a run of the given length.
 pub(crate) fn in_turn(alloc: Global, numbers: &[(i128, u16)]) -> VortexResult<Vec<Option<i128>>> {
     let mut rows = Vec::new(alloc);
     for place in 0..numbers.len() {

@@ -1,4 +1,4 @@
-//! The scheme of sequences, over columns worked by hand.
+//! The sequence scheme, over columns worked by hand.
 
 use crate::shapes::makes;
 use std::test::Fail;
@@ -23,7 +23,7 @@ fn half_the_rows_of_a_sequence_are_expected(rt: HostRuntime) -> Result<(), Fail>
             &[Some(5), Some(3), Some(2)],
             (Told::Later, Told::Nothing),
         ),
-        // One row is no sequence, nor is one with a null; a sample isn't asked again.
+        // One row is no sequence, nor are rows with a null; the estimate of a sample isn't deferred.
         (top, &[Some(5)], (Told::Later, Told::Nothing)),
         (
             top,

@@ -1,4 +1,4 @@
-//! The scheme of sparse values, over columns worked by hand.
+//! The sparse scheme, over columns worked by hand.
 
 use crate::shapes::makes;
 use std::test::Fail;

@@ -5,15 +5,15 @@ use std::test::Fail;
 use vx_array::ArrayRef;
 use vx_base::PType::{self, I8, I32, U8, U64};
 use vx_base::{Nullability, Scalar, VortexError, VortexResult};
-use vx_fixtures::{accepted, bits, column, context};
+use vx_fixtures::{accepted, bits, column, context, flat, with_nulls};
 use vx_scheme::{ErasedStats, GenerateStatsOptions, IntegerStats};
 
 const DISTINCT: GenerateStatsOptions = GenerateStatsOptions {
     count_distinct_values: true,
 };
 
-// How many rows are null and how many aren't, how many values a run has, how many are distinct, and the most frequent
-// one with its count.
+// The numbers of null and of valid rows, the average run length, the distinct count, and the most frequent value with
+// its count.
 type Counted = (u32, u32, u32, Option<u32>, Option<(i128, u32)>);
 
 // The most frequent value and its count.
@@ -32,19 +32,19 @@ fn counted(stats: &IntegerStats) -> Counted {
     )
 }
 
-// A type, rows, and what is counted of them.
+// A type, rows, and their statistics.
 type Row<'a> = (PType, &'a [Option<i128>], Counted);
 
 const ROWS: [Row; 6] = [
     (I8, &[], (0, 0, 0, None, None)),
     (I8, &[None, None], (2, 0, 0, Some(0), Some((0, 0)))),
-    // Of two that come as often, the lesser.
+    // Where two are as frequent, the lesser.
     (
         I8,
         &[None, Some(2), Some(1)],
         (1, 2, 1, Some(2), Some((1, 1))),
     ),
-    // Far apart, and close together.
+    // In a wide range, and in a narrow one.
     (
         I8,
         &[Some(100), Some(-100), None, Some(100)],
@@ -122,6 +122,58 @@ fn a_null_in_a_long_run_is_none_of_its_values(rt: HostRuntime) -> Result<(), Fai
     Ok(())
 }
 
+// The integers of 8 bits from -128 to 127, twice, and then 127.
+fn all_of_8_bits_twice() -> [Option<i128>; 513] {
+    let mut rows = [Some(127); 513];
+    for row in 0..512 {
+        rows[row] = Some((row % 256) as i128 - 128);
+    }
+    rows
+}
+
+#[test]
+fn each_value_of_a_type_can_be_distinct(rt: HostRuntime) -> Result<(), Fail> {
+    let stats = stats_of(rt.alloc(), I8, &all_of_8_bits_twice())?;
+    assert!(rt; counted(&stats) == (0, 513, 1, Some(256), Some((127, 3))));
+    Ok(())
+}
+
+// What is counted of an array of integers with its distinct values.
+fn counted_of(alloc: Global, array: &ArrayRef) -> VortexResult<Counted> {
+    if !array.dtype().is_integer() {
+        return Err(VortexError::MismatchedTypes);
+    }
+    let mut ctx = context(alloc)?;
+    let stats = IntegerStats::generate_opts(array, DISTINCT, &mut ctx)?;
+    Ok(counted(&stats))
+}
+
+// 0 to 127 in order, and whether a row is even.
+fn up_to_127() -> ([i128; 128], [bool; 128]) {
+    let mut wholes = [0; 128];
+    let mut even = [false; 128];
+    for row in 0..128 {
+        wholes[row] = row as i128;
+        even[row] = row % 2 == 0;
+    }
+    (wholes, even)
+}
+
+// The values beneath the nulls are the odd ones, and none of them is 0.
+#[test]
+fn values_beneath_nulls_are_not_counted(rt: HostRuntime) -> Result<(), Fail> {
+    let (wholes, even) = up_to_127();
+    let all = flat(rt.alloc(), U8, Nullability::NonNullable, &wholes)?;
+    let half = with_nulls(rt.alloc(), U8, &wholes, &even)?;
+    let of_all = counted_of(rt.alloc(), &all)?;
+    let of_half = counted_of(rt.alloc(), &half)?;
+    assert!(rt;
+        of_all == (0, 128, 1, Some(128), Some((0, 1)))
+            && of_half == (64, 64, 1, Some(64), Some((0, 1)))
+    );
+    Ok(())
+}
+
 // The statistics of an array of integers, without its distinct values.
 fn plain_stats_of(alloc: Global, array: &ArrayRef) -> VortexResult<IntegerStats> {
     if !array.dtype().is_integer() {
@@ -129,6 +181,22 @@ fn plain_stats_of(alloc: Global, array: &ArrayRef) -> VortexResult<IntegerStats>
     }
     let mut ctx = context(alloc)?;
     IntegerStats::generate(array, &mut ctx)
+}
+
+// Why an array of integers has no statistics, if it has none.
+fn refusal_of(alloc: Global, array: &ArrayRef) -> Option<VortexError> {
+    match plain_stats_of(alloc, array) {
+        Ok(_) => None,
+        Err(error) => Some(error),
+    }
+}
+
+#[test]
+fn row_counts_have_32_bits(rt: HostRuntime) -> Result<(), Fail> {
+    let one = Scalar::primitive(1, U8, Nullability::NonNullable)?;
+    let array = ArrayRef::constant(one, 4_294_967_296);
+    assert!(rt; refusal_of(rt.alloc(), &array) == Some(VortexError::TooManyRows));
+    Ok(())
 }
 
 #[test]

@@ -1,4 +1,4 @@
-//! The scheme of zigzag, over columns worked by hand.
+//! The zigzag scheme, over columns worked by hand.
 
 use crate::shapes::makes;
 use std::test::Fail;

@@ -1,10 +1,7 @@
 pub mod BitPacking
-pub mod ColumnLemmas
 pub mod Dictionary
 pub mod FrameOfReference
-pub mod KeptLemmas
 pub mod MadeLemmas
-pub mod NarrowedLemmas
 pub mod PatchLemmas
 pub mod Produced
 pub mod StandardFacts

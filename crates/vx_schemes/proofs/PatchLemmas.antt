@@ -1,8 +1,8 @@
--- Patches in their short form: the type of their indices, and values that are all equal.
-use Rattle.std.proofs.Common.{◌≡◌, ◌<◌, ◌≤◌, ◌+◌, ◌-◌, ◌^◌, ◌∙◌, ℕ, zero, suc, ℤ, pos, negsuc, Bool, true, false, List, [], ◌∷◌, length, map, Some, None, cond, refl, sym, ap, subst, arith, inl, inr}
-use Rattle.std.specs.Prelude.{◌&&◌, ◌||◌, nat_lt, not, is_some, IsSome, find, unwrap_or, option_map, position}
+-- Compressed patches: the type of their indices, and values that are all equal.
+use Rattle.std.proofs.Common.{◌≡◌, ◌<◌, ◌+◌, ◌-◌, ◌^◌, ◌∙◌, ℕ, zero, suc, ℤ, pos, negsuc, Bool, true, false, List, [], ◌∷◌, length, map, Some, None, cond, refl, sym, ap, subst, arith}
+use Rattle.std.specs.Prelude.{◌&&◌, ◌||◌, not, is_some, IsSome, find, unwrap_or, option_map, position}
 use Rattle.std.specs.List.{list_all, list_any}
-use Rattle.std.proofs.lemmas.Bool.{and_from, or_parts, lt-ltb, le-ltb, cases_lt, eq-eqb}
+use Rattle.std.proofs.lemmas.Bool.{or_parts, eq-eqb}
 use Rattle.std.proofs.lemmas.List.{take_all}
 use Rattle.std.proofs.lemmas.List.Quantifiers.{position-Some}
 use Rattle.vx_base.specs.declared.ptype.PType.{PType}
@@ -30,29 +30,17 @@ use Rattle.vx_model.proofs.AscentLemmas.{by_ascent}
 use Rattle.vx_model.proofs.OneValueLemmas.{first_valid-position}
 use Rattle.vx_model.proofs.PatchLemmas.{ascend-within, ascend-index}
 use Rattle.vx_model.proofs.PlainLemmas.{type-plain_of, wholes_lie_in}
-use Rattle.vx_schemes.specs.Patches.Compressed.{index_type, shared_value, narrowed, constant_or_plain, compressed_patches}
+use Rattle.vx_schemes_common.specs.Narrowed.{index_type}
+use Rattle.vx_schemes_common.specs.NarrowedLaws.{index_type-holds}
+use Rattle.vx_schemes_common.specs.Rising.{ascend-words, fit_all}
+use Rattle.vx_schemes_common.proofs.NarrowedLemmas.{picked, smaller, and_true, and_false}
+use Rattle.vx_schemes.specs.Patches.Compressed.{shared_value, narrowed, constant_or_plain, compressed_patches}
 use Rattle.vx_model.specs.Refusals.{patches_refusal}
-use Rattle.vx_schemes.specs.BitPacking.Rising.{ascend-words, fit_all}
-use Rattle.vx_schemes.specs.Patches.Laws.{index_type-holds, short_patches}
+use Rattle.vx_schemes.specs.Patches.Laws.{short_patches}
 
 -- ---- the last of them decides
 
-pub and_true : (b : Bool) → (b && true) ≡ b
-and_true true = refl
-and_true false = refl
-
-and_false : (b : Bool) → (b && false) ≡ false
-and_false true = refl
-and_false false = refl
-
-pub smaller : (n k m : ℕ) → n ≤ k → (nat_lt n m && nat_lt k m) ≡ nat_lt k m
-smaller n k m h =
-    elim (cases_lt k m) [
-      | inl lt ↦ and_from _ _ (lt-ltb n m (omega arith)) (lt-ltb k m lt) ∙ sym (lt-ltb k m lt)
-      | inr far ↦ ap (λ b. nat_lt n m && b) (le-ltb k m far) ∙ and_false (nat_lt n m) ∙ sym (le-ltb k m far)
-    ]
-
--- all of them fit where the last one does
+-- all indices fit where the last one does
 abbrev LastDecides : PType → List PlainValue → Type 0
 LastDecides q is = (i k : ℕ) → length is ≡ i + 1 → index_of (row_at is i) ≡ Some k → fit_all q is ≡ lies_in q (pos k)
 
@@ -67,14 +55,6 @@ last_decides-more q high n (v ∷ is) later rest (suc i) k l e =
 pub all_by_last : (q : PType) (low high : ℕ) (is : List PlainValue) (i k : ℕ) → ascend low high is ≡ true → length is ≡ i + 1 → index_of (row_at is i) ≡ Some k → fit_all q is ≡ lies_in q (pos k)
 all_by_last q low high is i k a l e =
     by_ascent high (λ low is. LastDecides q is) (λ low i k l e. absurd (omega arith)) (λ low n is from under later rest. last_decides-more q high n is later rest) low is a i k l e
-
--- the first type of four that holds it
-pub picked : (a b c d : Bool) (q : PType) → cond a (Some U8) (cond b (Some U16) (cond c (Some U32) (cond d (Some U64) None))) ≡ Some q → unwrap_or (cond a (Some U8) (cond b (Some U16) (cond c (Some U32) None))) U64 ≡ q
-picked true b c d q e = cc
-picked false true c d q e = cc
-picked false false true d q e = cc
-picked false false false true q e = cc
-picked false false false false q e = absurd cc
 
 is_picked : (a b c d : Bool) → d ≡ true → IsSome (cond a (Some U8) (cond b (Some U16) (cond c (Some U32) (cond d (Some U64) None))))
 is_picked true b c d e = refl
@@ -197,7 +177,7 @@ some_null (w ∷ vs) v f n = first w n (some_null vs v f)
         by_null (λ u. (is_null u || list_any is_null vs) ≡ true → (list_any is_null vs ≡ true → list_all (λ x. same_value x v) vs ≡ false) → (same_value u v && list_all (λ x. same_value x v) vs) ≡ false)
         (λ q rest. ap (λ b. b && list_all (λ x. same_value x v) vs) (null-same v ∙ f)) (λ u g q rest. ap (λ b. same_value u v && b) (rest (rw g at q)) ∙ and_false (same_value u v))
 
--- not where there are nulls and values
+-- no value is shared where there are nulls and values
 pub shared-mixed : (vs : List PlainValue) (v : PlainValue) → list_any is_null vs ≡ true → first_valid vs ≡ Some v → shared_value vs ≡ None
 shared-mixed [] v n e = refl
 shared-mixed (w ∷ vs) v n e = first w n e
@@ -234,7 +214,7 @@ pub shared-other : (vs : List PlainValue) → list_all (λ w. same_value w (row_
 shared-other [] h = refl
 shared-other (v ∷ vs) h = ap (λ b. cond b (Some v) None) (ap (list_all (λ w. same_value w v)) (sym (behind v vs)) ∙ h)
 
--- so the constructor admits them
+-- so the constructor admits compressed patches
 pub short_admitted : (p : PlainPatches) → WellFormedPatches p → patches_refusal (compressed_patches p) ≡ None
 short_admitted p h =
     let w = short_patches p h in

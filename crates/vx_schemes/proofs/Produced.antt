@@ -1,69 +1,30 @@
--- What schemes make has an encoding that they produce.
-use Rattle.std.proofs.Common.{◌≡◌, ◌∙◌, ℤ, Bool, true, false, List, [], ◌∷◌, Option, Some, None, cond, refl, sym, ap, subst, inl, inr}
+-- What the schemes of this crate make has an encoding that they produce.
+use Rattle.std.proofs.Common.{◌≡◌, ℤ, Bool, true, false, Option, Some, None, cond, refl, ap, subst, inr}
 use Rattle.std.specs.Prelude.{◌||◌, ◌==◌, map, option_map}
 use Rattle.std.specs.List.{list_any}
-use Rattle.vx_base.proofs.IntegerLemmas.{by_integer}
 use Rattle.vx_base.specs.Integers.{bits_of}
 use Rattle.vx_base.specs.PlainType.{is_integer, integer_of, nullability_of}
 use Rattle.vx_base.specs.PlainValue.{whole_or_zero}
 use Rattle.vx_base.specs.declared.array_id.ArrayId.TheVariants as ids
 use Rattle.vx_model.specs.Column.{Column}
 use Rattle.vx_model.specs.Nodes.{encoding}
-use Rattle.vx_model.specs.Plain.{plain, plain_of, valid_bits}
-use Rattle.vx_model.specs.Site.{Site}
+use Rattle.vx_model.specs.Plain.{valid_bits}
 use Rattle.vx_model.specs.Tree.{Tree}
 use Rattle.vx_model.proofs.PackedOfLemmas.{encoding-packed_of}
-use Rattle.vx_scheme.specs.Meaning.{Meaning, finished}
 use Rattle.vx_schemes.specs.BitPacking.Meaning.{bit_packing_meaning}
 use Rattle.vx_schemes.specs.BitPacking.Tree.{is_negative, packed_tree, bit_packing_made}
 use Rattle.vx_schemes.specs.Dictionary.Meaning.{int_dict_meaning, dictionary_or_plain, unfinished}
-use Rattle.vx_schemes.specs.Finishing.{finished_or_kept}
 use Rattle.vx_schemes.specs.FrameOfReference.Meaning.{for_meaning}
 use Rattle.vx_schemes.specs.FrameOfReference.Tree.{least_value, framed, for_made}
-use Rattle.vx_schemes.specs.OnePart.{part_where, over_part}
-use Rattle.vx_schemes.specs.Pairs.{pair_of}
-use Rattle.vx_schemes.specs.Produced.{IsProduced, MakesProduced}
+use Rattle.vx_schemes_common.specs.Pairs.{pair_of}
+use Rattle.vx_schemes_common.specs.Produced.{IsProduced, MakesProduced}
+use Rattle.vx_schemes_common.proofs.Produced.{plain-produced, finishing-produced, one_part-produced}
 use Rattle.vx_schemes.specs.Widths.{best_width_of}
 use Rattle.vx_schemes.specs.ZigZag.Meaning.{zig_zag_meaning}
 use Rattle.vx_schemes.specs.declared.integer.bit_packing.BitPackingScheme.{BitPackingScheme}
 use Rattle.vx_schemes.specs.declared.integer.dictionary.IntDictScheme.{IntDictScheme}
 use Rattle.vx_schemes.specs.declared.integer.frame_of_reference.FoRScheme.{FoRScheme}
 use Rattle.vx_schemes.specs.declared.integer.zig_zag.ZigZagScheme.{ZigZagScheme}
-
--- ---- any scheme of integers
-
-pub plain-produced : (m : Meaning) (c : Column) → is_integer c.dtype ≡ true → IsProduced m (plain c)
-plain-produced m c i = inl (by_integer (λ t. encoding (plain_of t c.values) ≡ ids.Primitive) (λ p n. refl) c.dtype i)
-
-is_made : (made : Option Tree) (tree : Tree) → finished_or_kept made ≡ finished tree → made ≡ Some tree
-is_made None tree e = absurd cc
-is_made (Some made) tree e = let same : made ≡ tree = cc in ap Some same
-
--- one that finishes its trees, and joins none
-pub finishing-produced : (m : Meaning) (made : Column → Option Tree) → ((c : Column) (site : Site) → m.splits c site ≡ finished_or_kept (made c)) → ((c : Column) (tree : Tree) → made c ≡ Some tree → m.produces (encoding tree) ≡ true)
-    → ((c : Column) → m.takes c.dtype ≡ true → is_integer c.dtype ≡ true) → ((c : Column) (site : Site) (trees : List Tree) → m.joined c site trees ≡ plain c) → MakesProduced m
-finishing-produced m made splits encoded integers joins = record {
-  by_finishing = λ c site tree e. encoded c tree (is_made (made c) tree (sym (splits c site) ∙ e));
-  by_joining = λ c site trees taken. subst (IsProduced m) (sym (joins c site trees)) (plain-produced m c (integers c taken));
-}
-
--- one that makes one part, and wraps its tree
-pub one_part-produced : (m : Meaning) (test : Column → Bool) (part : Column → Column) (wrap : Column → Tree → Tree) → ((c : Column) (site : Site) → m.splits c site ≡ part_where (test c) (part c))
-    → ((c : Column) (site : Site) (trees : List Tree) → m.joined c site trees ≡ over_part wrap c trees) → ((c : Column) → m.takes c.dtype ≡ true → is_integer c.dtype ≡ true) → ((c : Column) (tree : Tree) → m.produces (encoding (wrap c tree)) ≡ true) → MakesProduced m
-one_part-produced m test part wrap splits joins integers encoded = record {
-  by_finishing = λ c site tree e. absurd (unfinished (test c) (part c) tree (sym (splits c site) ∙ e));
-  by_joining = λ c site trees taken. subst (IsProduced m) (sym (joins c site trees)) (by_trees c trees (integers c taken));
-}
-  where
-    unfinished : (b : Bool) (of : Column) (tree : Tree) → part_where b of ≡ finished tree → ⊥
-    unfinished true of tree e = cc
-    unfinished false of tree e = cc
-
-    by_trees : (c : Column) (trees : List Tree) → is_integer c.dtype ≡ true → IsProduced m (over_part wrap c trees)
-    by_trees c [] i = plain-produced m c i
-    by_trees c (tree ∷ trees) i = inr (encoded c tree)
-
--- ---- the shipped ones
 
 pub encoding-made : (c : Column) (tree : Tree) → bit_packing_made c ≡ Some tree → encoding tree ≡ ids.BitPacked
 encoding-made c tree e =

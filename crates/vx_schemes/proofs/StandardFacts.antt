@@ -14,8 +14,8 @@ use Rattle.vx_scheme.specs.Meaning.{kept}
 use Rattle.vx_scheme.specs.declared.estimate.CompressionEstimate.TheVariants.{Verdict, Deferred}
 use Rattle.vx_scheme.specs.declared.estimate.DeferredEstimate.TheVariants.{Sample}
 use Rattle.vx_scheme.specs.declared.estimate.EstimateVerdict.TheVariants.{Skip}
-use Rattle.vx_schemes.specs.Narrowed.{narrowed_numbers}
-use Rattle.vx_schemes.specs.Patches.Compressed.{index_type, shared_value, compressed_patches}
+use Rattle.vx_schemes_common.specs.Narrowed.{index_type}
+use Rattle.vx_schemes.specs.Patches.Compressed.{shared_value, compressed_patches}
 use Rattle.vx_schemes.specs.BitPacking.Tree.{bit_packing_made}
 use Rattle.vx_schemes.specs.BitPacking.Meaning.{bit_packing_meaning}
 use Rattle.vx_schemes.specs.Dictionary.Tree.{dictionary_of}
@@ -83,8 +83,3 @@ pub dictionary_of-hundreds :
     dictionary_of (column (types.primitive I32 Nullable) (int (pos 100) ∷ int (pos 200) ∷ int (pos 100) ∷ null ∷ int (pos 100) ∷ []))
     ≡ dict (primitive U8 (pos 0 ∷ pos 1 ∷ pos 0 ∷ pos 0 ∷ pos 0 ∷ []) (Some (true ∷ true ∷ true ∷ false ∷ true ∷ [])) Nullable) (primitive I32 (pos 100 ∷ pos 200 ∷ []) None Nullable)
 dictionary_of-hundreds = refl
-
--- 255 takes a byte, as no number does; 256 takes two
-pub narrowed-bytes :
-    ((narrowed_numbers (255 ∷ [])).dtype ≡ types.primitive U8 NonNullable) × ((narrowed_numbers (256 ∷ [])).dtype ≡ types.primitive U16 NonNullable) × ((narrowed_numbers []).dtype ≡ types.primitive U8 NonNullable)
-narrowed-bytes = (refl, refl, refl)

@@ -1,21 +1,18 @@
 -- Widths: the kernel's histogram is that of the definitions, and when differences from the least value are as wide as the
 -- greatest.
-use Rattle.std.proofs.Common.{◌≡◌, ◌+◌, ℕ, ℤ, Bool, List, map, ◌∙◌, ◌<◌, ◌≤◌, ◌-◌, ◌*◌, ◌/◌, ◌^◌, zero, suc, pos, negsuc, false, Some, None, sym, ap, inl, inr, arith}
-use Rattle.std.specs.Prelude.{◌==◌, count_by, ◌≤ℤ◌, ◌-ℤ◌, ◌&&◌, not, nat_lt, nat_le, int_lt, unsigned_abs}
+use Rattle.std.proofs.Common.{◌≡◌, ◌+◌, ℕ, ℤ, Bool, List, map, ◌∙◌, ◌<◌, ◌-◌, zero, suc, pos, negsuc, true, false, Some, None, refl, sym, ap, inl, inr, arith}
+use Rattle.std.specs.Prelude.{◌==◌, count_by, ◌≤ℤ◌, ◌-ℤ◌, ◌&&◌, ◌||◌, not, nat_lt, nat_le, int_lt, unsigned_abs}
 use Rattle.std.proofs.lemmas.List.FromFn.{fill_by_all}
 use Rattle.vx_base.specs.declared.ptype.PType.{PType}
 use Rattle.vx_base.specs.Digits.{digits}
 use Rattle.vx_base.specs.Integers.{bits_of, bits_in}
 use Rattle.vx_base.specs.Packed.{kept_rows}
 use Rattle.vx_blocks.specs.Histogram.{IsHistogram}
-use Rattle.vx_blocks.proofs.Counts.{le-digits}
 use Rattle.vx_schemes.specs.Widths.{widths_of}
-use Rattle.std.specs.Int.Count.{count_leading_zeros}
 use Rattle.std.specs.Ordering.{int_eq}
 use Rattle.std.proofs.lemmas.Bool.{cases_lt, cond-false, ne_eqb}
 use Rattle.std.proofs.lemmas.Bool.Decides.{nat_tests}
 use Rattle.std.proofs.lemmas.Int.{ints}
-use Rattle.std.proofs.lemmas.Nat.{leading_le, pow-add, pow_pos, shr_high}
 use Rattle.vx_base.specs.declared.fraction.Fraction.{Fraction}
 use Rattle.vx_base.specs.Fractions.{numerator, divisor}
 use Rattle.vx_stats.specs.Erased.{log2_of}
@@ -23,16 +20,12 @@ use Rattle.vx_scheme.specs.Scores.{ratio_of}
 use Rattle.vx_stats.specs.Stats.{Extremes}
 use Rattle.vx_scheme.specs.declared.estimate.EstimateVerdict.TheVariants.{Skip, Ratio}
 use Rattle.vx_scheme.proofs.RatioLemmas.{Ratio-parts}
+use Rattle.vx_schemes_common.proofs.DigitLemmas.{digits-some}
 use Rattle.vx_schemes.specs.FrameOfReference.Meaning.{span, is_as_wide, gains_nothing, for_verdict}
 
 pub widths_of-is : (p : PType) (xs : List ℤ) (valid : List Bool) (counts : List ℕ) → IsHistogram (bits_of p) (kept_rows 64 (map (bits_in p) xs) valid) counts → counts ≡ widths_of p xs valid
 unfolding widths_of
 widths_of-is p xs valid counts h = fill_by_all (λ w. count_by (λ row. digits row == w) (kept_rows 64 (map (bits_in p) xs) valid)) counts (bits_of p + 1) 0 h.size h.each
-
-pub digits-some : (n : ℕ) → 0 < n → 0 < digits n
-unfolding count_leading_zeros
-digits-some zero h = absurd (omega arith)
-digits-some (suc n) h = omega (arith, leading_le 63 (suc n / 2))
 
 abbrev extremes : ℤ → ℤ → Extremes
 extremes low high = record { least = low; greatest = high }
@@ -58,29 +51,18 @@ wide-some p low (negsuc n) s log o l e is = absurd (negative low o l)
     negative z o l = grind (arith, ints)
 
 -- ---- the ratio where there is a gain
+no_gain : (zero wide : Bool) (n : ℕ) → n ≡ 0 → (zero || (n == 0) || wide) ≡ true
+no_gain true wide n h = refl
+no_gain false wide n h = rw h refl
+
+-- where there is a gain the span isn't 0, so it has a digit
+pub span-some : (e : Extremes) (s : ℕ) → gains_nothing e ≡ false → pos s ≡ e.greatest -ℤ e.least → 0 < digits s
+span-some e s gain is = elim (cases_lt 0 s) [
+  | inl some ↦ digits-some s some
+  | inr none ↦
+      let nothing : span e ≡ 0 = let zero : s ≡ 0 = omega arith in sym (ap unsigned_abs is) ∙ zero in
+      absurd (let no : true ≡ false = sym (no_gain (int_eq e.least (pos 0)) (is_as_wide e) (span e) nothing) ∙ gain in cc)
+]
+
 pub verdict-ratio : (bits : ℕ) (e : Extremes) (s : ℕ) (x : Fraction) → gains_nothing e ≡ false → pos s ≡ e.greatest -ℤ e.least → numerator x ≡ bits → divisor x ≡ digits s → Ratio x ≡ for_verdict bits e
 verdict-ratio bits e s x gain is num den = Ratio-parts x bits (digits (span e)) num (den ∙ ap digits (ap unsigned_abs is)) ∙ sym (cond-false (gains_nothing e) Skip (ratio_of bits (digits (span e))) gain)
-
--- ---- the greatest number of so many digits
-
-all_but_one : (a b : ℕ) → 0 < a → 0 < b → (a - 1) * b + (b - 1) ≡ a * b - 1
-all_but_one zero b h k = absurd (omega arith)
-all_but_one (suc a) zero h k = absurd (omega arith)
-all_but_one (suc a) (suc b) h k =
-    let rows : suc a - 1 ≡ a = omega arith in
-    let columns : suc b - 1 ≡ b = omega arith in
-    rw (rows, columns) (omega arith)
-
-pub high_digits : (width : ℕ) → width ≤ 64 → 18446744073709551615 / 2 ^ (64 - width) ≡ 2 ^ width - 1
-high_digits width h =
-    let all : 64 ≡ width + (64 - width) = omega arith in
-    let whole : 2 ^ 64 ≡ 2 ^ width * 2 ^ (64 - width) = ap (λ k. 2 ^ k) all ∙ pow-add 2 width (64 - width) in
-    let parts : 18446744073709551615 ≡ (2 ^ width - 1) * 2 ^ (64 - width) + (2 ^ (64 - width) - 1) = ap (λ k. k - 1) whole ∙ sym (all_but_one (2 ^ width) (2 ^ (64 - width)) (pow_pos width) (pow_pos (64 - width))) in
-    ap (λ k. k / 2 ^ (64 - width)) parts ∙ shr_high (2 ^ width - 1) (64 - width) (2 ^ (64 - width) - 1) (omega (arith, pow_pos (64 - width)))
-
--- a number above the greatest of so many digits has more
-pub more_digits : (width n : ℕ) → 2 ^ width - 1 < n → n < 2 ^ 64 → width < digits n
-more_digits width n above h = elim (cases_lt width (digits n)) [
-  | inl more ↦ more
-  | inr few ↦ absurd (omega (arith, le-digits n width h few))
-]

@@ -1,16 +1,6 @@
 pub mod BitPacking
 pub mod Dictionary
-pub mod Exclusions
-pub mod Finishing
-pub mod FinishingLaws
 pub mod FrameOfReference
-pub mod Narrowed
-pub mod NarrowedLaws
-pub mod Pairs
-pub mod OnePart
-pub mod OnePartLaws
 pub mod Patches
-pub mod Produced
-pub mod StandsFor
 pub mod Widths
 pub mod ZigZag

@@ -1,3 +1,3 @@
--- Patches in their short form, and why they stand for those that they were made of.
+-- Compressed patches, and why they stand for those that they were made of.
 pub mod Compressed
 pub mod Laws

@@ -1,5 +1,5 @@
--- How wide the rows of a column of integers are, and which width costs least. The rows are given as whole numbers, 0
--- beneath nulls, and as truth values that tell which of them aren't null.
+-- The histogram of the bit widths of a column of integers, and the width of least cost. The rows are given as whole
+-- numbers, 0 beneath nulls, and a validity bitmap.
 use Rattle.std.specs.Prelude.{ℕ, ◌+◌, ◌==◌, nat_le, ℤ, Bool, List, map, count_by}
 use Rattle.std.specs.List.{list_all, range_with_len, position_or_len}
 use Rattle.vx_base.specs.declared.ptype.PType.{PType}
@@ -8,7 +8,7 @@ use Rattle.vx_base.specs.Integers.{bits_of, bytes_of, bits_in}
 use Rattle.vx_base.specs.Packed.{kept_rows}
 use Rattle.vx_blocks.specs.Cost.{cost}
 
--- how many rows have exactly w binary digits, for w from 0 to the type's bits; a null has none
+-- for each width from 0 to the type's bits, the number of rows of exactly that many binary digits; a null has 0
 unfoldable pub widths_of : PType → List ℤ → List Bool → List ℕ
 widths_of p xs valid = map (λ w. count_by (λ row. digits row == w) (kept_rows 64 (map (bits_in p) xs) valid)) (range_with_len 0 (bits_of p + 1))
 

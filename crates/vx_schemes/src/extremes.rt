@@ -1,4 +1,4 @@
-//! The least value of a column of integers, as its statistics have it.
+//! The least value of a column of integers.
 
 ghost use Rattle.std.specs.Prelude.{◌≤◌, length, IsTrue};
 ghost use Rattle.vx_base.specs.Answers.{Answers, OrMemory};
@@ -13,8 +13,8 @@ ghost use Rattle.vx_stats.specs.Stats.{least_in};
 use vx_base::VortexResult;
 use vx_scheme::ArrayAndStats;
 
-/// The least value of a column, or the type's greatest where every row is null. The statistics that tell it are kept for
-/// the next call.
+/// The least value of a column; the type's greatest where every row is null. The statistics that it takes are kept with
+/// the column for the next call.
 pub fn least_value(column: &mut ArrayAndStats) -> VortexResult<i128>
     requires integer { IsTrue (is_integer (tree_type column.old.array)) }
     requires few { length (rows column.old.array) ≤ most_rows }

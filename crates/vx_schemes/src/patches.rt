@@ -1,4 +1,4 @@
-//! Patches in a short form.
+//! Compressed patches: narrow indices, and one scalar for values that are all equal.
 
 ghost use Rattle.std.specs.Prelude.{◌≡◌, ◌<◌, IsTrue, if◌then◌else◌, length, option_map, false, Some, None};
 ghost use Rattle.vx_base.specs.Answers.{Answers, OrMemory};
@@ -11,16 +11,18 @@ ghost use Rattle.vx_model.specs.Leaf.{each_null_or};
 ghost use Rattle.vx_model.specs.Plain.{IsPlain};
 ghost use Rattle.vx_model.specs.Rows.{rows, row_at};
 ghost use Rattle.vx_model.specs.TreeType.{tree_type};
-ghost use Rattle.vx_schemes.specs.Patches.Compressed.{index_type, narrowed, shared_value, constant_or_plain, compressed_patches, PatchAlike};
+ghost use Rattle.vx_schemes_common.specs.Narrowed.{index_type};
+ghost use Rattle.vx_schemes.specs.Patches.Compressed.{narrowed, shared_value, constant_or_plain, compressed_patches, PatchAlike};
 
-use crate::whole::whole_tree;
 use std::alloc::Global;
 use vx_array::{ArrayRef, Patches};
 use vx_base::{Cell, ExecutionCtx, Nullability, PType, Scalar, VortexResult};
 use vx_blocks::narrow_type;
+use vx_schemes_common::whole_tree;
 
-/// The same patches with plain indices of the narrowest unsigned type that holds them, U8 where there are none, and
-/// with values as a constant where there are some and all are equal, null equal to null, else plain.
+/// Patches with the same rows and values, compressed: plain indices of the narrowest unsigned type that holds them (U8
+/// where there are none); values as a constant where there are some and all are equal, null equal to null, else plain.
+/// The only error is NoMemory.
 pub fn compress_patches(patches: &Patches, ctx: &mut ExecutionCtx) -> VortexResult<Patches>
     ensures answer { Answers result (compressed_patches patches.now) }
     ensures kept { OrMemory result (PatchAlike patches.now) }
@@ -36,7 +38,7 @@ pub fn compress_patches(patches: &Patches, ctx: &mut ExecutionCtx) -> VortexResu
     }
 }
 
-// The narrowest type of the indices: they rise, so the last one decides.
+// The narrowest type of the indices. They ascend, so the last is the greatest.
 fn index_type(patches: &Patches) -> PType
     ensures { result ≡ index_type (rows patches.now.indices) }
 {
@@ -63,7 +65,7 @@ fn narrowed(alloc: Global, patches: &Patches) -> VortexResult<ArrayRef>
     whole_tree(indices.in_unsigned(alloc, ptype)?, Nullability::NonNullable)
 }
 
-// The value of a row that isn't null, where each row is null or has it.
+// The value of `row`, which isn't null, where every other row is null or equal to it.
 #[tactic(auto, using(vx_array::proofs::Flat::flats))]
 fn repeated(plain: &ArrayRef, row: u64) -> Option<Cell<'_>>
     requires plain { IsPlain plain.now }
@@ -79,7 +81,7 @@ fn repeated(plain: &ArrayRef, row: u64) -> Option<Cell<'_>>
     }
 }
 
-// The value that every row has, where there are rows and no two differ: null in it where all are null.
+// The value that all rows share, `Cell::Null` where all are null; None where there is no row, or where two differ.
 fn shared_value(plain: &ArrayRef) -> Option<Cell<'_>>
     requires plain { IsPlain plain.now }
     requires flat { IsTrue (is_flat (tree_type plain.now)) }
@@ -97,7 +99,7 @@ fn shared_value(plain: &ArrayRef) -> Option<Cell<'_>>
     repeated(plain, row)
 }
 
-// The same as a scalar, of values of any type.
+// The shared value of rows of any type, as a scalar.
 fn shared_scalar(alloc: Global, plain: &ArrayRef) -> VortexResult<Option<Scalar>>
     requires { IsPlain plain.now }
     ensures { Answers result (option_map (scalar (tree_type plain.now)) (shared_value (rows plain.now))) }
@@ -113,7 +115,7 @@ fn shared_scalar(alloc: Global, plain: &ArrayRef) -> VortexResult<Option<Scalar>
     }
 }
 
-// The same, row by row.
+// The shared value of lists and structs, which have no cells: each row is compared with the first.
 fn shared_row(alloc: Global, plain: &ArrayRef) -> VortexResult<Option<Scalar>>
     ensures { Answers result (option_map (scalar (tree_type plain.now)) (shared_value (rows plain.now))) }
 {
@@ -130,7 +132,7 @@ fn shared_row(alloc: Global, plain: &ArrayRef) -> VortexResult<Option<Scalar>>
     Ok(Some(first))
 }
 
-// The values as one scalar where all are equal, else plain.
+// A constant where all values are equal, else the plain values.
 fn constant_or_plain(alloc: Global, values: &ArrayRef) -> VortexResult<ArrayRef>
     ensures { Answers result (constant_or_plain (column_of values.now)) }
 {

@@ -11,7 +11,7 @@ use Rattle.vx_scheme.specs.declared.estimate.DeferredEstimate.TheVariants.{Sampl
 use Rattle.vx_scheme.specs.declared.estimate.EstimateVerdict.TheVariants.{Skip}
 use Rattle.vx_schemes_runs.specs.RunEnd.Meaning.{runs_estimate}
 use Rattle.vx_schemes_runs.specs.RunEnd.Tree.{run_values, narrowed_ends}
-use Rattle.vx_schemes_runs.specs.RunLength.Meaning.{blocks_estimate}
+use Rattle.vx_schemes_runs.specs.RunLength.Meaning.{rle_estimate}
 use Rattle.vx_schemes_runs.specs.RunLength.Tree.{head_values, narrowed_run_numbers, narrowed_offsets}
 
 -- 0 in 50 rows, then 7 in 50 rows
@@ -26,7 +26,7 @@ pub run_ends-nulls :
     × (narrowed_ends (column (types.primitive I32 Nullable) (int (pos 5) ∷ null ∷ null ∷ int (pos 5) ∷ [])) ≡ column (types.primitive U8 NonNullable) (int (pos 1) ∷ int (pos 3) ∷ int (pos 4) ∷ []))
 run_ends-nulls = (refl, refl)
 
--- the same in a block: the runs are numbered 0, 1 and 2, and the rows that fill the block have 0
+-- in a block the runs of these rows are numbered 0, 1 and 2, and the padding has 0
 pub blocks-nulls :
     (head_values (column (types.primitive I32 Nullable) (int (pos 5) ∷ null ∷ null ∷ int (pos 5) ∷ [])) ≡ column (types.primitive I32 Nullable) (int (pos 5) ∷ null ∷ int (pos 5) ∷ []))
     × (narrowed_run_numbers (column (types.primitive I32 Nullable) (int (pos 5) ∷ null ∷ null ∷ int (pos 5) ∷ []))
@@ -34,10 +34,10 @@ pub blocks-nulls :
     × (narrowed_offsets (column (types.primitive I32 Nullable) (int (pos 5) ∷ null ∷ null ∷ int (pos 5) ∷ [])) ≡ column (types.primitive U8 NonNullable) (int (pos 0) ∷ []))
 blocks-nulls = (refl, refl, refl)
 
--- four values a run are tried, three are not; in blocks none where no scheme may follow
+-- an average run length of 4 is tried, one of 3 is not; in blocks none at budget 0
 pub runs-lengths :
     (runs_estimate (column (types.primitive U8 NonNullable) (replicate 4 (int (pos 1)))) ≡ Deferred Sample)
     × (runs_estimate (column (types.primitive U8 NonNullable) (replicate 3 (int (pos 1)))) ≡ Verdict Skip)
-    × (blocks_estimate (column (types.primitive U8 NonNullable) (replicate 4 (int (pos 1)))) fresh ≡ Deferred Sample)
-    × (blocks_estimate (column (types.primitive U8 NonNullable) (replicate 4 (int (pos 1)))) (record { budget = 0; sampled = false; history = [] }) ≡ Verdict Skip)
+    × (rle_estimate (column (types.primitive U8 NonNullable) (replicate 4 (int (pos 1)))) fresh ≡ Deferred Sample)
+    × (rle_estimate (column (types.primitive U8 NonNullable) (replicate 4 (int (pos 1)))) (record { budget = 0; sampled = false; history = [] }) ≡ Verdict Skip)
 runs-lengths = (refl, refl, refl, refl)

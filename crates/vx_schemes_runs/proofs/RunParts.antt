@@ -23,8 +23,8 @@ use Rattle.vx_model.specs.TreeType.{tree_type}
 use Rattle.vx_model.specs.WellFormed.{WellFormed}
 use Rattle.vx_model.proofs.DecodeLemmas.{all_valid_bits, length-valid_bits, null_allowed}
 use Rattle.vx_model.proofs.MadeLemmas.{rows_fit}
-use Rattle.vx_schemes.proofs.BitPacking.Tree.{all_bits-are}
-use Rattle.vx_schemes.proofs.ColumnLemmas.{wholes_are, length_is}
+use Rattle.vx_schemes_common.proofs.BitsLemmas.{all_bits-are}
+use Rattle.vx_schemes_common.proofs.ColumnLemmas.{wholes_are, length_is}
 use Rattle.vx_schemes_runs.specs.RowsAt.{optional_wholes, rows_at}
 use Rattle.vx_schemes_runs.specs.RowsAtLaws.{rows_at-column}
 

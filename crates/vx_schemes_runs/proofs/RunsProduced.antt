@@ -3,14 +3,14 @@ use Rattle.std.proofs.Common.{◌≡◌, true, [], ◌∷◌, Option, Some, None
 use Rattle.vx_base.specs.PlainType.{is_integer}
 use Rattle.vx_model.specs.Column.{Column}
 use Rattle.vx_model.specs.Tree.{Tree}
-use Rattle.vx_schemes.specs.Pairs.{pair_of}
-use Rattle.vx_schemes.specs.Produced.{IsProduced, MakesProduced}
-use Rattle.vx_schemes.proofs.Produced.{plain-produced}
+use Rattle.vx_schemes_common.specs.Pairs.{pair_of}
+use Rattle.vx_schemes_common.specs.Produced.{IsProduced, MakesProduced}
+use Rattle.vx_schemes_common.proofs.Produced.{plain-produced}
 use Rattle.vx_schemes_runs.specs.PartsLaws.{never_finished}
 use Rattle.vx_schemes_runs.specs.RunEnd.Meaning.{run_end_meaning}
 use Rattle.vx_schemes_runs.specs.RunEnd.Tree.{run_values, narrowed_ends, runs_or_plain}
 use Rattle.vx_schemes_runs.specs.RunLength.Meaning.{int_rle_meaning}
-use Rattle.vx_schemes_runs.specs.RunLength.Tree.{head_values, narrowed_run_numbers, narrowed_offsets, blocks_or_plain}
+use Rattle.vx_schemes_runs.specs.RunLength.Tree.{head_values, narrowed_run_numbers, narrowed_offsets, rle_or_plain}
 use Rattle.vx_schemes_runs.specs.Triples.{triple_of}
 use Rattle.vx_schemes_runs.specs.declared.integer.run_end.RunEndScheme.{RunEndScheme}
 use Rattle.vx_schemes_runs.specs.declared.integer.run_length.IntRLEScheme.{IntRLEScheme}
@@ -31,6 +31,6 @@ blocks-produced s = record {
   by_joining = λ c site trees taken. by_three c (triple_of trees) taken;
 }
   where
-    by_three : (c : Column) (three : Option (Tree × Tree × Tree)) → is_integer c.dtype ≡ true → IsProduced (int_rle_meaning s) (blocks_or_plain c three)
+    by_three : (c : Column) (three : Option (Tree × Tree × Tree)) → is_integer c.dtype ≡ true → IsProduced (int_rle_meaning s) (rle_or_plain c three)
     by_three c None i = plain-produced (int_rle_meaning s) c i
     by_three c (Some three) i = inr refl

@@ -8,6 +8,6 @@ use Rattle.vx_model.specs.Rows.{row_at}
 abbrev pub optional_wholes : Column → List (Option ℤ)
 optional_wholes c = map integer_in c.values
 
--- the column of these rows
+-- the column of the rows at some indices, in the order of the indices
 abbrev pub rows_at : Column → List ℕ → Column
 rows_at c numbers = column c.dtype (map (row_at c.values) numbers)

@@ -1,4 +1,4 @@
--- Runs by their ends: the parts and the tree of a column, why they stand for it, and what the scheme means.
+-- Run ends: the parts and the tree of a column, why they stand for it, and what the scheme means.
 pub mod Back
 pub mod Laws
 pub mod Meaning

@@ -1,4 +1,4 @@
--- Runs in blocks: the parts and the tree of a column, why they stand for it, and what the scheme means.
+-- Run length: the parts and the tree of a column by its runs in blocks, why they stand for it, and what the scheme means.
 pub mod Back
 pub mod Laws
 pub mod Meaning

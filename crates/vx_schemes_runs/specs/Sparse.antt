@@ -1,4 +1,4 @@
--- Sparse values: the parts and the tree of a column, why they stand for it, and what the scheme means.
+-- Sparse: the parts and the tree of a column, why they stand for it, and what the scheme means.
 pub mod Laws
 pub mod Meaning
 pub mod Tree

@@ -1,7 +1,7 @@
 -- Lists of exactly three.
 use Rattle.std.specs.Prelude.{List, [], ◌∷◌, Option, None, Some}
 
--- the three, where there are no more and no fewer
+-- the three; None unless there are exactly three
 abbrev pub triple_of : {A : Type 0} → List A → Option (A × A × A)
 triple_of [] = None
 triple_of (x ∷ []) = None

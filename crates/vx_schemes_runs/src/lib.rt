@@ -1,4 +1,5 @@
-//! The schemes of integers that go by neighbouring rows or by one value: runs, sequences, differences and rare values.
+//! The schemes of integers that go by neighbouring rows or by one frequent value: run ends, runs in blocks, sequences, delta
+//! and sparse.
 #![tactic(auto)]
 
 mod integer;

@@ -10,7 +10,7 @@ use vx_array::{ArrayRef, Arrays};
 use vx_base::VortexResult;
 use vx_scheme::Split;
 
-/// Three parts, child 0 first.
+/// The answer of a scheme with three parts, child 0 first. All are plain trees.
 pub(crate) fn three_parts(
     alloc: Global,
     first: ArrayRef,
@@ -26,7 +26,7 @@ pub(crate) fn three_parts(
     Ok(Split::Parts(Arrays::from_vec(parts)))
 }
 
-/// The three trees, where there are no more and no fewer.
+/// The three trees, child 0 first; None unless there are exactly three.
 pub(crate) fn triple_of(trees: Arrays) -> Option<(ArrayRef, ArrayRef, ArrayRef)>
     ensures { result ≡ triple_of trees }
 {

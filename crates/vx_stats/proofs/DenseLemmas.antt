@@ -7,14 +7,14 @@ use Rattle.std.proofs.lemmas.Bool.{cond_both}
 use Rattle.std.proofs.lemmas.Int.{ints}
 use Rattle.std.proofs.lemmas.List.Elements.{recursion_from_All}
 use Rattle.std.specs.List.{AllByRecursion}
-use Rattle.vx_stats.specs.Distinct.{times, distinct, counted}
+use Rattle.vx_stats.specs.Distinct.{times, distinct, value_counts}
 use Rattle.vx_stats.specs.Tables.{LiesBetween, table_of, entries}
 use Rattle.vx_stats.proofs.DistinctLemmas.{IsBelow, IsAscending, distinct-ascends, distinct-times, same-ascending, times-next, times-below}
 use Rattle.vx_stats.proofs.TallyLemmas.{same-eq}
 
 -- ---- the numbers that a table tells
 
--- those of so many from the least on that occur
+-- the numbers that occur, of n from the least on
 abbrev present : ℤ → ℕ → List ℤ → List ℤ
 present least zero zs = []
 present least (suc n) zs = cond (times zs least == 0) (present (least +ℤ pos 1) n zs) (least ∷ present (least +ℤ pos 1) n zs)
@@ -48,7 +48,7 @@ present-ascends least (suc n) zs =
     let later = present-ascends (least +ℤ pos 1) n zs in
     cond_both (times zs least == 0) (present (least +ℤ pos 1) n zs) (least ∷ present (least +ℤ pos 1) n zs) IsAscending (λ e. later) (λ f. (present-below least (least +ℤ pos 1) n zs (just-below least), later))
 
--- ---- each that occurs stands once
+-- ---- each number that occurs stands once
 
 once-here : (z : ℤ) (b : Bool) (rest : List ℤ) → times rest z ≡ 0 → times (cond b rest (z ∷ rest)) z ≡ cond b 0 1
 once-here z true rest e = e
@@ -109,5 +109,5 @@ module _ (least greatest : ℤ) (n : ℕ) (zs : List ℤ) (len : greatest +ℤ p
       (λ z. present-times z least n zs (λ h. times-outside z least greatest zs (inl h) each) (λ f. times-outside z least greatest zs (inr (above-greatest z least greatest n len f)) each)
       ∙ sym (distinct-times z zs))
 
-  pub entries-counted : (table : List ℕ) → table ≡ table_of least n zs → entries least table ≡ counted zs
-  entries-counted table e = ap (entries least) e ∙ entries-present least n zs ∙ ap (map (λ z. (z, times zs z))) present-distinct
+  pub entries-value_counts : (table : List ℕ) → table ≡ table_of least n zs → entries least table ≡ value_counts zs
+  entries-value_counts table e = ap (entries least) e ∙ entries-present least n zs ∙ ap (map (λ z. (z, times zs z))) present-distinct

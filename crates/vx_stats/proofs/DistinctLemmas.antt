@@ -13,7 +13,7 @@ use Rattle.std.proofs.lemmas.Int.{ints}
 use Rattle.std.proofs.lemmas.List.{drop_more, length-map, map-append}
 use Rattle.std.proofs.lemmas.List.Sums.{sum_by-cons}
 use Rattle.std.proofs.lemmas.List.Sorted.{sum_by-IsPermutation}
-use Rattle.vx_stats.specs.Distinct.{times, with_number, distinct, counted, most_frequent}
+use Rattle.vx_stats.specs.Distinct.{times, with_number, distinct, value_counts, most_frequent}
 use Rattle.vx_stats.specs.Runs.{runs, runs_from, IsRising, IsRisingFrom, better, whole_count, whole_counts}
 use Rattle.vx_blocks.proofs.Extremes.{less}
 use Rattle.vx_stats.proofs.TallyLemmas.{same-eq, left, left-next}
@@ -200,8 +200,8 @@ pub map-same : {A B : Type 0} (f g : A → B) → ((x : A) → f x ≡ g x) → 
 map-same f g h [] = refl
 map-same f g h (x ∷ xs) = let e = h x in let r = map-same f g h xs in λ i. e i ∷ r i
 
-pub counted-permutation : (xs ys : List ℤ) → IsPermutation xs ys → counted ys ≡ counted xs
-counted-permutation xs ys p =
+pub value_counts-permutation : (xs ys : List ℤ) → IsPermutation xs ys → value_counts ys ≡ value_counts xs
+value_counts-permutation xs ys p =
     map-same (λ z. (z, times ys z)) (λ z. (z, times xs z)) (λ z. ap (λ n. (z, n)) (times-permutation xs ys z p)) (distinct ys) ∙ ap (map (λ z. (z, times xs z))) (distinct-permutation xs ys p)
 
 -- ---- runs of numbers that don't fall
@@ -257,7 +257,7 @@ runs-counted z n (w ∷ ws) r =
 
 -- ---- what the rows of a column that don't fall have
 
-pub runs-are-counts : (z : ℤ) (zs : List ℤ) → IsRisingFrom z zs → runs_from z 1 zs ≡ counted (z ∷ zs)
+pub runs-are-counts : (z : ℤ) (zs : List ℤ) → IsRisingFrom z zs → runs_from z 1 zs ≡ value_counts (z ∷ zs)
 runs-are-counts z zs r = runs-counted z 1 zs r ∙ map-same (with_more z 1 zs) (λ d. (d, times (z ∷ zs) d)) (λ d. ap (λ k. (d, k)) (one d)) (distinct (z ∷ zs))
   where
     one : (d : ℤ) → times zs d + cond (int_eq d z) 1 0 ≡ times (z ∷ zs) d
@@ -333,9 +333,9 @@ module _ {T : Type 0} (whole : T → ℤ) (cmp : T → T → Ordering) (ordered 
   rising-sorted [] s = tt
   rising-sorted (x ∷ xs) s = rising-after x xs s
 
-pub counted-rising : (zs : List ℤ) → IsRising zs → runs zs ≡ counted zs
-counted-rising [] r = refl
-counted-rising (z ∷ zs) r = runs-are-counts z zs r
+pub value_counts-rising : (zs : List ℤ) → IsRising zs → runs zs ≡ value_counts zs
+value_counts-rising [] r = refl
+value_counts-rising (z ∷ zs) r = runs-are-counts z zs r
 
 -- ---- a loop's steps: an item goes to the end of what is done
 

@@ -16,7 +16,7 @@ use Rattle.vx_base.specs.PlainValue.{int}
 use Rattle.vx_model.specs.Refusals.{validity_length}
 use Rattle.vx_model.specs.Rows.{valid_rows}
 use Rattle.vx_stats.specs.Stats.{valid_wholes}
-use Rattle.vx_stats.specs.Distinct.{times, with_number, distinct, counted}
+use Rattle.vx_stats.specs.Distinct.{times, with_number, distinct, value_counts}
 use Rattle.vx_stats.specs.Runs.{runs, runs_from, IsRising, IsRisingFrom, whole_count, whole_counts}
 use Rattle.vx_stats.specs.Seen.{share, total, empties, merged, merged_from}
 use Rattle.vx_stats.proofs.DistinctLemmas.{IsBelow, IsAscending, distinct-ascends, distinct-times, same-ascending, times-next, times-below, eq-same, by-order, map-below, map-same, done-more}
@@ -50,7 +50,7 @@ empties-whole whole (x ∷ xs) = empties-cons (whole_count whole x) (whole_count
 abbrev ones : Bool → ℕ
 ones b = cond b 1 0
 
--- where no count is 0, the first isn't
+-- where no count is 0, the first one isn't 0
 some-first : (c : ℤ × ℕ) (cs : List (ℤ × ℕ)) → empties (c ∷ cs) ≡ 0 → (0 < c.1) × (empties cs ≡ 0)
 some-first c cs e = by-test (c.1 == 0) refl
   where
@@ -171,16 +171,16 @@ first-once (c ∷ cs) a e z = by-test (int_eq z c.0) refl (first-once cs a.1 (so
         times-next z c.0 (firsts cs) ∙ omega (arith, ap ones t) ∙ later
         ∙ ap (λ n. cond (n == 0) 0 1) (omega (arith, tot-cons c cs z, ap (λ b. cond b c.1 0) t))
 
-are-counted : (cs : List (ℤ × ℕ)) (zs : List ℤ) → IsAscending (firsts cs) → empties cs ≡ 0 → ((z : ℤ) → tot cs z ≡ times zs z) → cs ≡ counted zs
-are-counted cs zs a e h =
+are-value_counts : (cs : List (ℤ × ℕ)) (zs : List ℤ) → IsAscending (firsts cs) → empties cs ≡ 0 → ((z : ℤ) → tot cs z ≡ times zs z) → cs ≡ value_counts zs
+are-value_counts cs zs a e h =
     let same : firsts cs ≡ distinct zs = same-ascending (firsts cs) (distinct zs) a (distinct-ascends zs) (λ z. first-once cs a e z ∙ ap (λ n. cond (n == 0) 0 1) (h z) ∙ sym (distinct-times z zs)) in
     known cs a ∙ map-same (λ z. (z, tot cs z)) (λ z. (z, times zs z)) (λ z. ap (λ n. (z, n)) (h z)) (firsts cs) ∙ ap (map (λ z. (z, times zs z))) same
 
-pub merged-counted : (cs : List (ℤ × ℕ)) (zs : List ℤ) → IsRising (firsts cs) → empties cs ≡ 0 → ((z : ℤ) → tot cs z ≡ times zs z) → merged cs ≡ counted zs
-merged-counted [] zs r e h = are-counted [] zs tt refl h
-merged-counted (c ∷ cs) zs r e h =
+pub merged-value_counts : (cs : List (ℤ × ℕ)) (zs : List ℤ) → IsRising (firsts cs) → empties cs ≡ 0 → ((z : ℤ) → tot cs z ≡ times zs z) → merged cs ≡ value_counts zs
+merged-value_counts [] zs r e h = are-value_counts [] zs tt refl h
+merged-value_counts (c ∷ cs) zs r e h =
     let first = some-first c cs e in
-    are-counted (merged_from c.0 c.1 cs) zs (merged-ascends c.0 c.1 cs r) (merged-some c.0 c.1 cs first.0 first.1) (λ z. tot-merged c.0 c.1 cs z ∙ sym (tot-cons c cs z) ∙ h z)
+    are-value_counts (merged_from c.0 c.1 cs) zs (merged-ascends c.0 c.1 cs r) (merged-some c.0 c.1 cs first.0 first.1) (λ z. tot-merged c.0 c.1 cs z ∙ sym (tot-cons c cs z) ∙ h z)
 
 -- ---- there are no more distinct numbers than numbers
 
@@ -192,8 +192,8 @@ length-distinct : (zs : List ℤ) → length (distinct zs) ≤ length zs
 length-distinct [] = omega arith
 length-distinct (z ∷ zs) = omega (arith, length-with z (distinct zs), length-distinct zs)
 
-pub length-counted : (zs : List ℤ) → length (counted zs) ≤ length zs
-length-counted zs = let count : ℤ → ℤ × ℕ = λ z. (z, times zs z) in omega (arith, length-map (distinct zs) count, length-distinct zs)
+pub length-value_counts : (zs : List ℤ) → length (value_counts zs) ≤ length zs
+length-value_counts zs = let count : ℤ → ℤ × ℕ = λ z. (z, times zs z) in omega (arith, length-map (distinct zs) count, length-distinct zs)
 
 pub times-few : (zs : List ℤ) (z : ℤ) → times zs z ≤ length zs
 times-few zs z = count_by-le-length (int_eq z) zs
@@ -320,15 +320,15 @@ module _ {T : Type 0} (whole : T → ℤ) where
 
   -- ---- what counts make once they are sorted and merged
 
-  pub made : (before after : List (T × ℕ)) (zs : List ℤ) → IsPermutation before after → IsRising (firsts (whole_counts whole after)) → empties before ≡ 0 → ((z : ℤ) → total whole before z ≡ times zs z) → merged (whole_counts whole after) ≡ counted zs
+  pub made : (before after : List (T × ℕ)) (zs : List ℤ) → IsPermutation before after → IsRising (firsts (whole_counts whole after)) → empties before ≡ 0 → ((z : ℤ) → total whole before z ≡ times zs z) → merged (whole_counts whole after) ≡ value_counts zs
   made before after zs p r e h =
-      merged-counted (whole_counts whole after) zs r (empties-whole whole after ∙ empties-permutation before after p ∙ e) (λ z. total-whole whole after z ∙ total-permutation whole before after z p ∙ h z)
+      merged-value_counts (whole_counts whole after) zs r (empties-whole whole after ∙ empties-permutation before after p ∙ e) (λ z. total-whole whole after z ∙ total-permutation whole before after z p ∙ h z)
 
   pub made-few : (before after : List (T × ℕ)) (zs : List ℤ) (z : ℤ) → IsPermutation before after → ((z : ℤ) → total whole before z ≡ times zs z) → total whole after z ≤ length zs
   made-few before after zs z p h = omega (arith, total-permutation whole before after z p, h z, times-few zs z)
 
-  pub made-short : (cs : List (T × ℕ)) (zs : List ℤ) → whole_counts whole cs ≡ counted zs → length cs ≤ length zs
-  made-short cs zs e = let count : T × ℕ → ℤ × ℕ = whole_count whole in omega (arith, length-map cs count, ap length e, length-counted zs)
+  pub made-short : (cs : List (T × ℕ)) (zs : List ℤ) → whole_counts whole cs ≡ value_counts zs → length cs ≤ length zs
+  made-short cs zs e = let count : T × ℕ → ℤ × ℕ = whole_count whole in omega (arith, length-map cs count, ap length e, length-value_counts zs)
 
   pub valid-few : (items : List T) (valid : Option (List Bool)) → validity_length valid (length items) ≡ true → length (valid_wholes (valid_rows valid (map int (map whole items)))) ≤ length items
   valid-few items None h = omega (arith, ap length (valid_wholes-map-int (map whole items)), length-map items whole)

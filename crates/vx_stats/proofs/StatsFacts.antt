@@ -59,12 +59,12 @@ pub distinct-u64 : let values = int (pos 0) ∷ int (pos 18_446_744_073_709_551_
     (distinct_counts values ≡ (pos 0, 2) ∷ (pos 18_446_744_073_709_551_615, 1) ∷ []) × (most_frequent values ≡ (pos 0, 2))
 distinct-u64 = (refl, refl)
 
--- the least of the most frequent, wherever it stands first: 7, -8, 7, 3, -8, and 9 once
+-- the least of the most frequent values, in any order: 7, -8, 7, 3, -8, and 9 once
 pub distinct-least : let values = int (pos 7) ∷ int (negsuc 7) ∷ int (pos 7) ∷ int (pos 9) ∷ int (pos 3) ∷ int (negsuc 7) ∷ [] in
     (distinct_counts values ≡ (negsuc 7, 2) ∷ (pos 3, 1) ∷ (pos 7, 2) ∷ (pos 9, 1) ∷ []) × (most_frequent values ≡ (negsuc 7, 2))
 distinct-least = (refl, refl)
 
--- nulls alone have no distinct value, and 0 stands 0 times; no row, or not asked, tells none
+-- nulls alone have no distinct value, and (0, 0) as the most frequent; without a row or a request there is none
 pub distinct-absent : (distinct_info asked (null ∷ null ∷ []) ≡ Some []) × (frequent_value I8 (Some []) ≡ Some (record { ptype = I8; value = pos 0 }, 0))
     × (distinct_info asked [] ≡ None) × (distinct_info no_options (int (pos 5) ∷ []) ≡ None) × (frequent_value I8 None ≡ None)
 distinct-absent = (refl, refl, refl, refl, refl)

@@ -145,7 +145,7 @@ ordered p vs some =
 pub all-between : (p : PType) (vs : List PlainValue) → All (LiesBetween (least_in p vs) (greatest_in p vs)) (valid_wholes vs)
 all-between p vs = λ k d h. ((fold-int_min_bounds (greatest p) (valid_wholes vs) _ refl).1 k d h, (fold-int_max_bounds (least p) (valid_wholes vs) _ refl).1 k d h)
 
--- ---- distinct values are told where they are asked for and there is a row
+-- ---- distinct values are counted where they are requested and there is a row
 
 pub distinct-told : (options : GenerateStatsOptions) (vs : List PlainValue) → options.count_distinct_values ≡ true → 0 < length vs → distinct_info options vs ≡ Some (distinct_counts vs)
 distinct-told options vs asked some = cond-true _ _ _ (and_from _ _ asked (lt-ltb 0 (length vs) some))

@@ -1,4 +1,4 @@
--- The type, the extremes and the distinct values of statistics of any integer type.
+-- What statistics of each of the eight integer types have: their type, their extremes and their distinct values.
 use Rattle.std.specs.Prelude.{ℕ, ◌-◌, ◌==◌, ℤ, if◌then◌else◌, List, Option, None, Some}
 use Rattle.vx_base.specs.Digits.{digits}
 use Rattle.vx_base.specs.declared.ptype.PType.{PType}
@@ -18,7 +18,7 @@ ptype_in (I16 e) = kinds.I16
 ptype_in (I32 e) = kinds.I32
 ptype_in (I64 e) = kinds.I64
 
--- the statistics without their type
+-- the statistics behind the type
 abbrev pub typed_of : ErasedStats → PlainTyped
 typed_of (U8 e) = e
 typed_of (U16 e) = e
@@ -33,10 +33,10 @@ typed_of (I64 e) = e
 abbrev pub extremes_of : ErasedStats → Extremes
 extremes_of stats = (typed_of stats).extremes
 
--- the distinct values with their counts, where they were asked for
+-- the distinct values with their counts; None where they were not requested
 abbrev pub distinct_of : ErasedStats → Option (List (ℤ × ℕ))
 distinct_of stats = (typed_of stats).distinct
 
--- the greatest k with 2^k at most n, of n below 2^64; none of 0
+-- floor(log2(n)) of n < 2^64; None of 0
 abbrev pub log2_of : ℕ → Option ℕ
 log2_of n = if n == 0 then None else Some (digits n - 1)

@@ -56,43 +56,43 @@ impl IntegerStats {
         IntegerStats { counts, erased }
     }
 
-    /// How many rows are null.
+    /// The number of null rows.
     pub fn null_count(&self) -> u32
         ensures { result ≡ self.now.null_count }
     {
         self.counts.null_count
     }
 
-    /// How many rows aren't null.
+    /// The number of valid rows.
     pub fn value_count(&self) -> u32
         ensures { result ≡ self.now.value_count }
     {
         self.counts.value_count
     }
 
-    /// How many values there are for each run of equal ones, rounded down. 0 without a value.
+    /// Values per run of equal ones, rounded down; 0 without a value. A null between equal values ends no run.
     pub fn average_run_length(&self) -> u32
         ensures { result ≡ self.now.average_run_length }
     {
         self.counts.average_run_length
     }
 
-    /// How many distinct values there are, where they were asked for and there is a row.
+    /// The number of distinct values; None where they were not requested or there is no row.
     pub fn distinct_count(&self) -> Option<u32>
         ensures { result ≡ option_map length self.now.distinct }
     {
         self.erased.distinct_count()
     }
 
-    /// The least of the most frequent values with its count, where distinct values are told. Without a value it is 0,
-    /// which occurs 0 times.
+    /// The most frequent value with its count, the least one where several tie; (0, 0) where every row is null. None where
+    /// distinct values were not requested or there is no row.
     pub fn most_frequent_value_and_count(&self) -> Option<(PValue, u32)>
         ensures { result ≡ frequent_value self.now.ptype self.now.distinct }
     {
         self.erased.most_frequent_value_and_count()
     }
 
-    /// The least and the greatest value, and the distinct ones.
+    /// The extremes and the distinct values, in the type of the column.
     pub fn erased(&self) -> &ErasedStats
         ensures ptype { ptype_in result.now ≡ self.now.ptype }
         ensures extremes { extremes_of result.now ≡ self.now.extremes }

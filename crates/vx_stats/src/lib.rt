@@ -1,4 +1,4 @@
-//! Statistics of columns: what schemes ask of them, counted over their valid rows.
+//! Statistics of columns of integers, counted over their valid rows: what schemes estimate their ratios from.
 #![tactic(auto)]
 
 mod integer;

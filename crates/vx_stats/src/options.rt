@@ -1,12 +1,12 @@
-//! Which statistics a scheme asks for beyond those that always come.
+//! Which statistics a scheme requests beyond those that are always computed.
 
 ghost use Rattle.std.specs.Prelude.{◌≡◌, true};
 ghost use Rattle.vx_stats.specs.Options.{merge_of, includes};
 
-/// What statistics are to tell. By default they leave out what costs most.
+/// Which statistics are requested. The default leaves out the distinct values, which cost most.
 #[derive(Clone, Copy, Debug)]
 pub struct GenerateStatsOptions {
-    /// The distinct values with their counts.
+    /// Whether the distinct values are counted.
     pub count_distinct_values: bool,
 }
 
@@ -23,7 +23,7 @@ impl Default for GenerateStatsOptions {
 }
 
 impl GenerateStatsOptions {
-    /// What either asks for.
+    /// The union: what either requests.
     pub fn merge(self, other: GenerateStatsOptions) -> GenerateStatsOptions
         ensures { result ≡ merge_of self other }
     {
@@ -33,8 +33,8 @@ impl GenerateStatsOptions {
     }
 }
 
-/// Does nothing; its contract holds the laws of merging. The order and the number of times don't count, and what is
-/// merged includes each.
+/// Does nothing; its contract states the laws of `merge`: it is associative, commutative and idempotent, and the union
+/// includes what was merged.
 pub fn laws_of_merge()
     ensures associative { (a b c : GenerateStatsOptions) → merge_of a (merge_of b c) ≡ merge_of (merge_of a b) c }
     ensures commutative { (a b : GenerateStatsOptions) → merge_of a b ≡ merge_of b a }

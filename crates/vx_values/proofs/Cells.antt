@@ -32,7 +32,7 @@ module _ {T : Type 0} (whole : T → ℤ) (items : List T) (valid : Validity) (f
   pub row_of-null : (i : ℕ) → i < length items → is_valid_at valid i ≡ false → null ≡ row_at (valid_rows valid (map int (map whole items))) i
   row_of-null i h v = rw (row_at-cells valid (map whole items) i fit_wholes (within i h), v) refl
 
--- ---- the same of items of any kind
+-- ---- items of any kind
 
 of_bits : (valid : Validity) (rows : List PlainValue) (i : ℕ) → validity_length valid (length rows) ≡ true → row_at (valid_rows valid rows) i ≡ cond (is_valid_at valid i) (row_at rows i) null
 of_bits None rows i h = refl
@@ -57,7 +57,7 @@ pub row_at-null : {T : Type 0} (value : T → PlainValue) (items : List T) (vali
     → is_valid_at valid i ≡ false → row_at (valid_rows valid (map value items)) i ≡ null
 row_at-null value items valid i default fit h v = row_at-flat_rows value items valid i default fit h ∙ ap (λ b. cond b (value (slice_index_or items i default)) null) v
 
--- a row is null or a value that it is the same as
+-- a row is null or a value where it equals either
 pub null_or-null : (row v : PlainValue) → row ≡ null → true ≡ null_or v row
 null_or-null row v e = sym (ap (null_or v) e)
 
@@ -69,7 +69,7 @@ null_or-some row v w b e some there back =
 pub each-all : (v : PlainValue) (rows : List PlainValue) (i : ℕ) → length rows ≤ i → each_null_or v (take i rows) ≡ true → true ≡ each_null_or v rows
 each-all v rows i l h = sym h ∙ ap (each_null_or v) (take_all i rows l)
 
--- where no item is there, it is another
+-- out of bounds
 pub index_or-none : {A : Type 0} (xs : List A) (i : ℕ) (other : A) → slice_get xs i ≡ None → slice_index_or xs i other ≡ other
 index_or-none [] i other h = refl
 index_or-none (x ∷ xs) zero other h = absurd cc
@@ -86,7 +86,7 @@ any_whole whole p [] i x h e t = absurd (omega arith)
 any_whole whole p (y ∷ ys) zero x h e t = let y_passes : p (whole y) ≡ true = ap (λ w. p (whole w)) (sym e) ∙ t in rw y_passes refl
 any_whole whole p (y ∷ ys) (suc i) x h e t = or_right (p (whole y)) _ (any_whole whole p ys i x (omega arith) e t)
 
--- where a part has been looked at, what is behind it decides
+-- whether some row passes, by the first rows and those behind them
 pub any-parts : {T : Type 0} (whole : T → ℤ) (p : ℤ → Bool) (items part behind : List T) (b : Bool) → items ≡ part ++ behind → list_any p (map whole part) ≡ b → list_any p (map whole items) ≡ (b || list_any p (map whole behind))
 any-parts whole p items part behind b e h =
     ap (λ xs. list_any p (map whole xs)) e ∙ ap (list_any p) (map-append whole part behind) ∙ list_any-append p (map whole part) (map whole behind) ∙ ap (λ c. c || list_any p (map whole behind)) h

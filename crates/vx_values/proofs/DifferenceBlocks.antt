@@ -5,7 +5,7 @@ use Rattle.std.proofs.lemmas.List.{length-take-le, length-drop, length-replicate
 use Rattle.vx_base.specs.Packed.{block_count, kept_row, kept_rows, packed_size}
 use Rattle.vx_blocks.specs.Histogram.{IsHistogram}
 use Rattle.vx_blocks.specs.IsPacked.{IsPacked}
-use Rattle.vx_blocks.proofs.Joins.{joined-append, joined-group}
+use Rattle.vx_blocks.proofs.Joins.{packed_number-append, packed_number-group}
 
 -- ---- a part of the rows
 
@@ -61,7 +61,7 @@ packed-append w b n rows front more room h k =
     let size : length front ≡ packed_size w s = h.size ∙ ap (packed_size w) first in
     let place : 8 * length front ≡ w * s = ap (λ m. 8 * m) size ∙ whole_blocks w b in
     record {
-      number = joined-append 8 front more ∙ rw (place, h.number, k.number) (sym (joined-group w rows s n (omega arith)));
+      number = packed_number-append 8 front more ∙ rw (place, h.number, k.number) (sym (packed_number-group w rows s n (omega arith)));
       size = length-append front more ∙ rw (size, k.size, last, all) (size-more w b n);
     }
 

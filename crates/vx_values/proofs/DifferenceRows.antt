@@ -4,7 +4,7 @@ use Rattle.std.specs.Prelude.{◌-ℤ◌, IfSome, unwrap_or}
 use Rattle.std.proofs.lemmas.List.{length-drop, length-map, length-replicate, length-take-le, drop-map, take-map}
 use Rattle.vx_base.specs.declared.ptype.PType.{PType}
 use Rattle.vx_base.specs.Integers.{bits_in, unsigned_of}
-use Rattle.vx_base.specs.Packed.{bytes_in, joined, kept_rows, packed_size}
+use Rattle.vx_base.specs.Packed.{bytes_in, packed_number, kept_rows, packed_size}
 use Rattle.vx_base.specs.Wrapping.{wrap}
 use Rattle.vx_model.specs.Tree.{Validity}
 use Rattle.vx_blocks.proofs.Rows.{kept_rows-length, kept_rows_all}
@@ -22,7 +22,7 @@ bits-long (Some bits) n h = h
 bits-long None n h = length-replicate n true
 
 pub packed-is : (p : PType) (reference : ℤ) (xs : List ℤ) (valid : Validity) (width : ℕ)
-    → bytes_in (packed_size width (length xs)) (joined width (kept_rows width (difference_bits p reference xs) (unwrap_or valid (replicate (length xs) true)))) ≡ packed_differences p reference xs valid width
+    → bytes_in (packed_size width (length xs)) (packed_number width (kept_rows width (difference_bits p reference xs) (unwrap_or valid (replicate (length xs) true)))) ≡ packed_differences p reference xs valid width
 unfolding packed_differences
 packed-is p reference xs valid width = refl
 

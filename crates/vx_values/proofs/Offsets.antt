@@ -27,7 +27,7 @@ module _ {T : Type 0} (whole : T → ℤ) (p : PType) where
   pub offset_bits : (len : ℕ) (items : List T) (i : ℕ) (x : T) → are_offsets len (map int (map whole items)) ≡ true → i < length items → x ≡ slice_index_or items i x → bits_in p (whole x) ≡ offset_at (map int (map whole items)) i
   offset_bits len items i x h l e = bits_between (len + 1) items i x (all_between len (map int (map whole items)) h) l e
 
-  -- an item and the next one are the ends of a part
+  -- an item and the next one are a range in bounds
   pub offsets_part : (len : ℕ) (items : List T) (i : ℕ) → are_offsets len (map int (map whole items)) ≡ true → i + 1 < length items
       → is_part len (offset_at (map int (map whole items)) i) (offset_at (map int (map whole items)) (i + 1)) ≡ true
   offsets_part len items i h l =

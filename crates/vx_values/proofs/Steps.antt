@@ -15,12 +15,12 @@ use Rattle.vx_base.proofs.WrapSumLemmas.{low_bits-add}
 use Rattle.vx_blocks.specs.Sequence.{sequence_row}
 use Rattle.vx_blocks.proofs.Sequences.{row-held, row-step}
 
--- ---- the low bits of a type are those of the 64 low ones
+-- ---- the low bits of a type, from the low 64 bits
 
 natural-word : (p : PType) (n : ℕ) → n % 2 ^ 64 % 2 ^ bits_of p ≡ n % 2 ^ bits_of p
 natural-word p n = ap (λ w. n % w % 2 ^ bits_of p) (word_of p) ∙ mod-of-mod n (2 ^ bits_of p) (2 ^ (64 - bits_of p))
 
--- of a number that is a natural one with some words more
+-- for a whole number that is a natural one plus a multiple of 2^64
 lifted-word : (p : PType) (z : ℤ) (times total : ℕ) → z +ℤ pos (times * 2 ^ 64) ≡ pos total → low_bits U64 z % 2 ^ bits_of p ≡ low_bits p z
 lifted-word p z times total e =
     let all = 2 ^ bits_of p in
@@ -35,7 +35,7 @@ low_bits-word p (negsuc n) = lifted-word p (negsuc n) (suc n) (suc n * 2 ^ 64 - 
 
 -- ---- rows
 
--- where there are rows the first and the last lie in the type
+-- the first and the last row are in the range of the type, if there are rows
 ends_held : (b c d : Bool) → b ≡ false → (b || c && d) ≡ true → (c ≡ true) × (d ≡ true)
 ends_held true c d e h = absurd cc
 ends_held false c d e h = and_parts c d h
@@ -46,7 +46,7 @@ module _ (first step : ℤ) where
   bits-next i bits add next is more e =
       e ∙ (λ k. (is k + more k) % 2 ^ 64) ∙ sym (low_bits-add U64 (sequence_row first step i) step) ∙ ap (low_bits U64) (sym (row-step first step i))
 
-  -- where the first and the last row lie in the type, the value of those bits is the row
+  -- a row is the value of its low bits, since it is in the range of the type
   pub bits-row : (p : PType) (len i bits : ℕ) → (len == 0 || lies_in p first && lies_in p (first +ℤ pos (len - 1) *ℤ step)) ≡ true → i < len → bits ≡ low_bits U64 (sequence_row first step i)
       → from_bits p (bits % 2 ^ bits_of p) ≡ sequence_row first step i
   bits-row p len i bits h below is =

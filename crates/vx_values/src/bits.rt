@@ -1,4 +1,4 @@
-//! Truth values, one a row: the default beneath nulls, and values by their places.
+//! Rows of truth values: false beneath nulls, and rows picked by codes.
 
 ghost use Rattle.std.specs.Prelude.{◌≡◌, ◌<◌, length, map, replicate, true, false, not, ◌||◌, slice_set, slice_index_or, if◌then◌else◌};
 ghost use Rattle.vx_base.specs.Answers.{Answers, OrMemory};
@@ -14,7 +14,7 @@ use crate::validity::is_valid;
 use std::alloc::Global;
 use vx_base::{Integer, Mask, VortexResult};
 
-/// One truth value in every row.
+/// `len` rows of one truth value.
 pub fn filled(alloc: Global, bit: bool, len: u64) -> VortexResult<Mask>
     ensures { Answers result (replicate len bit) }
 {
@@ -25,7 +25,7 @@ pub fn filled(alloc: Global, bit: bool, len: u64) -> VortexResult<Mask>
     Ok(Mask::from_bits(bits))
 }
 
-/// The truth values with false where the mask is false.
+/// The rows, with false where the mask is false.
 pub fn zeroed(bits: Mask, mask: &Mask) -> Mask
     requires { length mask.now ≡ length bits }
     ensures { result ≡ zeroed false mask.now bits }
@@ -35,7 +35,7 @@ pub fn zeroed(bits: Mask, mask: &Mask) -> Mask
     Mask::from_bits(bits)
 }
 
-/// A copy with false where a row isn't valid.
+/// A copy, with false where a row is null.
 pub fn decoded(alloc: Global, bits: &Mask, valid: &Option<Mask>) -> VortexResult<Mask>
     requires { validity_length valid.now (length bits.now) ≡ true }
     ensures { Answers result (zeroed_by false valid.now bits.now) }
@@ -47,7 +47,7 @@ pub fn decoded(alloc: Global, bits: &Mask, valid: &Option<Mask>) -> VortexResult
     }
 }
 
-/// Whether each truth value whose bit in the mask is false is false.
+/// Whether each row is false where the mask is.
 pub fn is_zero_beneath(bits: &Mask, mask: &Mask) -> bool
     requires { length mask.now ≡ length bits.now }
     ensures { result ≡ zero_beneath not mask.now bits.now }
@@ -68,7 +68,7 @@ fn are_zero_beneath(bits: &[bool], mask: &[bool]) -> bool
     true
 }
 
-// Whether the truth value is false where its bit in the mask is false.
+// Whether the row is false, or the mask is true there.
 #[inline(always)]
 fn is_zero_at(bits: &[bool], mask: &[bool], row: usize) -> bool
     requires in_bits { row < length bits.now }
@@ -89,7 +89,7 @@ fn zero_beneath(bits: &mut [bool], mask: &[bool])
     }
 }
 
-// Leaves the truth value where the bit is true, else writes false.
+// Writes false unless the bit is true.
 #[inline(always)]
 fn zero_at(bits: &mut [bool], row: usize, bit: bool)
     requires { row < length bits.old }
@@ -125,14 +125,14 @@ fn is_null_or(bits: &Mask, valid: &Option<Mask>, row: u64, bit: bool) -> bool
     }
 }
 
-/// The truth value whose place each code has, false where there is none.
+/// For each code the row with that index, false out of bounds.
 pub fn picked(alloc: Global, bits: &Mask, codes: &Ints) -> VortexResult<Mask>
     ensures { Answers result (map (λ code. picked (ptype_of codes.now) bits.now false code) (wholes_of codes.now)) }
 {
     with_ints!(codes, codes => picked_by(alloc, bits, codes.as_slice()))
 }
 
-// The truth value whose place the code has, false where there is none.
+// The row at a code, false out of bounds.
 #[inline(always)]
 fn pick<C: Integer>(bits: &Mask, code: C) -> bool
     ensures { result ≡ picked C.kind bits.now false (C.whole code) }
@@ -140,7 +140,7 @@ fn pick<C: Integer>(bits: &Mask, code: C) -> bool
     bits.is_set(code.to_bits())
 }
 
-// The same of each code.
+// The row at each code.
 fn picked_by<C: Integer>(alloc: Global, bits: &Mask, codes: &[C]) -> VortexResult<Mask>
     ensures { Answers result (map (λ code. picked C.kind bits.now false code) (map C.whole codes.now)) }
 {

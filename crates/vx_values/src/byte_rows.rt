@@ -1,4 +1,4 @@
-//! Texts and binaries, one a row: the default beneath nulls, and values by their places.
+//! Rows of texts or binaries: empty beneath nulls, cut at offsets, gathered, and picked by codes.
 
 ghost use Rattle.std.specs.Prelude.{◌≡◌, ◌↔◌, ◌<◌, ◌≤◌, ◌+◌, ◌-◌, IsTrue, [], length, map, replicate, true, false, ◌||◌, ◌++◌, slice_set, slice_index_or, if◌then◌else◌};
 ghost use Rattle.std.specs.List.{list_all};
@@ -17,11 +17,11 @@ mod joining;
 
 use crate::ints::{Ints, with_ints};
 use crate::validity::is_valid;
-pub use joining::{joined, offsets};
+pub use joining::{concatenated, offsets};
 use std::alloc::Global;
 use vx_base::{ByteRows, Bytes, Integer, Mask, VortexResult, is_short};
 
-/// The same bytes in every row.
+/// `len` rows of the same bytes.
 pub fn filled(alloc: Global, bytes: &[u8], len: u64) -> VortexResult<ByteRows>
     ensures { Answers result (replicate len bytes.now) }
 {
@@ -39,7 +39,7 @@ fn row_of(alloc: Global, bytes: &[u8]) -> VortexResult<Bytes>
     Ok(Bytes::from_vec(Vec::from_slice(alloc, bytes)?))
 }
 
-/// The rows, empty where the mask is false.
+/// The rows, emptied where the mask is false.
 pub fn zeroed(rows: ByteRows, mask: &Mask) -> ByteRows
     requires { length mask.now ≡ length rows }
     ensures { result ≡ zeroed [] mask.now rows }
@@ -49,7 +49,7 @@ pub fn zeroed(rows: ByteRows, mask: &Mask) -> ByteRows
     ByteRows::from_vec(rows)
 }
 
-/// A copy, empty where a row isn't valid: the bytes beneath nulls aren't copied.
+/// A copy, empty where a row is null: bytes beneath nulls aren't copied.
 #[tactic(auto, using(crate::proofs::Kept::keeping))]
 pub fn decoded(alloc: Global, rows: &ByteRows, valid: &Option<Mask>) -> VortexResult<ByteRows>
     requires { validity_length valid.now (length rows.now) ≡ true }
@@ -62,7 +62,7 @@ pub fn decoded(alloc: Global, rows: &ByteRows, valid: &Option<Mask>) -> VortexRe
     Ok(ByteRows::from_vec(copy))
 }
 
-// A copy of a row where the bit is true, else an empty one.
+// A copy of a row where the bit is true, else an empty row.
 fn kept_row(alloc: Global, rows: &ByteRows, row: u64, bit: bool) -> VortexResult<Bytes>
     ensures { Answers result (if bit then slice_index_or rows.now row [] else []) }
 {
@@ -73,7 +73,7 @@ fn kept_row(alloc: Global, rows: &ByteRows, row: u64, bit: bool) -> VortexResult
     }
 }
 
-// A copy of a row, empty where there is none.
+// A copy of a row, empty out of bounds.
 fn copied(alloc: Global, rows: &ByteRows, row: u64) -> VortexResult<Bytes>
     ensures { Answers result (slice_index_or rows.now row []) }
 {
@@ -83,7 +83,7 @@ fn copied(alloc: Global, rows: &ByteRows, row: u64) -> VortexResult<Bytes>
     }
 }
 
-/// Whether each row whose bit is false is empty.
+/// Whether each row is empty where the mask is false.
 pub fn is_zero_beneath(rows: &ByteRows, mask: &Mask) -> bool
     requires { length mask.now ≡ length rows.now }
     ensures { result ≡ zero_beneath is_empty mask.now rows.now }
@@ -104,7 +104,7 @@ fn are_zero_beneath(rows: &[Bytes], mask: &[bool]) -> bool
     true
 }
 
-// Whether the row is empty where its bit is false.
+// Whether the row is empty, or the mask is true there.
 fn is_zero_at(rows: &[Bytes], mask: &[bool], row: usize) -> bool
     requires in_rows { row < length rows.now }
     requires in_mask { row < length mask.now }
@@ -113,7 +113,7 @@ fn is_zero_at(rows: &[Bytes], mask: &[bool], row: usize) -> bool
     mask[row] || rows[row].len() == 0
 }
 
-/// The bytes from each offset to the next, empty where a row isn't valid: the bytes beneath nulls aren't copied.
+/// The bytes from each offset to the next, empty where a row is null: bytes beneath nulls aren't copied.
 pub fn cut(
     alloc: Global,
     bytes: &[u8],
@@ -147,7 +147,7 @@ fn cut_by<T: Integer>(
     Ok(ByteRows::from_vec(rows))
 }
 
-// A copy of the bytes from a row's offset to the next one where the bit is true, else none.
+// A copy of the bytes from a row's offset to the next where the bit is true, else an empty row.
 fn kept_piece<T: Integer>(
     alloc: Global,
     bytes: &[u8],
@@ -166,7 +166,7 @@ fn kept_piece<T: Integer>(
     }
 }
 
-// A copy of the bytes from a row's offset to the next one.
+// A copy of the bytes from a row's offset to the next.
 fn piece<T: Integer>(alloc: Global, bytes: &[u8], offsets: &[T], row: usize) -> VortexResult<Bytes>
     requires within { row + 1 < length offsets.now }
     requires ends { IsTrue (are_offsets (length bytes.now) (map int (map T.whole offsets.now))) }
@@ -177,7 +177,7 @@ fn piece<T: Integer>(alloc: Global, bytes: &[u8], offsets: &[T], row: usize) -> 
     row_of(alloc, part(bytes, start, end))
 }
 
-// The bytes from a start to the one before an end.
+// The bytes `start` to `end - 1`.
 fn part(bytes: &[u8], start: u64, end: u64) -> &[u8]
     requires { IsTrue (is_part (length bytes.now) start end) }
     ensures { result.now ≡ rows_between bytes.now start end }
@@ -185,7 +185,7 @@ fn part(bytes: &[u8], start: u64, end: u64) -> &[u8]
     &bytes[start as usize..end as usize]
 }
 
-/// Whether each row is shorter than 2^32 bytes.
+/// Whether each row has fewer than 2^32 bytes.
 pub fn are_short(rows: &ByteRows) -> bool
     ensures { result ≡ list_all is_short rows.now }
 {
@@ -208,7 +208,7 @@ fn zero_beneath(rows: &mut [Bytes], mask: &[bool])
     }
 }
 
-// Leaves the row where the bit is true, else empties it.
+// Empties the row unless the bit is true.
 fn zero_at(rows: &mut [Bytes], row: usize, bit: bool)
     requires { row < length rows.old }
     ensures { rows.new ≡ slice_set rows.old row (if bit then slice_index_or rows.old row [] else []) }
@@ -265,7 +265,7 @@ fn is_same(bytes: &[u8], other: &[u8]) -> bool
     bytes == other
 }
 
-/// The rows of the ranges, one range after the other.
+/// The rows of half-open ranges, in the order of the ranges.
 pub fn gather(alloc: Global, rows: &ByteRows, ranges: &[(u64, u64)]) -> VortexResult<ByteRows>
     requires { IsTrue (are_parts (length rows.now) ranges.now) }
     ensures { Answers result (gathered ranges.now rows.now) }
@@ -281,7 +281,7 @@ pub fn gather(alloc: Global, rows: &ByteRows, ranges: &[(u64, u64)]) -> VortexRe
     Ok(ByteRows::from_vec(all))
 }
 
-// A copy of each row more.
+// Appends a copy of each row.
 fn push_rows(alloc: Global, all: &mut Vec<Bytes>, rows: &[Bytes]) -> VortexResult<()>
     ensures { OrMemory result (λ _. all.new.items ≡ all.old.items ++ rows.now) }
 {
@@ -291,21 +291,21 @@ fn push_rows(alloc: Global, all: &mut Vec<Bytes>, rows: &[Bytes]) -> VortexResul
     Ok(())
 }
 
-/// The bytes whose place each code has, empty where there is none.
+/// For each code a copy of the row with that index, empty out of bounds.
 pub fn picked(alloc: Global, rows: &ByteRows, codes: &Ints) -> VortexResult<ByteRows>
     ensures { Answers result (map (λ code. picked (ptype_of codes.now) rows.now [] code) (wholes_of codes.now)) }
 {
     with_ints!(codes, codes => picked_by(alloc, rows, codes.as_slice()))
 }
 
-// The bytes whose place the code has, empty where there is none.
+// A copy of the row at a code, empty out of bounds.
 fn pick<C: Integer>(alloc: Global, rows: &ByteRows, code: C) -> VortexResult<Bytes>
     ensures { Answers result (picked C.kind rows.now [] (C.whole code)) }
 {
     copied(alloc, rows, code.to_bits())
 }
 
-// The same of each code.
+// A copy of the row at each code.
 fn picked_by<C: Integer>(alloc: Global, rows: &ByteRows, codes: &[C]) -> VortexResult<ByteRows>
     ensures { Answers result (map (λ code. picked C.kind rows.now [] code) (map C.whole codes.now)) }
 {

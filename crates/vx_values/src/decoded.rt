@@ -1,4 +1,4 @@
-//! What the rows of a tree are decoded to.
+//! Decoded rows of a tree.
 
 ghost use Rattle.std.specs.Prelude.{◌≡◌, length, map, pos, true, IsTrue};
 ghost use Rattle.vx_base.specs.PlainValue.{int};
@@ -11,7 +11,7 @@ use crate::ints::Ints;
 use crate::values::Values;
 use vx_base::Mask;
 
-/// Values with their type's default beneath nulls, and validity bits where some row is null.
+/// The rows of a tree as a flat list, with the type's default beneath nulls, and their validity, None where no row is null.
 #[derive(Drop)]
 pub struct Decoded {
     pub values: Values,
@@ -19,7 +19,7 @@ pub struct Decoded {
 }
 
 impl Decoded {
-    /// The integers and their validity, of a column of integers or timestamps.
+    /// The integers of a column of integers or timestamps, and their validity.
     pub fn into_integers(self) -> (Ints, Option<Mask>)
         requires { IsTrue (holds_integers (kind_in self.values)) }
         ensures values { Values.Ints result.0 ≡ self.values }
@@ -33,7 +33,7 @@ impl Decoded {
     }
 }
 
-// The integers and their validity, with 0 beneath nulls.
+/// A decoding of integers with this validity: 0 is written beneath nulls.
 pub fn behind(values: Ints, valid: Option<Mask>) -> Decoded
     requires { validity_length valid (length (wholes_of values)) ≡ true }
     ensures { AreRows (ints (ptype_of values)) (map int (zeroed_by (pos 0) valid (wholes_of values))) valid result }

@@ -1,4 +1,4 @@
-//! Lists of integers of one type.
+//! Lists of integers, of any of the eight types.
 
 ghost use Rattle.std.specs.List.{list_all};
 ghost use Rattle.std.specs.Prelude.{◌≡◌, ◌<◌, length, slice_index_or, pos, IsTrue, map};
@@ -9,7 +9,7 @@ ghost use Rattle.vx_values.specs.IntsOf.{ptype_of, wholes_of};
 use std::alloc::Global;
 use vx_base::{IntList, Integer, PType, VortexResult};
 
-/// A list for each integer type.
+/// A list of integers, by their type.
 pub enum Ints {
     U8(IntList<u8>),
     U16(IntList<u16>),
@@ -21,7 +21,7 @@ pub enum Ints {
     I64(IntList<i64>),
 }
 
-// The same for each of the eight lists.
+// One expression for each of the eight lists.
 macro_rules! with_ints {
     ($ints:expr, $items:ident => $answer:expr) => {
         match $ints {
@@ -37,7 +37,7 @@ macro_rules! with_ints {
     };
 }
 
-// A list of the same type, from each of the eight lists.
+// `Ok` of a list of the same type, from each of the eight lists.
 macro_rules! map_ints {
     ($ints:expr, $items:ident => $answer:expr) => {
         match $ints {
@@ -49,6 +49,38 @@ macro_rules! map_ints {
             Ints::I16($items) => Ok(Ints::I16($answer)),
             Ints::I32($items) => Ok(Ints::I32($answer)),
             Ints::I64($items) => Ok(Ints::I64($answer)),
+        }
+    };
+}
+
+// A list of the same type, from each of the eight lists.
+macro_rules! map_ints_surely {
+    ($ints:expr, $items:ident => $answer:expr) => {
+        match $ints {
+            Ints::U8($items) => Ints::U8($answer),
+            Ints::U16($items) => Ints::U16($answer),
+            Ints::U32($items) => Ints::U32($answer),
+            Ints::U64($items) => Ints::U64($answer),
+            Ints::I8($items) => Ints::I8($answer),
+            Ints::I16($items) => Ints::I16($answer),
+            Ints::I32($items) => Ints::I32($answer),
+            Ints::I64($items) => Ints::I64($answer),
+        }
+    };
+}
+
+// `Ok` of a list of the type that a `PType` names.
+macro_rules! ints_of {
+    ($ptype:expr => $answer:expr) => {
+        match $ptype {
+            PType::U8 => Ok(Ints::U8($answer)),
+            PType::U16 => Ok(Ints::U16($answer)),
+            PType::U32 => Ok(Ints::U32($answer)),
+            PType::U64 => Ok(Ints::U64($answer)),
+            PType::I8 => Ok(Ints::I8($answer)),
+            PType::I16 => Ok(Ints::I16($answer)),
+            PType::I32 => Ok(Ints::I32($answer)),
+            PType::I64 => Ok(Ints::I64($answer)),
         }
     };
 }
@@ -72,7 +104,7 @@ pub use bit_packing::{known_bytes, packed_size};
 pub use dictionary::valid_codes;
 pub use frame_of_reference::summed_in;
 
-// Written out, so that letting go of a list is one call wherever one ends.
+// Written by hand, so that a drop is one call wherever a list goes out of scope.
 impl Drop for Ints {
     fn drop(self) {
         with_ints!(self, _items => ())
@@ -111,14 +143,14 @@ impl Ints {
         with_ints!(self, items => whole_at(items.as_slice(), row))
     }
 
-    /// The same list.
+    /// A copy.
     pub fn copy(&self, alloc: Global) -> VortexResult<Ints>
         ensures { Answers result self.now }
     {
         map_ints!(self, items => items.copy(alloc)?)
     }
 
-    /// Tells a proof that each integer lies in its type.
+    /// Tells a caller's proof that each integer is in the range of its type; nothing is done.
     pub fn known(&self)
         ensures { IsTrue (list_all (lies_in (ptype_of self.now)) (wholes_of self.now)) }
     {
@@ -133,7 +165,7 @@ fn whole_at<T: Integer>(items: &[T], row: u64) -> i128
     items[row as usize].to_whole()
 }
 
-// Each integer lies in its type. The loop does nothing when it runs.
+// Each integer is in the range of its type, as the contract of `to_whole` says; the loop has no effect.
 fn known<T: Integer>(items: &[T])
     ensures { IsTrue (list_all (lies_in T.kind) (map T.whole items.now)) }
 {

@@ -1,4 +1,4 @@
-//! Flat columns of one kind of values and their kernels: truth values, integers of each type, texts and binaries, with validity.
+//! Flat columns of truth values, integers, texts and binaries, with their validity, and the kernels over them.
 #![tactic(auto)]
 
 pub mod bits;

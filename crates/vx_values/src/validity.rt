@@ -1,4 +1,4 @@
-//! Validity: a truth value a row, true where the row is valid, or none where every row is.
+//! Validity: a mask that is true where a row isn't null, or None where no row is.
 
 ghost use Rattle.std.specs.Prelude.{◌≡◌, length, option_map, IfSome, IsTrue};
 ghost use Rattle.vx_base.specs.Answers.{Answers};
@@ -9,6 +9,7 @@ ghost use Rattle.vx_model.specs.Rows.{is_valid_at};
 use std::alloc::Global;
 use vx_base::{Mask, Nullability, VortexResult};
 
+/// Whether the validity has `len` rows, as None has for every `len`.
 pub fn has_length(valid: &Option<Mask>, len: u64) -> bool
     ensures { result ≡ validity_length valid.now len }
 {
@@ -18,6 +19,7 @@ pub fn has_length(valid: &Option<Mask>, len: u64) -> bool
     }
 }
 
+/// Whether a node of this nullability may have the validity: a non-nullable one has no null.
 pub fn is_allowed(valid: &Option<Mask>, nullability: Nullability) -> bool
     ensures { result ≡ validity_allowed valid.now nullability }
 {
@@ -27,7 +29,7 @@ pub fn is_allowed(valid: &Option<Mask>, nullability: Nullability) -> bool
     }
 }
 
-// Drops bits without a false.
+/// The validity in its one form: None where every bit is true.
 pub fn keep(valid: Option<Mask>) -> Option<Mask>
     ensures { result ≡ kept valid }
 {
@@ -37,6 +39,7 @@ pub fn keep(valid: Option<Mask>) -> Option<Mask>
     }
 }
 
+/// Whether a row is valid; with a mask, false out of bounds.
 pub fn is_valid(valid: &Option<Mask>, row: u64) -> bool
     ensures { result ≡ is_valid_at valid.now row }
 {
@@ -46,7 +49,8 @@ pub fn is_valid(valid: &Option<Mask>, row: u64) -> bool
     }
 }
 
-pub fn copy_validity(valid: &Option<Mask>, alloc: Global) -> VortexResult<Option<Mask>>
+/// A copy.
+pub fn copy_validity(alloc: Global, valid: &Option<Mask>) -> VortexResult<Option<Mask>>
     ensures { Answers result valid.now }
 {
     match valid {
@@ -55,7 +59,7 @@ pub fn copy_validity(valid: &Option<Mask>, alloc: Global) -> VortexResult<Option
     }
 }
 
-/// The validity of the rows of the ranges, one range after the other, without bits where each of them is valid.
+/// The validity of the rows of half-open ranges, in the order of the ranges; None where all of them are valid.
 pub fn gathered_validity(
     alloc: Global,
     valid: &Option<Mask>,

@@ -1,4 +1,4 @@
-//! Flat lists of values of one kind.
+//! Flat lists of values of any kind.
 
 ghost use Rattle.std.specs.Prelude.{◌≡◌, length, map, pos, false, true, [], IsTrue, replicate};
 ghost use Rattle.vx_base.specs.Answers.{OrMemory};
@@ -17,7 +17,7 @@ use crate::{bits, byte_rows};
 use std::alloc::Global;
 use vx_base::{ByteRows, Cell, DType, Mask, PType, Scalar, VortexResult};
 
-/// A flat list for each kind of values.
+/// A flat list of values, by their kind.
 #[derive(Drop)]
 pub enum Values {
     /// Truth values.
@@ -40,7 +40,7 @@ impl Values {
         }
     }
 
-    /// The integers, of a list of them.
+    /// The integers of a list of integers.
     pub fn integers(&self) -> &Ints
         requires { IsTrue (holds_integers (kind_in self.now)) }
         ensures { Values.Ints result.now ≡ self.now }
@@ -51,7 +51,7 @@ impl Values {
         ints
     }
 
-    /// A value in every row, the type's default where it is null.
+    /// The value in every row, or the type's default where it is null.
     #[tactic(auto, using(vx_model::proofs::FilledLemmas::held))]
     pub fn filled(alloc: Global, value: &Scalar, len: u64) -> VortexResult<Values>
         requires { IsTrue (is_flat value.now.dtype) }
@@ -69,7 +69,7 @@ impl Values {
         }
     }
 
-    /// The list with its kind's default where the mask is false.
+    /// The rows, with the kind's default where the mask is false.
     #[tactic(auto, using(vx_model::proofs::ItemMapLemmas::item_maps))]
     pub fn zeroed(self, mask: &Mask) -> Values
         requires { length mask.now ≡ length (values_of self) }
@@ -83,7 +83,7 @@ impl Values {
         }
     }
 
-    /// The list with its kind's default where a row isn't valid.
+    /// The rows, with the kind's default where a row is null.
     pub fn zeroed_by(self, valid: &Option<Mask>) -> Values
         requires { validity_length valid.now (length (values_of self)) ≡ true }
         ensures kind { kind_in result ≡ kind_in self }
@@ -95,7 +95,7 @@ impl Values {
         }
     }
 
-    /// The value whose place each code has, the kind's default where there is none.
+    /// For each code the row with that index, the kind's default out of bounds.
     pub fn picked(&self, alloc: Global, codes: &Ints) -> VortexResult<Values>
         ensures { OrMemory result (λ values. (kind_in values ≡ kind_in self.now) × (values_of values ≡ map (λ code. picked (ptype_of codes.now) (values_of self.now) (default_in (kind_in self.now)) code) (wholes_of codes.now))) }
     {
@@ -107,7 +107,7 @@ impl Values {
     }
 }
 
-// The whole number of a cell in every row.
+// The integer of a cell in every row.
 fn filled_wholes(alloc: Global, cell: Cell<'_>, ptype: PType, len: u64) -> VortexResult<Values>
     requires { IsTrue (lies_in ptype (whole_or_zero (cell_value cell))) }
     ensures { OrMemory result (λ values. (kind_in values ≡ ints ptype) × (values_of values ≡ map int (replicate len (whole_or_zero (cell_value cell.entry))))) }
@@ -115,21 +115,21 @@ fn filled_wholes(alloc: Global, cell: Cell<'_>, ptype: PType, len: u64) -> Vorte
     Ok(Values::Ints(Ints::filled(alloc, cell.whole(), ptype, len)?))
 }
 
-// The same of truth values, whose default is false.
+// `picked` of truth values, whose default is false.
 fn picked_truths(alloc: Global, items: &Mask, codes: &Ints) -> VortexResult<Values>
     ensures { OrMemory result (λ values. (kind_in values ≡ kind_in (Values.Bits items.now)) × (values_of values ≡ map (λ code. picked (ptype_of codes.now) (map truth items.now) (truth false) code) (wholes_of codes.now))) }
 {
     Ok(Values::Bits(bits::picked(alloc, items, codes)?))
 }
 
-// The same of integers, whose default is 0.
+// `picked` of integers, whose default is 0.
 fn picked_integers(alloc: Global, items: &Ints, codes: &Ints) -> VortexResult<Values>
     ensures { OrMemory result (λ values. (kind_in values ≡ kind_in (Values.Ints items.now)) × (values_of values ≡ map (λ code. picked (ptype_of codes.now) (map int (wholes_of items.now)) (int (pos 0)) code) (wholes_of codes.now))) }
 {
     Ok(Values::Ints(items.picked(alloc, codes)?))
 }
 
-// The same of texts and binaries, whose default is empty.
+// `picked` of texts and binaries, whose default is empty.
 fn picked_rows(alloc: Global, items: &ByteRows, codes: &Ints) -> VortexResult<Values>
     ensures { OrMemory result (λ values. (kind_in values ≡ kind_in (Values.Bytes items.now)) × (values_of values ≡ map (λ code. picked (ptype_of codes.now) (map bytes items.now) (bytes []) code) (wholes_of codes.now))) }
 {

@@ -1,4 +1,4 @@
-//! Integers of some bits each, and the values that are wider as patches.
+//! Bit-packed integers, with patches for the values that are wider.
 
 ghost use Rattle.std.specs.Prelude.{◌≡◌, length, true, MatchResult, IfSome, IsTrue, map, nat_le, pos, ◌≤◌, ◌+◌, ◌-◌, ◌^◌, min, option_map, unwrap_or, if◌then◌else◌};
 ghost use Rattle.vx_array.specs.TreeOf.{unboxed, tree_of};
@@ -32,12 +32,12 @@ use vx_values::{
 };
 
 impl ArrayRef {
-    /// Integers of `width` bits each, null where `valid` is false, with the patches' values where they stand. The bytes
-    /// are those of whole blocks of 1,024 rows. Children: the patches' indices and values, where there are patches.
+    /// Integers of `width` bits each, null where `valid` is false; in a patched row the patch's value. The bytes are those
+    /// of whole blocks of 1,024 rows. Children 0 and 1: the patches' indices and values, where there are patches.
     ///
     /// Refuses MismatchedTypes where the patches' values aren't non-nullable integers of the type; then LengthMismatch
     /// where the bytes, the mask or the patches are of another number of rows; then OutOfBounds where the width is above
-    /// the type's bits, a signed type's less one; then MismatchedTypes where the mask has a false in a non-nullable node.
+    /// the type's bits, less one of a signed type; then MismatchedTypes where the mask has a false in a non-nullable node.
     #[tactic(auto, using(crate::proofs::Making::packed_array))]
     pub fn bit_packed(
         alloc: Global,
@@ -73,7 +73,7 @@ impl ArrayRef {
     }
 }
 
-// Why the node isn't made of these.
+// The refusal of these inputs, if there is one.
 fn refusal(
     ptype: PType,
     width: u32,
@@ -101,7 +101,7 @@ fn refusal(
     None
 }
 
-// Whether the patches that there are have values of the type.
+// Whether the patches, if any, have values of the type.
 fn has_values_of(patches: &Option<Patches>, ptype: PType) -> bool
     ensures { result ≡ patches_of_type ptype patches.now }
 {
@@ -113,7 +113,7 @@ fn has_values_of(patches: &Option<Patches>, ptype: PType) -> bool
     }
 }
 
-// Whether they are of an array of this length.
+// Whether the patches, if any, are of an array of this length.
 fn is_of_length(patches: &Option<Patches>, len: u64) -> bool
     ensures { result ≡ patches_length len patches.now }
 {
@@ -123,7 +123,7 @@ fn is_of_length(patches: &Option<Patches>, len: u64) -> bool
     }
 }
 
-// Patches in a box, or as they were where memory is wanting.
+// The patches, if any, in a box; handed back where memory is wanting.
 fn boxed(alloc: Global, patches: Option<Patches>) -> Result<Option<Box<Patches>>, Option<Patches>>
     ensures { MatchResult result (λ boxed. unboxed boxed ≡ patches) (λ back. back ≡ patches) }
 {
@@ -136,7 +136,7 @@ fn boxed(alloc: Global, patches: Option<Patches>) -> Result<Option<Box<Patches>>
     }
 }
 
-// Tells a proof that the patches are well formed.
+// Tells a proof that the patches, if any, are well formed.
 fn known_patches(patches: &Option<Patches>)
     ensures { IfSome patches.now WellFormedPatches }
 {
@@ -145,7 +145,7 @@ fn known_patches(patches: &Option<Patches>)
     }
 }
 
-// The patch of a row, where there is one.
+// The patch of a row, None where the row has none.
 #[cycle(cell_at)]
 fn patch_at(patches: &Option<Box<Patches>>, row: u64) -> Option<Cell<'_>>
     requires { IfSome (unboxed patches.now) (λ p. IsTrue (is_flat (tree_type p.values))) }
@@ -157,7 +157,7 @@ fn patch_at(patches: &Option<Box<Patches>>, row: u64) -> Option<Cell<'_>>
     }
 }
 
-// A row: null where it isn't valid, else its patch, or its bits where it has none.
+// A row: null where it isn't valid, else its patch, else its bits.
 #[cycle(cell_at)]
 pub(crate) fn unpacked_at<'a>(
     width: u32,
@@ -180,7 +180,7 @@ pub(crate) fn unpacked_at<'a>(
     }
 }
 
-// The bytes of the patches that there are.
+// The bytes of the patches, if any. Saturates at 2^128 - 1.
 #[cycle(nbytes)]
 fn patches_bytes(patches: &Option<Box<Patches>>) -> u128
     ensures { result ≡ min (patches_size (unboxed patches.now)) (2 ^ 128 - 1) }
@@ -191,7 +191,7 @@ fn patches_bytes(patches: &Option<Box<Patches>>) -> u128
     }
 }
 
-// The bytes.
+// The bytes of the node: packed rows, validity, patches. Saturates at 2^128 - 1.
 #[cycle(nbytes)]
 pub(crate) fn packed_bytes(
     width: u32,
@@ -205,7 +205,7 @@ pub(crate) fn packed_bytes(
     own.saturating_add(patches_bytes(patches))
 }
 
-// A copy of the patches that there are.
+// A deep copy of the patches, if any.
 #[cycle(copy)]
 fn copied_patches(
     alloc: Global,
@@ -219,7 +219,7 @@ fn copied_patches(
     }
 }
 
-// A copy.
+// A deep copy of the node.
 #[cycle(copy)]
 pub(crate) fn copied_packed(
     alloc: Global,
@@ -234,12 +234,12 @@ pub(crate) fn copied_packed(
     ensures { OrMemory result (λ copy. tree_of copy ≡ packed_of (plain_packed ptype width packed.now len valid.now nullability) (unboxed patches.now)) }
 {
     let packed = packed.copy(alloc)?;
-    let valid = copy_validity(valid, alloc)?;
+    let valid = copy_validity(alloc, valid)?;
     let patches = copied_patches(alloc, patches)?;
     Ok(Node::BitPacked(ptype, width, packed, len, valid, patches, nullability))
 }
 
-// The integers with the patches that there are.
+// The integers, each patched row with its patch's value.
 fn written(values: Ints, patches: &Option<Box<Patches>>) -> Ints
     requires integers { IfSome (unboxed patches.now) (λ p. tree_type p.values ≡ types.primitive (ptype_of values) NonNullable) }
     requires rows { IfSome (unboxed patches.now) (λ p. length (wholes_of values) ≡ p.array_len) }
@@ -252,7 +252,7 @@ fn written(values: Ints, patches: &Option<Box<Patches>>) -> Ints
     }
 }
 
-// The rows.
+// All rows: unpacks first, and then writes the patches over. 0 beneath nulls.
 pub(crate) fn decoded_packed(
     alloc: Global,
     ptype: PType,
@@ -271,5 +271,5 @@ pub(crate) fn decoded_packed(
 {
     let values = Ints::unpacked(alloc, ptype, width, packed.as_slice(), len)?;
     let values = written(values, patches);
-    Ok(behind(values, copy_validity(valid, alloc)?))
+    Ok(behind(values, copy_validity(alloc, valid)?))
 }

@@ -20,8 +20,8 @@ use vx_flat::flat_refusal;
 use vx_values::{copy_validity, gathered_validity, keep};
 
 impl ArrayRef {
-    /// A tree of truth values, null where `valid` is false. Refuses LengthMismatch where the mask hasn't a bit a row,
-    /// then MismatchedTypes where it has a false in a non-nullable node.
+    /// Truth values, null where `valid` is false. No children; takes no memory. Refuses LengthMismatch where the mask
+    /// hasn't a bit a row, then MismatchedTypes where it has a false in a non-nullable node.
     pub fn bool(
         values: Mask,
         valid: Option<Mask>,
@@ -38,9 +38,9 @@ impl ArrayRef {
         }
     }
 
-    // The same of validity that is known to be admitted.
+    /// `bool` of validity that is known to be admitted.
     #[tactic(auto, using(crate::proofs::Making::bool_array))]
-    pub(crate) fn bool_of(values: Mask, valid: Option<Mask>, nullability: Nullability) -> ArrayRef
+    pub fn bool_of(values: Mask, valid: Option<Mask>, nullability: Nullability) -> ArrayRef
         requires { primitive_refusal (length values) valid nullability ≡ None }
         ensures { result ≡ bool values (kept valid) nullability }
     {
@@ -53,7 +53,7 @@ impl ArrayRef {
     }
 }
 
-// A copy.
+// A copy of the node.
 pub(crate) fn copied_bool(
     alloc: Global,
     values: &Mask,
@@ -63,11 +63,11 @@ pub(crate) fn copied_bool(
     ensures { OrMemory result (λ copy. tree_of copy ≡ bool values.now valid.now nullability) }
 {
     let values = values.copy(alloc)?;
-    let valid = copy_validity(valid, alloc)?;
+    let valid = copy_validity(alloc, valid)?;
     Ok(Node::Bool(values, valid, nullability))
 }
 
-// The rows of ranges of a plain tree, as a plain tree.
+// The rows of ranges of a plain node, as a plain tree.
 pub(crate) fn gathered_bool(
     alloc: Global,
     values: &Mask,

@@ -1,4 +1,4 @@
-//! Integers by the differences between them, in blocks of 1,024 rows.
+//! Integers by their differences, in blocks of 1,024 rows.
 
 ghost use Rattle.std.specs.Prelude.{◌≡◌};
 ghost use Rattle.vx_array.specs.TreeOf.{tree_of};
@@ -15,13 +15,13 @@ use vx_base::{DType, Mask, Nullability, Refused, VortexError, VortexResult};
 use vx_values::{copy_validity, has_length, is_allowed, keep};
 
 impl ArrayRef {
-    /// `len` integers, each the sum of its block's base and of the differences from the block's first row up to its own,
-    /// wrapping in the bases' type; null where `valid` is false. Child 0: `bases`, one for each block of 1,024 rows; child
-    /// 1: `deltas`, 1,024 for each block.
+    /// `len` integers: in each block of 1,024 rows the prefix sums of its differences from its base on, wrapping in the
+    /// bases' type; null where `valid` is false. Child 0: `bases`, one for each block; child 1: `deltas`, 1,024 for each
+    /// block.
     ///
-    /// Refuses MismatchedTypes where the bases aren't non-nullable integers or the differences of another type; then
-    /// LengthMismatch where there aren't so many of them or the mask hasn't a bit a row; then MismatchedTypes where the
-    /// mask has a false in a non-nullable node.
+    /// Refuses MismatchedTypes where the bases aren't non-nullable integers or the differences are of another type; then
+    /// LengthMismatch where bases or differences are too many or too few, or the mask hasn't a bit a row; then
+    /// MismatchedTypes where the mask has a false in a non-nullable node.
     #[tactic(auto, using(crate::proofs::Blocks::delta_array))]
     pub fn delta(
         alloc: Global,
@@ -62,7 +62,7 @@ impl ArrayRef {
     }
 }
 
-// Why the node isn't made of these.
+// The refusal of these inputs, if there is one.
 fn refusal(
     bases: &ArrayRef,
     deltas: &ArrayRef,
@@ -86,7 +86,7 @@ fn refusal(
     None
 }
 
-// A copy, of a copy of the differences.
+// A deep copy of the node, over the caller's copy of the differences.
 #[cycle(copy)]
 pub(crate) fn copied_delta(
     alloc: Global,
@@ -100,7 +100,7 @@ pub(crate) fn copied_delta(
 {
     let bases = Box::new(alloc, bases.copy(alloc)?)?;
     let deltas = Box::new(alloc, deltas)?;
-    let valid = copy_validity(valid, alloc)?;
+    let valid = copy_validity(alloc, valid)?;
     Ok(Node::Delta(
         Child { array: bases },
         Child { array: deltas },

@@ -1,4 +1,4 @@
-//! The rows of a delta node: one by itself, and all in one pass.
+//! Random access to the rows of a delta node.
 
 ghost use Rattle.std.specs.Prelude.{◌≡◌, ◌<◌, ◌≤ℤ◌, ◌+◌, ◌-◌, ◌*◌, ◌^◌, IsTrue, if◌then◌else◌, length, pos, negsuc};
 ghost use Rattle.vx_array.specs.Sums.{sum_before};
@@ -16,7 +16,7 @@ use vx_base::{Cell, Mask};
 use vx_flat::wrapped;
 use vx_values::is_valid;
 
-// The number in a row, null where it isn't valid.
+// A row: its base and the differences of its block up to it, wrapped; null where it isn't valid.
 #[cycle(cell_at)]
 pub(crate) fn summed_at(
     base: i128,
@@ -37,7 +37,8 @@ pub(crate) fn summed_at(
     Cell::Int(wrapped(ptype, sum_at(base, deltas, row)))
 }
 
-// The base of a row's block and the differences from there up to the row, summed.
+// The base plus the differences from the first row of the row's block up to the row, not wrapped: at most 1,025 numbers of
+// 64 bits.
 #[cycle(cell_at)]
 fn sum_at(base: i128, deltas: &ArrayRef, row: u64) -> i128
     requires least { negsuc (2 ^ 63 - 1) ≤ℤ base }

@@ -1,4 +1,4 @@
-//! Values by their places.
+//! Dictionaries: values by their places.
 
 ghost use Rattle.std.specs.List.{list_all};
 ghost use Rattle.std.specs.Prelude.{◌≡◌, IsTrue, MatchResult, true, length};
@@ -16,13 +16,14 @@ use crate::array::{ArrayRef, Child, Node};
 use crate::node::Made;
 use std::alloc::Global;
 use vx_base::{Cell, Refused, VortexError, VortexResult};
-use vx_flat::is_place;
+use vx_flat::{constant_is_place, is_place};
 
 impl ArrayRef {
-    /// The value at each code's place in `values`; null where the code or that value is. Child 0: `codes`, as many
-    /// rows; child 1: `values`. The type is the values', nullable where the values or the codes are. Refuses
-    /// MismatchedTypes where the codes are no integers or the values not of a leaf or timestamp type, then OutOfBounds where a code
-    /// that isn't null is no place of a value.
+    /// `values[code]` in each row; null where the code is null or that value is. Child 0: `codes`, one a row; child 1:
+    /// `values`. The type is the values', nullable where the values or the codes are.
+    ///
+    /// Refuses MismatchedTypes where the codes aren't integers or the values aren't of a leaf type or timestamps; then
+    /// OutOfBounds where a code is neither null nor in bounds of `values`. Each code is tested, of a Constant one.
     pub fn dict(alloc: Global, codes: ArrayRef, values: ArrayRef) -> Made<(ArrayRef, ArrayRef)>
         ensures { Makes (dict_refusal codes values) (dict codes values) (codes, values) result }
     {
@@ -35,8 +36,8 @@ impl ArrayRef {
         }
     }
 
-    /// The same of codes that are known to be null or places in `values`. It looks at no row, and only want of memory
-    /// hands both back.
+    /// `dict` of codes that are known to be null or in bounds. Reads no row. Want of memory, the only refusal, hands both
+    /// back.
     #[tactic(auto, using(crate::proofs::Making::dict_array))]
     pub fn dict_of_places(
         alloc: Global,
@@ -72,7 +73,7 @@ impl ArrayRef {
         }
     }
 
-    // Whether each row is null or a place among so many values, row by row.
+    // Whether each row is null or in bounds of `values` values, row by row.
     fn has_places(&self, values: u64) -> bool
         requires { IsTrue (is_integer (tree_type self.now)) }
         ensures { result ≡ list_all (is_place values) (rows self.now) }
@@ -86,7 +87,7 @@ impl ArrayRef {
     }
 }
 
-// Why the node isn't made of these.
+// The refusal of these inputs, if there is one.
 fn refusal(alloc: Global, codes: &ArrayRef, values: &ArrayRef) -> Option<VortexError>
     ensures { result ≡ dict_refusal codes.now values.now }
 {
@@ -99,12 +100,23 @@ fn refusal(alloc: Global, codes: &ArrayRef, values: &ArrayRef) -> Option<VortexE
     None
 }
 
-// Whether each code is null or a place among so many values: of the decoded column where there is memory for it.
+// Whether each code is null or in bounds of `values` values. A constant's code is tested once.
 fn have_places(alloc: Global, codes: &ArrayRef, values: u64) -> bool
     requires { IsTrue (is_integer (tree_type codes.now)) }
     ensures { result ≡ list_all (is_place values) (rows codes.now) }
 {
-    // Without values only nulls are places, and decoded a null is 0.
+    match &codes.node {
+        Node::Constant(code, len) => constant_is_place(code, *len, values),
+        _ => decoded_have_places(alloc, codes, values),
+    }
+}
+
+// `have_places` in one pass over the decoded codes; row by row where memory for them is wanting.
+fn decoded_have_places(alloc: Global, codes: &ArrayRef, values: u64) -> bool
+    requires { IsTrue (is_integer (tree_type codes.now)) }
+    ensures { result ≡ list_all (is_place values) (rows codes.now) }
+{
+    // A null decodes to code 0, which is in bounds unless there are no values.
     if values == 0 {
         return codes.has_places(values);
     }
@@ -115,7 +127,7 @@ fn have_places(alloc: Global, codes: &ArrayRef, values: u64) -> bool
     }
 }
 
-// Both in boxes, or as they were where memory is wanting.
+// Both in boxes; handed back where memory is wanting.
 pub(crate) fn boxed(
     alloc: Global,
     codes: ArrayRef,
@@ -132,7 +144,7 @@ pub(crate) fn boxed(
     }
 }
 
-// The value whose place a code is, null where the code is null.
+// `values[code]`, null where the code is null.
 #[cycle(cell_at)]
 pub(crate) fn picked_at<'a>(values: &'a ArrayRef, code: Cell<'_>) -> Cell<'a>
     requires flat { IsTrue (is_flat (tree_type values.now)) }
@@ -146,7 +158,7 @@ pub(crate) fn picked_at<'a>(values: &'a ArrayRef, code: Cell<'_>) -> Cell<'a>
     }
 }
 
-// A copy, of a copy of the values.
+// A deep copy of the node, over the caller's copy of the values.
 #[cycle(copy)]
 pub(crate) fn copied_dict(alloc: Global, codes: &ArrayRef, values: ArrayRef) -> VortexResult<Node>
     ensures { OrMemory result (λ copy. tree_of copy ≡ dict codes.now values) }

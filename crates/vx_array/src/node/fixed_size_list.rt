@@ -1,4 +1,4 @@
-//! Lists of one size.
+//! Fixed-size lists.
 
 ghost use Rattle.std.specs.Prelude.{◌≡◌};
 ghost use Rattle.vx_array.specs.TreeOf.{tree_of};
@@ -17,10 +17,11 @@ use vx_flat::have_elements;
 use vx_values::{copy_validity, has_length, is_allowed, keep};
 
 impl ArrayRef {
-    /// Lists of `list_size` elements each, in order, null where `valid` is false; beneath nulls any elements may stand.
-    /// Child 0: `elements`, `len` times `list_size` rows. Refuses LengthMismatch where there aren't so many, with the
-    /// product taken exactly, or the mask hasn't a bit a row; then MismatchedTypes where the mask has a false in a
-    /// non-nullable node.
+    /// `len` lists of `list_size` elements each, in order, null where `valid` is false; beneath nulls any elements may
+    /// stand. Child 0: `elements`, `len * list_size` rows.
+    ///
+    /// Refuses LengthMismatch where the elements are too many or too few, with the product taken exactly, or the mask
+    /// hasn't a bit a row; then MismatchedTypes where the mask has a false in a non-nullable node.
     #[tactic(auto, using(crate::proofs::Making::fixed_size_list_array))]
     pub fn fixed_size_list(
         alloc: Global,
@@ -68,7 +69,7 @@ impl ArrayRef {
     }
 }
 
-// Why the node isn't made of these.
+// The refusal of these inputs, if there is one.
 fn refusal(
     elements: &ArrayRef,
     list_size: u32,
@@ -87,7 +88,7 @@ fn refusal(
     None
 }
 
-// The type of lists of so many such elements.
+// The type of lists of these elements.
 fn fixed_type(
     alloc: Global,
     elements: &ArrayRef,
@@ -101,7 +102,7 @@ fn fixed_type(
     Ok(DType::fixed_size_list(items, list_size, nullability))
 }
 
-// A copy, of a copy of the elements.
+// A copy of the node, over the caller's copy of the elements.
 pub(crate) fn copied_fixed(
     alloc: Global,
     elements: ArrayRef,
@@ -113,7 +114,7 @@ pub(crate) fn copied_fixed(
     ensures { OrMemory result (λ copy. tree_of copy ≡ fixed_size_list elements list_size len valid.now nullability) }
 {
     let elements = Box::new(alloc, elements)?;
-    let valid = copy_validity(valid, alloc)?;
+    let valid = copy_validity(alloc, valid)?;
     Ok(Node::FixedSizeList(
         Child { array: elements },
         list_size,

@@ -1,4 +1,4 @@
-//! Integers, each less a reference.
+//! Frames of reference: integers, each less one reference.
 
 ghost use Rattle.std.specs.Prelude.{◌≡◌};
 ghost use Rattle.vx_array.specs.TreeOf.{tree_of};
@@ -15,9 +15,9 @@ use std::alloc::Global;
 use vx_base::{DType, Refused, Scalar, VortexError, VortexResult};
 
 impl ArrayRef {
-    /// The sums of the reference and the integers of `encoded`, wrapping in the reference's type; null where `encoded`
-    /// is. Child 0: `encoded`, as many rows. Refuses MismatchedTypes where the reference is no integer or null, or where
-    /// `encoded` isn't of the unsigned type of its width.
+    /// `reference + encoded[row]` in each row, wrapping in the reference's type; null where `encoded` is. Child 0:
+    /// `encoded`, as many rows. Refuses MismatchedTypes where the reference is null or no integer, or `encoded` isn't of
+    /// the unsigned type of its width.
     #[tactic(auto, using(crate::proofs::Making::frame_array))]
     pub fn frame_of_reference(
         alloc: Global,
@@ -50,7 +50,7 @@ impl ArrayRef {
     }
 }
 
-// Why the node isn't made of these.
+// The refusal of these inputs, if there is one.
 fn refusal(encoded: &ArrayRef, reference: &Scalar) -> Option<VortexError>
     ensures { result ≡ for_refusal encoded.now reference.now }
 {
@@ -66,7 +66,7 @@ fn refusal(encoded: &ArrayRef, reference: &Scalar) -> Option<VortexError>
     }
 }
 
-// A copy, of a copy of the differences.
+// A copy of the node, over the caller's copy of the differences.
 pub(crate) fn copied_frame(
     alloc: Global,
     encoded: ArrayRef,

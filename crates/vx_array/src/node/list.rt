@@ -1,4 +1,4 @@
-//! Lists by their offsets into elements.
+//! Lists by offsets into their elements.
 
 ghost use Rattle.std.specs.Prelude.{◌≡◌, None};
 ghost use Rattle.vx_array.specs.TreeOf.{tree_of};
@@ -17,7 +17,7 @@ use vx_base::{DType, Mask, Nullability, Refused, VortexError, VortexResult};
 use vx_values::{copy_validity, has_length, is_allowed, keep};
 
 impl ArrayRef {
-    /// Lists, in each row the elements from its offset to the next one, null where `valid` is false; beneath nulls any
+    /// Lists, in each row `elements[offsets[row] .. offsets[row + 1]]`, null where `valid` is false; beneath nulls any
     /// elements may stand. Child 0: `elements`; child 1: `offsets`, one more than there are rows.
     ///
     /// Refuses MismatchedTypes where the offsets aren't non-nullable integers; then LengthMismatch where there is no
@@ -41,8 +41,8 @@ impl ArrayRef {
         }
     }
 
-    /// The same of offsets that are known to be some into `elements`. It looks at no row, and only want of memory hands
-    /// the inputs back.
+    /// `list` of inputs that are known to be admitted. Reads no offset. Want of memory, the only refusal, hands the inputs
+    /// back.
     #[tactic(auto, using(crate::proofs::Making::list_array))]
     pub fn list_of_offsets(
         alloc: Global,
@@ -85,7 +85,7 @@ impl ArrayRef {
     }
 }
 
-// Why the node isn't made of these.
+// The refusal of these inputs, if there is one.
 fn refusal(
     elements: &ArrayRef,
     offsets: &ArrayRef,
@@ -109,7 +109,7 @@ fn refusal(
     None
 }
 
-// The type of lists of such elements.
+// The type of lists of these elements.
 fn list_type(alloc: Global, elements: &ArrayRef, nullability: Nullability) -> VortexResult<DType>
     ensures { OrMemory result (λ dtype. type_of dtype ≡ types.list (tree_type elements.now) nullability) }
 {
@@ -117,7 +117,7 @@ fn list_type(alloc: Global, elements: &ArrayRef, nullability: Nullability) -> Vo
     Ok(DType::list(Box::new(alloc, items)?, nullability))
 }
 
-// A copy, of a copy of the offsets.
+// A deep copy of the node, over the caller's copy of the offsets.
 #[cycle(copy)]
 pub(crate) fn copied_list(
     alloc: Global,
@@ -130,7 +130,7 @@ pub(crate) fn copied_list(
 {
     let elements = Box::new(alloc, elements.copy(alloc)?)?;
     let offsets = Box::new(alloc, offsets)?;
-    let valid = copy_validity(valid, alloc)?;
+    let valid = copy_validity(alloc, valid)?;
     Ok(Node::List(
         Child { array: elements },
         Child { array: offsets },

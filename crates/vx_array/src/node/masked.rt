@@ -1,4 +1,4 @@
-//! A tree behind a mask.
+//! A tree behind a validity mask.
 
 ghost use Rattle.std.specs.Prelude.{◌≡◌, ◌<◌, ◌-◌, length, IsTrue, Some, slice_index_or, false, if◌then◌else◌};
 ghost use Rattle.vx_array.specs.TreeOf.{tree_of};
@@ -17,8 +17,10 @@ use std::alloc::Global;
 use vx_base::{Cell, Mask, Refused, VortexError, VortexResult};
 
 impl ArrayRef {
-    /// The child's rows, null where `valid` is false. Refuses MismatchedTypes where the child isn't of a nullable leaf
-    /// or timestamp type, then LengthMismatch where the mask hasn't a bit a row, then MismatchedTypes where the child has a null row.
+    /// The child's rows, null where `valid` is false. Child 0: `child`, as many rows.
+    ///
+    /// Refuses MismatchedTypes where the child isn't of a nullable leaf type or nullable timestamps; then LengthMismatch
+    /// where the mask hasn't a bit a row; then MismatchedTypes where the child has a null row.
     #[tactic(auto, using(crate::proofs::Making::masked_array))]
     pub fn masked(alloc: Global, child: ArrayRef, valid: Mask) -> Made<(ArrayRef, Mask)>
         ensures { Makes (masked_refusal child valid) (masked child valid) (child, valid) result }
@@ -80,7 +82,7 @@ pub(crate) fn masked_at<'a>(child: &'a ArrayRef, valid: &Mask, row: u64) -> Cell
     }
 }
 
-// A copy, of a copy of the child.
+// A copy of the node, over the caller's copy of the child.
 pub(crate) fn copied_masked(alloc: Global, child: ArrayRef, valid: &Mask) -> VortexResult<Node>
     ensures { OrMemory result (λ copy. tree_of copy ≡ masked child valid.now) }
 {

@@ -7,7 +7,7 @@ use crate::array::{ArrayRef, Node};
 use vx_base::DType;
 
 impl ArrayRef {
-    /// So many nulls, of the type of nulls alone. No children.
+    /// `len` nulls, of the type of nulls alone. No children; takes no memory.
     #[tactic(auto, using(crate::proofs::Making::nulls_array))]
     pub fn null(len: u64) -> ArrayRef
         ensures { result ≡ nulls len }

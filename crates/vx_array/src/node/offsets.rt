@@ -1,4 +1,4 @@
-//! Offsets into bytes or elements.
+//! Offsets into bytes or elements: tests, and single ones.
 
 ghost use Rattle.std.specs.List.{list_all};
 ghost use Rattle.std.specs.Prelude.{◌≡◌, ◌<◌, ◌≤◌, ◌≤ℤ◌, ◌+◌, ◌-◌, ◌^◌, ◌&&◌, IsTrue, not, int_le, length, pos, negsuc};
@@ -20,14 +20,14 @@ pub(crate) fn are_integers(dtype: &DType) -> bool
     dtype.is_integer() && !dtype.is_nullable()
 }
 
-// The rows between so many offsets.
+// The number of rows between offsets: one less than there are.
 pub(crate) fn row_count(offsets: &ArrayRef) -> u64
     ensures { result ≡ length (rows offsets.now) - 1 }
 {
     offsets.len().saturating_sub(1)
 }
 
-// The offset at a place.
+// The offset at a place, 0 where there is no unsigned number.
 #[cycle(cell_at)]
 #[tactic(auto, using(crate::proofs::Flat::flats))]
 pub(crate) fn offset_at(offsets: &ArrayRef, place: u64) -> u128
@@ -41,7 +41,7 @@ pub(crate) fn offset_at(offsets: &ArrayRef, place: u64) -> u128
     }
 }
 
-// Whether they are offsets into so many items, from the first to the end.
+// Whether the offsets begin at 0, never fall and end at the number of items.
 pub(crate) fn are_offsets(offsets: &ArrayRef, items: u64) -> bool
     requires integers { IsTrue (is_integer (tree_type offsets.now)) }
     requires some { 1 ≤ length (rows offsets.now) }
@@ -54,7 +54,7 @@ pub(crate) fn are_offsets(offsets: &ArrayRef, items: u64) -> bool
         && never_fall(offsets)
 }
 
-// Whether none lies behind so many items.
+// Whether each offset lies in `0 ..= items`.
 fn lie_within(offsets: &ArrayRef, items: u64) -> bool
     requires { IsTrue (is_integer (tree_type offsets.now)) }
     ensures { result ≡ list_all (lies_between 0 (items + 1)) (rows offsets.now) }
@@ -76,7 +76,7 @@ fn lies_within(offset: Option<i128>, items: u64) -> bool
     }
 }
 
-// Whether none is above its neighbour behind.
+// Whether the offsets never fall.
 #[tactic(auto, using(crate::proofs::Falls::falls))]
 fn never_fall(offsets: &ArrayRef) -> bool
     requires { IsTrue (is_integer (tree_type offsets.now)) }
@@ -90,7 +90,7 @@ fn never_fall(offsets: &ArrayRef) -> bool
     true
 }
 
-// The whole number at a place.
+// The whole number at a place, 0 of null.
 #[cycle(cell_at)]
 #[tactic(auto, using(crate::proofs::Flat::flats))]
 pub(crate) fn whole_at(offsets: &ArrayRef, place: u64) -> i128
@@ -104,7 +104,7 @@ pub(crate) fn whole_at(offsets: &ArrayRef, place: u64) -> i128
     offsets.cell_at(place).whole()
 }
 
-// Whether the one before a place is at most the one there.
+// Whether the offset before a place is at most the one there.
 fn is_at_most(offsets: &ArrayRef, place: u64) -> bool
     requires integers { IsTrue (is_integer (tree_type offsets.now)) }
     requires second { 1 ≤ place }

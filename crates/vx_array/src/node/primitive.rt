@@ -21,8 +21,8 @@ use vx_flat::flat_refusal;
 use vx_values::{Ints, copy_validity, gathered_validity, keep};
 
 impl ArrayRef {
-    /// A tree of integers, null where `valid` is false. Refuses LengthMismatch where the mask hasn't a bit a row, then
-    /// MismatchedTypes where it has a false in a non-nullable node.
+    /// Integers, null where `valid` is false. No children; takes no memory. Refuses LengthMismatch where the mask hasn't a
+    /// bit a row, then MismatchedTypes where it has a false in a non-nullable node.
     pub fn primitive(
         values: Ints,
         valid: Option<Mask>,
@@ -39,13 +39,9 @@ impl ArrayRef {
         }
     }
 
-    // The same of validity that is known to be admitted.
+    /// `primitive` of validity that is known to be admitted.
     #[tactic(auto, using(crate::proofs::Making::primitive_array))]
-    pub(crate) fn primitive_of(
-        values: Ints,
-        valid: Option<Mask>,
-        nullability: Nullability,
-    ) -> ArrayRef
+    pub fn primitive_of(values: Ints, valid: Option<Mask>, nullability: Nullability) -> ArrayRef
         requires { primitive_refusal (length (wholes_of values)) valid nullability ≡ None }
         ensures { result ≡ primitive (ptype_of values) (wholes_of values) (kept valid) nullability }
     {
@@ -60,7 +56,7 @@ impl ArrayRef {
     }
 }
 
-// A copy.
+// A copy of the node.
 pub(crate) fn copied_primitive(
     alloc: Global,
     values: &Ints,
@@ -70,11 +66,11 @@ pub(crate) fn copied_primitive(
     ensures { OrMemory result (λ copy. tree_of copy ≡ primitive (ptype_of values.now) (wholes_of values.now) valid.now nullability) }
 {
     let values = values.copy(alloc)?;
-    let valid = copy_validity(valid, alloc)?;
+    let valid = copy_validity(alloc, valid)?;
     Ok(Node::Primitive(values, valid, nullability))
 }
 
-// The rows of ranges of a plain tree, as a plain tree.
+// The rows of ranges of a plain node, as a plain tree.
 pub(crate) fn gathered_primitive(
     alloc: Global,
     values: &Ints,

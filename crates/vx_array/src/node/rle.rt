@@ -1,4 +1,4 @@
-//! Runs in blocks of 1,024 rows: values by their places, which are counted from where a block's values begin.
+//! Runs in blocks of 1,024 rows. The indices count from where the block's values begin, so that they stay below 1,024.
 
 ghost use Rattle.std.specs.Prelude.{◌≡◌, ◌*◌, MatchResult, None};
 ghost use Rattle.vx_array.specs.TreeOf.{tree_of};
@@ -15,16 +15,16 @@ use crate::node::{Made, boxed};
 use std::alloc::Global;
 use vx_base::{Refused, VortexError, VortexResult};
 
-// The rows of a block.
+// The rows of a block, as row numbers count them.
 pub(crate) const BLOCK_ROWS: u64 = 1024;
 
 impl ArrayRef {
-    /// `len` rows, each the one of `values` at the sum of two numbers: that of `indices` in the row, and that of
-    /// `offsets` in the row's block of 1,024. Child 0: `values`; child 1: `indices`, 1,024 for each block; child 2:
-    /// `offsets`, one for each block. Indices behind the last row are not looked at.
+    /// `values[offsets[row / 1024] + indices[row]]` in each of `len` rows. Child 0: `values`; child 1: `indices`, 1,024
+    /// for each block of rows; child 2: `offsets`, one for each block. Indices behind the last row are not tested.
     ///
-    /// Refuses MismatchedTypes where the values are no integers, or the indices or the offsets no non-nullable ones; then
-    /// LengthMismatch where there aren't so many of them; then OutOfBounds where a sum is no place of a value.
+    /// Refuses MismatchedTypes where the values aren't integers, or the indices or offsets aren't non-nullable ones; then
+    /// LengthMismatch where indices or offsets are too many or too few; then OutOfBounds where a sum is out of bounds of
+    /// `values`.
     pub fn rle(
         alloc: Global,
         values: ArrayRef,
@@ -43,8 +43,7 @@ impl ArrayRef {
         }
     }
 
-    /// The same of sums that are known to be places in `values`. It looks at no row, and only want of memory hands the
-    /// three back.
+    /// `rle` of inputs that are known to be admitted. Reads no row. Want of memory, the only refusal, hands the three back.
     #[tactic(auto, using(crate::proofs::Blocks::rle_array))]
     pub fn rle_of_places(
         alloc: Global,
@@ -87,7 +86,7 @@ impl ArrayRef {
     }
 }
 
-// Why the node isn't made of these.
+// The refusal of these inputs, if there is one.
 fn refusal(
     alloc: Global,
     values: &ArrayRef,
@@ -111,21 +110,21 @@ fn refusal(
     None
 }
 
-// The blocks of so many rows, of which the last may have fewer.
+// The blocks of `len` rows: `ceil(len / 1024)`. The sum needs 65 bits.
 pub(crate) fn block_count(len: u64) -> u64
     ensures { result ≡ block_count len }
 {
     ((u128::from(len) + 1023) / 1024) as u64
 }
 
-// The rows that so many full blocks have.
+// The rows of full blocks.
 pub(crate) fn fill_blocks(blocks: u64) -> u128
     ensures { result ≡ block_rows * blocks }
 {
     1024 * u128::from(blocks)
 }
 
-// The three in boxes, or as they were where memory is wanting.
+// The three in boxes; handed back where memory is wanting.
 fn three_boxed(
     alloc: Global,
     values: ArrayRef,
@@ -147,7 +146,7 @@ fn three_boxed(
     }
 }
 
-// A copy, of copies of the indices and the offsets.
+// A deep copy of the node, over the caller's copies of the indices and the offsets.
 #[cycle(copy)]
 pub(crate) fn copied_rle(
     alloc: Global,

@@ -1,4 +1,4 @@
-//! The places of the rows of runs in blocks: whether they are places of values, and the value at one.
+//! The places of rows in runs in blocks: whether they are in bounds, and the value at one.
 
 ghost use Rattle.std.specs.List.{list_all};
 ghost use Rattle.std.specs.Prelude.{◌≡◌, ◌<◌, ◌*◌, ◌/◌, ◌+ℤ◌, IsTrue, length};
@@ -19,8 +19,8 @@ use std::alloc::Global;
 use vx_base::{Cell, VortexResult};
 use vx_flat::{is_place, sums_are_places};
 
-// Whether the sum in each of so many rows is a place among so many values: of the decoded columns where there is memory
-// for them.
+// Whether `offset + index` is in bounds of `values` values in every row: of the decoded columns, or row by row where memory
+// for them is wanting.
 pub(super) fn have_places(
     alloc: Global,
     values: u64,
@@ -40,7 +40,7 @@ pub(super) fn have_places(
     }
 }
 
-// The same of the decoded columns.
+// `have_places` of the decoded columns.
 fn decoded_have_places(
     alloc: Global,
     values: u64,
@@ -61,7 +61,7 @@ fn decoded_have_places(
     sums_are_places(alloc, values, &numbers, &begins, len)
 }
 
-// The same row by row.
+// `have_places` row by row.
 #[tactic(auto, using(vx_flat::proofs::RunPlaces::sum_places))]
 fn rows_have_places(values: u64, indices: &ArrayRef, offsets: &ArrayRef, len: u64) -> bool
     requires indices { IsTrue (is_integer (tree_type indices.now)) }
@@ -78,7 +78,7 @@ fn rows_have_places(values: u64, indices: &ArrayRef, offsets: &ArrayRef, len: u6
     true
 }
 
-// The place of a row's value.
+// The place of a row's value: `offsets[row / 1024] + indices[row]`.
 fn place_at(indices: &ArrayRef, offsets: &ArrayRef, row: u64) -> i128
     requires indices { IsTrue (is_integer (tree_type indices.now)) }
     requires offsets { IsTrue (is_integer (tree_type offsets.now)) }
@@ -89,7 +89,7 @@ fn place_at(indices: &ArrayRef, offsets: &ArrayRef, row: u64) -> i128
     whole_at(offsets, row / BLOCK_ROWS) + whole_at(indices, row)
 }
 
-// The value at the sum of where a row's block begins and the row's own index.
+// `values[begin + index]`.
 #[cycle(cell_at)]
 #[tactic(auto, using(crate::proofs::Flat::flats))]
 pub(crate) fn rle_at(values: &ArrayRef, begin: i128, index: i128) -> Cell<'_>

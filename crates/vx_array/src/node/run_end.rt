@@ -18,11 +18,12 @@ use std::alloc::Global;
 use vx_base::{Refused, VortexError, VortexResult};
 
 impl ArrayRef {
-    /// Runs of `values`, each from where the run before it ends, the first from row 0, up to before the row where `ends`
-    /// ends it. Child 0: `ends`; child 1: `values`, as many. As many rows as the last end is.
+    /// Runs: `values[k]` in the rows `ends[k - 1] .. ends[k]`, the first from row 0. As many rows as the last end says.
+    /// Child 0: `ends`; child 1: `values`, as many.
     ///
-    /// Refuses MismatchedTypes where the ends aren't non-nullable integers or the values no integers; then LengthMismatch
-    /// where there aren't as many ends as values; then OutOfBounds where the ends don't rise from above 0.
+    /// Refuses MismatchedTypes where the ends aren't non-nullable integers or the values aren't integers; then
+    /// LengthMismatch where there aren't as many ends as values; then OutOfBounds where the ends don't rise strictly from
+    /// 1 or more.
     pub fn run_end(alloc: Global, ends: ArrayRef, values: ArrayRef) -> Made<(ArrayRef, ArrayRef)>
         ensures { Makes (run_end_refusal ends values) (run_end ends values) (ends, values) result }
     {
@@ -35,8 +36,8 @@ impl ArrayRef {
         }
     }
 
-    /// The same of ends that are known to rise from above 0. It looks at the last end alone, and only want of memory
-    /// hands both back.
+    /// `run_end` of inputs that are known to be admitted. Reads the last end alone, which is the number of rows. Want of
+    /// memory, the only refusal, hands both back.
     #[tactic(auto, using(crate::proofs::Runs::run_ends))]
     pub fn run_end_of_ends(
         alloc: Global,
@@ -72,7 +73,7 @@ impl ArrayRef {
     }
 }
 
-// Why the node isn't made of these.
+// The refusal of these inputs, if there is one.
 fn refusal(ends: &ArrayRef, values: &ArrayRef) -> Option<VortexError>
     ensures { result ≡ run_end_refusal ends.now values.now }
 {
@@ -88,7 +89,7 @@ fn refusal(ends: &ArrayRef, values: &ArrayRef) -> Option<VortexError>
     None
 }
 
-// Where the last run ends, 0 where there is none.
+// The end of the last run, 0 where there is none.
 #[tactic(auto, using(crate::proofs::Runs::few_ends))]
 fn last_end(ends: &ArrayRef) -> u64
     requires integers { IsTrue (is_integer (tree_type ends.now)) }
@@ -101,7 +102,7 @@ fn last_end(ends: &ArrayRef) -> u64
     offset_at(ends, ends.len() - 1) as u64
 }
 
-// The place of the run that a row lies in, found by halves.
+// The run that a row lies in, by binary search: the first whose end is above the row.
 #[cycle(cell_at)]
 #[tactic(auto, using(crate::proofs::Runs::searches))]
 pub(crate) fn run_at(ends: &ArrayRef, row: u64) -> u64
@@ -124,7 +125,7 @@ pub(crate) fn run_at(ends: &ArrayRef, row: u64) -> u64
     low
 }
 
-// A copy, of a copy of the values.
+// A deep copy of the node, over the caller's copy of the values.
 #[cycle(copy)]
 pub(crate) fn copied_runs(alloc: Global, ends: &ArrayRef, values: ArrayRef) -> VortexResult<Node>
     ensures { OrMemory result (λ copy. tree_of copy ≡ run_end ends.now values) }

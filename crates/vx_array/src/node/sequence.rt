@@ -1,4 +1,4 @@
-//! Integers, each a step from the one before.
+//! Arithmetic sequences of integers.
 
 ghost use Rattle.std.specs.Prelude.{◌≡◌, ◌<◌, ◌-◌, ◌||◌};
 ghost use Rattle.vx_base.specs.Answers.{SurelyDecided};
@@ -10,9 +10,8 @@ use vx_base::{DType, Nullability, PType, VortexError, VortexResult};
 use vx_flat::{are_held, is_held};
 
 impl ArrayRef {
-    /// `len` integers of a type, never null: `first`, and each further one `step` more than the one before. No children.
-    /// Refuses OutOfBounds where the step isn't a number of the type, or the first or the last row isn't, where there are
-    /// rows. It takes no memory.
+    /// `first + row * step` in each of `len` rows, never null. No children; takes no memory. Refuses OutOfBounds where the
+    /// step doesn't lie in the type, or, where there are rows, the first or the last row doesn't.
     #[tactic(auto, using(crate::proofs::Blocks::sequence_array))]
     pub fn sequence(
         ptype: PType,

@@ -1,4 +1,4 @@
-//! A scalar in every row but the patched ones.
+//! A scalar, the fill, in every row but the patched ones.
 
 ghost use Rattle.std.specs.List.{list_any};
 ghost use Rattle.std.specs.Prelude.{◌≡◌, ◌<◌, ◌+◌, ◌-◌, ◌^◌, IsTrue, min};
@@ -20,9 +20,8 @@ use vx_base::{Cell, Refused, Scalar, Value, VortexError, VortexResult};
 use vx_flat::constant_bytes;
 
 impl ArrayRef {
-    /// The patches' values in their rows, and `fill` in every other row of the patched array. Child 0: the patches'
-    /// indices; child 1: their values. The type is the fill's. Refuses MismatchedTypes where the patches' values are of
-    /// another type.
+    /// The patches' values in their rows, and `fill` in every other row. Child 0: the patches' indices; child 1: their
+    /// values. The type is the fill's. Refuses MismatchedTypes where the patches' values are of another type.
     #[tactic(auto, using(crate::proofs::Runs::sparse_array))]
     pub fn sparse(alloc: Global, patches: Patches, fill: Scalar) -> Made<(Patches, Scalar)>
         ensures { Makes (sparse_refusal patches fill) (sparse_of patches fill) (patches, fill) result }
@@ -50,7 +49,7 @@ impl ArrayRef {
     }
 }
 
-// Why the node isn't made of these.
+// The refusal of these inputs, if there is one.
 fn refusal(patches: &Patches, fill: &Scalar) -> Option<VortexError>
     ensures { result ≡ sparse_refusal patches.now fill.now }
 {
@@ -61,7 +60,7 @@ fn refusal(patches: &Patches, fill: &Scalar) -> Option<VortexError>
     }
 }
 
-// A row: its patch, or the fill where it has none.
+// A row: its patch, else the fill.
 #[cycle(cell_at)]
 pub(crate) fn sparse_at<'a>(patches: &'a Patches, fill: &'a Scalar, row: u64) -> Cell<'a>
     requires patches { IsTrue (is_flat (tree_type patches.now.values)) }
@@ -74,7 +73,7 @@ pub(crate) fn sparse_at<'a>(patches: &'a Patches, fill: &'a Scalar, row: u64) ->
     }
 }
 
-// Whether some row is null.
+// Whether some row is null: a patch is, or the fill is and some row has no patch.
 #[cycle(has_null)]
 pub(crate) fn sparse_has_null(patches: &Patches, fill: &Scalar) -> bool
     ensures { result ≡ list_any is_null (rows (sparse_of patches.now fill.now)) }
@@ -94,7 +93,7 @@ pub(crate) fn sparse_is_null_at(patches: &Patches, fill: &Scalar, row: u64) -> b
     }
 }
 
-// The value of a row of any type: that of its patch, or the fill's where it has none.
+// A row of any type: its patch, else the fill.
 #[cycle(value_at)]
 pub(crate) fn sparse_value_at(
     alloc: Global,
@@ -111,7 +110,7 @@ pub(crate) fn sparse_value_at(
     }
 }
 
-// The bytes.
+// The bytes of the node: the fill's as of a constant, and the patches'. Saturates at 2^128 - 1.
 #[cycle(nbytes)]
 pub(crate) fn sparse_bytes(patches: &Patches, fill: &Scalar) -> u128
     ensures { result ≡ min (size patches.now.indices + size patches.now.values + (1 + payload fill.now.dtype fill.now.value)) (2 ^ 128 - 1) }
@@ -119,7 +118,7 @@ pub(crate) fn sparse_bytes(patches: &Patches, fill: &Scalar) -> u128
     patches.nbytes().saturating_add(constant_bytes(fill))
 }
 
-// A copy.
+// A deep copy of the node.
 #[cycle(copy)]
 pub(crate) fn copied_sparse(alloc: Global, patches: &Patches, fill: &Scalar) -> VortexResult<Node>
     ensures { OrMemory result (λ copy. tree_of copy ≡ sparse_of patches.now fill.now) }

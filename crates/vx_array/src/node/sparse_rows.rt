@@ -1,4 +1,5 @@
-//! The rows of a fill and patches, decoded in one pass: each row's value by its place among the patches' and the fill.
+//! Decoding of a fill and patches in one pass, as a dictionary: the patches' values with the fill behind them, and in each
+//! row the place of its value.
 
 ghost use Rattle.std.specs.Prelude.{◌≡◌, IsTrue, map};
 ghost use Rattle.vx_array.specs.IsDecoded.{IsDecoded};
@@ -16,7 +17,7 @@ use vx_base::{Scalar, VortexResult};
 use vx_flat::{bits_with, decoded_by_codes, patch_places, values_with};
 use vx_values::{Decoded, Ints, keep};
 
-// The rows, from the patches' indices and values.
+// All rows, from the decoded indices and values of the patches.
 pub(crate) fn decoded_sparse(
     alloc: Global,
     patches: &Patches,

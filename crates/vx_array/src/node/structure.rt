@@ -19,10 +19,11 @@ use vx_base::{DType, Fields, Mask, Names, Nullability, Refused, Text, VortexErro
 use vx_values::{copy_validity, has_length, is_allowed, keep};
 
 impl ArrayRef {
-    /// In each of `len` rows the values of the fields, null where `valid` is false; beneath nulls any values may stand.
-    /// A child for each field, `len` rows each. Names may repeat. Refuses LengthMismatch where there isn't a name for each
-    /// field, a field hasn't `len` rows or the mask hasn't a bit a row; then MismatchedTypes where the mask has a false in
-    /// a non-nullable node.
+    /// `len` structs, in each row the values of the fields, null where `valid` is false; beneath nulls any values may
+    /// stand. A child for each field, `len` rows each. Names may repeat.
+    ///
+    /// Refuses LengthMismatch where there isn't one name for each field, a field hasn't `len` rows or the mask hasn't a
+    /// bit a row; then MismatchedTypes where the mask has a false in a non-nullable node.
     #[tactic(auto, using(crate::proofs::Making::structure_array))]
     pub fn structure(
         alloc: Global,
@@ -58,7 +59,7 @@ impl ArrayRef {
     }
 }
 
-// Why the node isn't made of these.
+// The refusal of these inputs, if there is one.
 #[tactic(auto, using(vx_model::proofs::TreesLemmas::trees))]
 fn refusal(
     names: &Names,
@@ -78,7 +79,7 @@ fn refusal(
     None
 }
 
-// Whether each tree has so many rows.
+// Whether each tree has `len` rows.
 #[tactic(auto, using(vx_model::proofs::TreesLemmas::lists))]
 fn all_have_rows(fields: &Arrays, len: u64) -> bool
     ensures { result ≡ all_have_rows len (of_list fields.now) }
@@ -97,7 +98,7 @@ fn has_rows(field: &ArrayRef, len: u64) -> bool
     field.len() == len
 }
 
-// Each name with the type of its tree.
+// The fields of the type: each name with the type of its tree.
 fn typed_fields(alloc: Global, names: &Names, fields: &Arrays) -> VortexResult<Fields>
     requires { length names.now ≡ length fields.now }
     ensures { OrMemory result (λ typed. of_fields (fields_of typed) ≡ field_types names.now (of_list fields.now)) }
@@ -111,7 +112,7 @@ fn typed_fields(alloc: Global, names: &Names, fields: &Arrays) -> VortexResult<F
     Ok(Fields::from_vec(typed))
 }
 
-// A copy of the name, with a copy of the tree's type.
+// A field of the type: copies of the name and of the tree's type.
 fn typed_field(alloc: Global, name: &Text, field: &ArrayRef) -> VortexResult<(Text, DType)>
     ensures { OrMemory result (λ typed. field_of typed ≡ (name.now, tree_type field.now)) }
 {
@@ -120,7 +121,7 @@ fn typed_field(alloc: Global, name: &Text, field: &ArrayRef) -> VortexResult<(Te
     Ok((name, dtype))
 }
 
-// A copy, of a copy of the fields.
+// A copy of the node, over the caller's copy of the fields.
 pub(crate) fn copied_struct(
     alloc: Global,
     names: &Names,
@@ -132,11 +133,11 @@ pub(crate) fn copied_struct(
     ensures { OrMemory result (λ copy. tree_of copy ≡ structure names.now (of_list fields) len valid.now nullability) }
 {
     let names = copied_names(alloc, names)?;
-    let valid = copy_validity(valid, alloc)?;
+    let valid = copy_validity(alloc, valid)?;
     Ok(Node::Struct(names, fields, len, valid, nullability))
 }
 
-// The same names.
+// A copy of the names.
 pub(crate) fn copied_names(alloc: Global, names: &Names) -> VortexResult<Names>
     ensures { Answers result names.now }
 {

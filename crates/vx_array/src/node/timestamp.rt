@@ -1,4 +1,4 @@
-//! Timestamps over whole numbers of 64 signed bits.
+//! Timestamps over `i64` storage.
 
 ghost use Rattle.std.specs.Prelude.{◌≡◌, None, true};
 ghost use Rattle.vx_array.specs.AsType.{as_type};
@@ -17,8 +17,8 @@ use vx_base::{DType, Refused, TimestampType, VortexError, VortexResult};
 use vx_flat::is_storage;
 
 impl ArrayRef {
-    /// The integers of `storage` as timestamps of a kind, null where `storage` is. Child 0: `storage`, as many rows.
-    /// Refuses MismatchedTypes where `storage` isn't of the type `i64`, nullable or not.
+    /// The integers of `storage` as timestamps of a kind, its unit and zone; null where `storage` is. Child 0: `storage`, as
+    /// many rows. Refuses MismatchedTypes where `storage` isn't of the type `i64`, nullable or not.
     #[tactic(auto, using(crate::proofs::Making::timestamp_array))]
     pub fn timestamp(
         alloc: Global,
@@ -59,7 +59,7 @@ impl ArrayRef {
     }
 }
 
-// Integers as a type has them: timestamps of its kind over them, or themselves.
+// Integers as a column of this type: under a Timestamp node of the type's kind, or as they are.
 pub(crate) fn as_type(alloc: Global, integers: ArrayRef, dtype: &DType) -> VortexResult<ArrayRef>
     requires { is_timestamp (type_of dtype.now) ≡ true → timestamp_refusal integers ≡ None }
     ensures { Answers result (as_type (type_of dtype.now) integers) }
@@ -70,7 +70,7 @@ pub(crate) fn as_type(alloc: Global, integers: ArrayRef, dtype: &DType) -> Vorte
     }
 }
 
-// A copy, of a copy of the storage.
+// A copy of the node, over the caller's copy of the storage.
 pub(crate) fn copied_timestamp(
     alloc: Global,
     storage: ArrayRef,
@@ -82,7 +82,7 @@ pub(crate) fn copied_timestamp(
     Ok(Node::Timestamp(Child { array: storage }, kind.copy(alloc)?))
 }
 
-// The integers as timestamps of a kind.
+// `timestamp` of a storage that is known to be admitted, with a copy of the kind.
 pub(crate) fn stamped(
     alloc: Global,
     storage: ArrayRef,

@@ -1,4 +1,4 @@
-//! Texts and binaries, by their offsets into bytes.
+//! Texts and binaries by offsets into one run of bytes.
 
 ghost use Rattle.std.specs.List.{list_all};
 ghost use Rattle.std.specs.Prelude.{◌≡◌, ◌<◌, ◌+◌, ◌-◌, IsTrue, length, map, nat_le, true, if◌then◌else◌};
@@ -27,10 +27,10 @@ use vx_flat::{fits, is_few, part};
 use vx_values::{copy_validity, has_length, is_allowed, is_valid, keep};
 
 impl ArrayRef {
-    /// Texts or binaries, in each row the bytes from its offset to the next one, null where `valid` is false; beneath
-    /// nulls any bytes may stand. Child 0: `offsets`, one more than there are rows.
+    /// Texts or binaries, in each row `bytes[offsets[row] .. offsets[row + 1]]`, null where `valid` is false; beneath nulls
+    /// any bytes may stand. Child 0: `offsets`, one more than there are rows.
     ///
-    /// Refuses MismatchedTypes where the offsets aren't non-nullable integers or the type is none of texts or binaries;
+    /// Refuses MismatchedTypes where the offsets aren't non-nullable integers or the type isn't one of texts or binaries;
     /// then LengthMismatch where there is no offset or the mask hasn't a bit a row; then OutOfBounds where the offsets
     /// don't begin at 0, fall, or don't end at the bytes' length; then ValueTooLong where a value has 2^32 bytes or
     /// more; then MismatchedTypes where the mask has a false in a non-nullable node, or a valid row of texts isn't
@@ -67,7 +67,7 @@ impl ArrayRef {
     }
 }
 
-// Why the node isn't made of these.
+// The refusal of these inputs, if there is one.
 fn refusal(
     offsets: &ArrayRef,
     bytes: &Bytes,
@@ -108,7 +108,7 @@ fn are_short(offsets: &ArrayRef, bytes: &Bytes) -> bool
     true
 }
 
-// Whether each row is one of the type.
+// Whether each row fits the type.
 fn are_values(offsets: &ArrayRef, bytes: &Bytes, valid: &Option<Mask>, dtype: &DType) -> bool
     requires bytes { IsTrue (is_bytes (type_of dtype.now)) }
     requires integers { IsTrue (is_integer (tree_type offsets.now)) }
@@ -124,7 +124,7 @@ fn are_values(offsets: &ArrayRef, bytes: &Bytes, valid: &Option<Mask>, dtype: &D
     true
 }
 
-// The bytes from a row's offset to the next one.
+// `bytes[offsets[row] .. offsets[row + 1]]`.
 #[cycle(cell_at)]
 fn piece<'a>(offsets: &ArrayRef, bytes: &'a Bytes, row: u64) -> &'a [u8]
     requires integers { IsTrue (is_integer (tree_type offsets.now)) }
@@ -138,7 +138,7 @@ fn piece<'a>(offsets: &ArrayRef, bytes: &'a Bytes, row: u64) -> &'a [u8]
     part(bytes.as_slice(), start, end)
 }
 
-// The same, null where the row isn't valid.
+// A row's bytes, null where the row isn't valid.
 #[cycle(cell_at)]
 pub(crate) fn piece_at<'a>(
     offsets: &ArrayRef,
@@ -158,14 +158,14 @@ pub(crate) fn piece_at<'a>(
     }
 }
 
-// Whether the rows are few.
+// Whether the rows between the offsets are at most 2^31.
 pub(crate) fn var_bin_extents_fit(offsets: &ArrayRef) -> bool
     ensures { result ≡ nat_le (length (rows offsets.now) - 1) row_limit }
 {
     is_few(row_count(offsets))
 }
 
-// A copy, of a copy of the offsets.
+// A copy of the node, over the caller's copy of the offsets.
 pub(crate) fn copied_var_bin(
     alloc: Global,
     offsets: ArrayRef,
@@ -177,6 +177,6 @@ pub(crate) fn copied_var_bin(
 {
     let offsets = Box::new(alloc, offsets)?;
     let bytes = bytes.copy(alloc)?;
-    let valid = copy_validity(valid, alloc)?;
+    let valid = copy_validity(alloc, valid)?;
     Ok(Node::VarBin(Child { array: offsets }, bytes, valid, dtype.copy(alloc)?))
 }

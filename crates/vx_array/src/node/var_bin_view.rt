@@ -21,10 +21,11 @@ use vx_flat::view_refusal;
 use vx_values::{byte_rows, copy_validity, gathered_validity, keep};
 
 impl ArrayRef {
-    /// A tree of texts or binaries, null where `valid` is false; beneath nulls any bytes may stand. Refuses
-    /// MismatchedTypes where the type is none of texts or binaries; then LengthMismatch where the mask hasn't a bit a
-    /// row; then ValueTooLong where a value has 2^32 bytes or more; then MismatchedTypes where the mask has a false in
-    /// a non-nullable node, or a valid row of texts isn't UTF-8.
+    /// Texts or binaries, null where `valid` is false; beneath nulls any bytes may stand. No children; takes no memory.
+    ///
+    /// Refuses MismatchedTypes where the type isn't one of texts or binaries; then LengthMismatch where the mask hasn't a
+    /// bit a row; then ValueTooLong where a value, valid or not, has 2^32 bytes or more; then MismatchedTypes where the
+    /// mask has a false in a non-nullable node, or a valid row of texts isn't UTF-8.
     pub fn var_bin_view(
         values: ByteRows,
         valid: Option<Mask>,
@@ -37,13 +38,14 @@ impl ArrayRef {
                 error,
                 inputs: (values, valid, dtype),
             }),
-            None => Ok(ArrayRef::view_of(values, valid, dtype)),
+            None => Ok(ArrayRef::var_bin_view_of(values, valid, dtype)),
         }
     }
 
-    // The same of values that are known to be admitted. It looks at none.
+    /// `var_bin_view` of values that are known to be admitted. Reads none, so that texts that were tested once aren't
+    /// tested for UTF-8 again.
     #[tactic(auto, using(crate::proofs::Making::view_array))]
-    pub(crate) fn view_of(values: ByteRows, valid: Option<Mask>, dtype: DType) -> ArrayRef
+    pub fn var_bin_view_of(values: ByteRows, valid: Option<Mask>, dtype: DType) -> ArrayRef
         requires { var_bin_view_refusal values valid (type_of dtype) ≡ None }
         ensures { result ≡ var_bin_view values (kept valid) (type_of dtype) }
     {
@@ -56,7 +58,7 @@ impl ArrayRef {
     }
 }
 
-// A copy, of each row whether it is valid or not.
+// A copy of the node, with what stands beneath nulls.
 pub(crate) fn copied_view(
     alloc: Global,
     values: &ByteRows,
@@ -66,11 +68,11 @@ pub(crate) fn copied_view(
     ensures { OrMemory result (λ copy. tree_of copy ≡ var_bin_view values.now valid.now (type_of dtype.now)) }
 {
     let values = byte_rows::decoded(alloc, values, &None)?;
-    let valid = copy_validity(valid, alloc)?;
+    let valid = copy_validity(alloc, valid)?;
     Ok(Node::VarBinView(values, valid, dtype.copy(alloc)?))
 }
 
-// The rows of ranges of a plain tree, as a plain tree.
+// The rows of ranges of a plain node, as a plain tree.
 pub(crate) fn gathered_view(
     alloc: Global,
     values: &ByteRows,
@@ -86,5 +88,5 @@ pub(crate) fn gathered_view(
     let dtype = dtype.copy(alloc)?;
     let valid = gathered_validity(alloc, valid, ranges)?;
     let values = byte_rows::gather(alloc, values, ranges)?;
-    Ok(ArrayRef::view_of(values, valid, dtype))
+    Ok(ArrayRef::var_bin_view_of(values, valid, dtype))
 }

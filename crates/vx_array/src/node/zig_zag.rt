@@ -13,8 +13,8 @@ use std::alloc::Global;
 use vx_base::{DType, Refused, VortexError, VortexResult};
 
 impl ArrayRef {
-    /// The integers whose zigzag the integers of `encoded` are, in the signed type of the width; null where `encoded`
-    /// is. Child 0: `encoded`, as many rows. Refuses MismatchedTypes where `encoded` isn't of an unsigned type.
+    /// The integers whose zigzags `encoded` holds, in the signed type of its width; null where `encoded` is. Child 0:
+    /// `encoded`, as many rows. Refuses MismatchedTypes where `encoded` isn't of an unsigned type.
     #[tactic(auto, using(crate::proofs::Making::zig_zag_array))]
     pub fn zig_zag(alloc: Global, encoded: ArrayRef) -> Made<ArrayRef>
         ensures { Makes (zig_zag_refusal encoded) (zig_zag encoded) encoded result }
@@ -43,7 +43,7 @@ impl ArrayRef {
     }
 }
 
-// A copy, of a copy of the zigzags.
+// A copy of the node, over the caller's copy of the zigzags.
 pub(crate) fn copied_zig_zag(alloc: Global, encoded: ArrayRef) -> VortexResult<Node>
     ensures { OrMemory result (λ copy. tree_of copy ≡ zig_zag encoded) }
 {

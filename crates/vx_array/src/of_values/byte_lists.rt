@@ -1,4 +1,4 @@
-//! The elements of lists of texts or binaries: their bytes move straight into the rows.
+//! The elements of lists of texts or binaries, whose bytes move straight into rows.
 
 ghost use Rattle.std.specs.List.{list_all};
 ghost use Rattle.std.specs.Prelude.{◌≡◌, ◌-◌, IsTrue, map};
@@ -15,7 +15,7 @@ use std::alloc::Global;
 use vx_base::{ByteRows, DType, Value, VortexResult};
 use vx_flat::{byte_elements, element_validity};
 
-// The tree of the elements of all lists, one list after the other, and the offsets between them.
+// The plain tree of all lists' elements, concatenated, and the offsets between the lists.
 pub(super) fn of_byte_lists(
     alloc: Global,
     dtype: &DType,
@@ -27,6 +27,6 @@ pub(super) fn of_byte_lists(
 {
     let valid = element_validity(alloc, values.as_slice())?;
     let (rows, offsets) = byte_elements(alloc, values)?;
-    let tree = ArrayRef::view_of(ByteRows::from_vec(rows), valid, dtype.copy(alloc)?);
+    let tree = ArrayRef::var_bin_view_of(ByteRows::from_vec(rows), valid, dtype.copy(alloc)?);
     Ok((tree, offsets))
 }

@@ -1,4 +1,4 @@
-//! Plain trees of flat types, from values.
+//! Plain trees of leaf types and of timestamps, from values.
 
 ghost use Rattle.std.specs.List.{list_all};
 ghost use Rattle.std.specs.Prelude.{IsTrue, map};
@@ -15,7 +15,7 @@ use std::alloc::Global;
 use vx_base::{DType, Nullability, PType, TimestampType, Value, VortexResult};
 use vx_flat::{byte_rows, truths, validity_of, wholes};
 
-// Truth values.
+// A Bool node.
 pub(super) fn of_truths(
     alloc: Global,
     values: &[Value],
@@ -28,7 +28,7 @@ pub(super) fn of_truths(
     Ok(ArrayRef::bool_of(truths(alloc, values)?, valid, nullability))
 }
 
-// Integers of a type.
+// A Primitive node.
 pub(super) fn of_wholes(
     alloc: Global,
     values: &[Value],
@@ -43,7 +43,7 @@ pub(super) fn of_wholes(
     Ok(ArrayRef::primitive_of(wholes, valid, nullability))
 }
 
-// Timestamps, over their whole numbers.
+// A Timestamp node over `i64` storage.
 pub(super) fn of_stamps(
     alloc: Global,
     values: &[Value],
@@ -57,7 +57,7 @@ pub(super) fn of_stamps(
     stamped(alloc, storage, kind)
 }
 
-// Texts or binaries. Their bytes are moved.
+// A VarBinView node. The bytes are moved into it.
 pub(super) fn of_bytes(alloc: Global, values: Vec<Value>, dtype: &DType) -> VortexResult<ArrayRef>
     requires bytes { IsTrue (is_bytes (type_of dtype.now)) }
     requires fitting { IsTrue (list_all (fits (type_of dtype.now)) (map value_of values.items)) }
@@ -65,5 +65,5 @@ pub(super) fn of_bytes(alloc: Global, values: Vec<Value>, dtype: &DType) -> Vort
 {
     let valid = validity_of(alloc, values.as_slice())?;
     let rows = byte_rows(alloc, values)?;
-    Ok(ArrayRef::view_of(rows, valid, dtype.copy(alloc)?))
+    Ok(ArrayRef::var_bin_view_of(rows, valid, dtype.copy(alloc)?))
 }

@@ -1,10 +1,10 @@
-//! Which patch stands at a row.
+//! The binary search for the patch of a row.
 
 ghost use Rattle.std.specs.Prelude.{◌≡◌, ◌<◌, ◌≤◌, ◌+◌, ◌-◌, ◌*◌, ◌^◌, IsTrue, length, option_map, unwrap_or};
 ghost use Rattle.vx_base.specs.CellValue.{cell_value};
 ghost use Rattle.vx_base.specs.PlainType.{is_flat};
 ghost use Rattle.vx_base.specs.PlainValue.{PlainValue};
-ghost use Rattle.vx_model.specs.Rows.{rows, place_of, patched};
+ghost use Rattle.vx_model.specs.Rows.{rows, row_at, place_of, patched};
 ghost use Rattle.vx_model.specs.TreeType.{tree_type};
 ghost use Rattle.vx_array.specs.Look.{Looks};
 
@@ -13,24 +13,24 @@ use crate::array::Patches;
 use std::sync::ledger::Ledger;
 use vx_base::{Cell, Steps};
 
-/// What a look at the middle one of some places tells of a patch.
+/// What one probe of the search finds.
 #[derive(Clone, Copy)]
 pub(crate) enum Look {
-    /// It stands there.
+    /// The patch is at this place.
     Found(u64),
-    /// It stands at one of fewer places, or nowhere: from the first to before the second.
+    /// It is at one of the places from the first up to before the second, or nowhere.
     Left(u64, u64),
 }
 
 impl Patches {
-    // The index that a patch of the row has.
+    // The index of a row's patch: `offset + row`, which may need 65 bits.
     fn index_at(&self, row: u64) -> u128
         ensures { result ≡ self.now.offset + row }
     {
         u128::from(self.offset) + u128::from(row)
     }
 
-    // A look for the patch with an index, at the middle of the places from `low` to before `high`.
+    // One probe for an index: the middle of the places from `low` up to before `high`.
     #[cycle(cell_at)]
     #[tactic(auto, using(crate::proofs::Flat::flats))]
     fn look(&self, wanted: u128, low: u64, high: u64) -> Look
@@ -46,15 +46,21 @@ impl Patches {
         }
     }
 
-    /// The place of the row's patch, found by halves. `row` is below the array's length. Each index that is read is a
-    /// step: p steps with 2^p at most 2 * patches + 1.
+    /// The place of the row's patch among the patches, None where the row has none, by binary search. `row` is below the
+    /// array's length. The row's value is the patches' value at that place, and without a place what is patched
+    /// (`value`).
+    ///
+    /// Each index that is read counts a step: at least one where there are patches, and p with 2^p <= 2 * patches + 1.
     #[tactic(auto, using(vx_model::proofs::PatchLemmas::place_steps))]
     pub fn search<L: Ledger>(&self, row: u64, steps: &mut Steps<L>) -> Option<u64>
         requires { row < self.now.array_len }
         ensures place { result ≡ place_of (rows self.now.indices) (self.now.offset + row) }
+        ensures value { (fill : PlainValue) → unwrap_or (option_map (row_at (rows self.now.values)) result) fill ≡ patched (rows self.now.indices) (rows self.now.values) fill (self.now.offset + row) }
         ensures rose { steps.old ≤ steps.new }
+        ensures looked { 0 < length (rows self.now.indices) → steps.old < steps.new }
         ensures probes { 2 ^ (steps.new - steps.old) ≤ 2 * length (rows self.now.indices) + 1 }
     {
+        self.known();
         let wanted = self.index_at(row);
         let mut low = 0;
         let mut high = self.indices.len();
@@ -71,7 +77,7 @@ impl Patches {
         None
     }
 
-    // The same, where nobody counts.
+    // `search` without a count. A row that is read needs none, and a count asks for a ledger.
     #[cycle(cell_at)]
     #[tactic(auto, using(vx_model::proofs::PatchLemmas::place_steps))]
     pub(crate) fn place_of(&self, row: u64) -> Option<u64>
@@ -92,7 +98,7 @@ impl Patches {
         None
     }
 
-    // The row's patch, where there is one, of values of a flat type.
+    // The row's patch as a cell, None where the row has none. The values are of a flat type.
     #[cycle(cell_at)]
     #[tactic(auto, using(crate::proofs::Flat::flats))]
     pub(crate) fn cell_at(&self, row: u64) -> Option<Cell<'_>>

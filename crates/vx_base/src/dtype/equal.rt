@@ -1,4 +1,4 @@
-//! When types are one, and what a hash is fed of them.
+//! Equality and hash of types.
 
 ghost use Rattle.std.specs.Prelude.{◌≡◌, ◌↔◌, IsTrue, fold};
 ghost use Rattle.vx_base.specs.PlainType.{ptype_number};
@@ -16,7 +16,7 @@ impl DType {
     ghost use Rattle.vx_base.specs.declared.dtype.Nullability.TheVariants.{NonNullable};
     ghost use Rattle.vx_base.specs.PlainType.{with_nullability};
 
-    /// Whether the types differ at most in the outermost nullability.
+    /// Whether the types are equal up to outermost nullability.
     #[cycle(same)]
     pub fn same_base(&self, other: &DType) -> bool
         ensures { IsTrue result ↔ (with_nullability (type_of self.now) NonNullable ≡ with_nullability (type_of other.now) NonNullable) }
@@ -37,7 +37,7 @@ impl DType {
         }
     }
 
-    // Whether the two types are one.
+    // Whether the two types are equal.
     #[cycle(same)]
     fn same(&self, other: &DType) -> bool
         ensures { IsTrue result ↔ (type_of self.now ≡ type_of other.now) }
@@ -47,7 +47,7 @@ impl DType {
 }
 
 impl Fields {
-    /// Whether the names and types are the same.
+    /// Whether names and types are equal, in order.
     #[cycle(same)]
     pub fn same(&self, other: &Fields) -> bool
         ensures { IsTrue result ↔ (fields_of self.now ≡ fields_of other.now) }
@@ -71,7 +71,7 @@ fn same_field(field: &(Text, DType), other: &(Text, DType)) -> bool
     field.0.same(&other.0) && field.1.same(&other.1)
 }
 
-// The number of an integer type, which a hash is fed.
+// The number of an integer type that is hashed.
 fn ptype_number(ptype: PType) -> u8
     ensures { result ≡ ptype_number ptype }
 {
@@ -124,7 +124,7 @@ impl Hash for DType {
 }
 
 impl DType {
-    // Feeds a hash the kind, what the type has of its own, and its nullability.
+    // Writes a number for the kind, the type's parameters and its nullability to a hasher.
     #[cycle(feed)]
     fn feed<H: Hasher>(&self, state: &mut H)
         ensures { state.new ≡ fold H.write state.old (type_writes (type_of self.now)) }
@@ -161,7 +161,7 @@ impl DType {
 }
 
 impl Fields {
-    // Feeds a hash each field.
+    // Writes each field to a hasher.
     #[cycle(feed)]
     fn feed<H: Hasher>(&self, state: &mut H)
         ensures { state.new ≡ fold H.write state.old (field_list_writes (fields_of self.now)) }
@@ -173,7 +173,7 @@ impl Fields {
     }
 }
 
-// Feeds a hash the unit and the zone.
+// Writes the unit and the zone to a hasher.
 fn write_kind<H: Hasher>(kind: &TimestampType, state: &mut H)
     ensures { state.new ≡ fold H.write state.old (kind_writes kind.now) }
 {

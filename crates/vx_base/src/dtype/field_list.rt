@@ -25,7 +25,7 @@ impl Fields {
         Fields { items }
     }
 
-    /// How many fields there are.
+    /// The number of fields.
     pub fn len(&self) -> u64
         ensures { result ≡ length (fields_of self.now) }
     {
@@ -53,7 +53,7 @@ impl Fields {
         }
     }
 
-    /// The same fields.
+    /// A deep copy.
     #[cycle(copy)]
     pub fn copy(&self, alloc: Global) -> VortexResult<Fields>
         ensures { OrMemory result (λ copy. fields_of copy ≡ fields_of self.now) }

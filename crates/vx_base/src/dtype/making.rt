@@ -1,4 +1,4 @@
-//! Types from their parts, and from other types.
+//! Constructors of types, and types from other types.
 
 ghost use Rattle.std.specs.Prelude.{◌≡◌};
 ghost use Rattle.vx_base.specs.Answers.{OrMemory};
@@ -12,14 +12,14 @@ use crate::timestamp::TimestampType;
 use std::alloc::Global;
 
 impl DType {
-    /// Truth values. Contracts of other crates see each type through its call.
+    /// Truth values. Contracts of other crates see a type through its constructor here, not through the variant.
     pub fn bool(nullability: Nullability) -> DType
         ensures { type_of result ≡ boolean nullability }
     {
         DType::Bool(nullability)
     }
 
-    /// Integers of a type.
+    /// Integers of one type.
     pub fn primitive(ptype: PType, nullability: Nullability) -> DType
         ensures { type_of result ≡ primitive ptype nullability }
     {
@@ -47,14 +47,14 @@ impl DType {
         DType::Timestamp(kind, nullability)
     }
 
-    /// Nulls alone.
+    /// Only null.
     pub fn null() -> DType
         ensures { type_of result ≡ null_type }
     {
         DType::Null
     }
 
-    /// Structs of fields.
+    /// Structs with these fields.
     #[tactic(auto, using(crate::proofs::FieldLemmas::structures))]
     pub fn structure(fields: Fields, nullability: Nullability) -> DType
         ensures { type_of result ≡ structure (of_fields (fields_of fields)) nullability }
@@ -62,21 +62,21 @@ impl DType {
         DType::Struct(fields, nullability)
     }
 
-    /// Lists of items of a type.
+    /// Lists of items of one type.
     pub fn list(items: Box<DType>, nullability: Nullability) -> DType
         ensures { type_of result ≡ list (type_of items.value) nullability }
     {
         DType::List(items, nullability)
     }
 
-    /// The same, of so many items each.
+    /// Lists of `size` items of one type each.
     pub fn fixed_size_list(items: Box<DType>, size: u32, nullability: Nullability) -> DType
         ensures { type_of result ≡ fixed_size_list (type_of items.value) size nullability }
     {
         DType::FixedSizeList(items, size, nullability)
     }
 
-    /// The same type.
+    /// A deep copy.
     #[cycle(copy)]
     pub fn copy(&self, alloc: Global) -> VortexResult<DType>
         ensures { OrMemory result (λ copy. type_of copy ≡ type_of self.now) }
@@ -84,7 +84,7 @@ impl DType {
         self.with_nullability(alloc, self.nullability())
     }
 
-    /// The same base with this outermost nullability.
+    /// A deep copy with another outermost nullability. The null type stays as it is.
     #[cycle(copy)]
     #[tactic(auto, using(crate::proofs::FieldLemmas::structures))]
     pub fn with_nullability(&self, alloc: Global, nullability: Nullability) -> VortexResult<DType>

@@ -1,4 +1,4 @@
-//! The text of a type.
+//! Types as text.
 
 ghost use Rattle.std.specs.Prelude.{◌≡◌, [], ◌++◌, codes};
 ghost use Rattle.std.specs.Fmt.{WritesOnOk};
@@ -33,7 +33,7 @@ fn write_type<W: fmt::Write>(dtype: &DType, f: &mut fmt::Formatter<W>) -> fmt::R
     f.write_str(type_mark(dtype))
 }
 
-// What a type's text ends with.
+// The suffix of a type's text.
 fn type_mark(dtype: &DType) -> &'static str
     ensures { result.now ≡ type_mark (type_of dtype.now) }
 {
@@ -43,7 +43,7 @@ fn type_mark(dtype: &DType) -> &'static str
     }
 }
 
-// Writes the text of a type but for its mark.
+// Writes the text of a type without that suffix.
 #[cycle(texts)]
 #[tactic(auto, using(crate::proofs::FallLemmas::falls))]
 fn write_base<W: fmt::Write>(dtype: &DType, f: &mut fmt::Formatter<W>) -> fmt::Result
@@ -76,7 +76,7 @@ fn write_base<W: fmt::Write>(dtype: &DType, f: &mut fmt::Formatter<W>) -> fmt::R
     }
 }
 
-// Writes the text of a kind of timestamps.
+// Writes the unit and the zone of timestamps.
 fn write_kind<W: fmt::Write>(kind: &TimestampType, f: &mut fmt::Formatter<W>) -> fmt::Result
     ensures { WritesOnOk W.write_str_gives f.old result (codes "timestamp " ++ unit_text kind.now.unit ++ zone_text kind.now.zone) f.new }
 {
@@ -92,7 +92,7 @@ fn write_kind<W: fmt::Write>(kind: &TimestampType, f: &mut fmt::Formatter<W>) ->
     }
 }
 
-// Writes the name and the type of each field, a comma between two.
+// Writes `name:type` for each field, separated by commas.
 #[cycle(texts)]
 #[tactic(auto, using(crate::proofs::FallLemmas::falls))]
 fn write_fields<W: fmt::Write>(fields: &Fields, f: &mut fmt::Formatter<W>) -> fmt::Result
@@ -106,7 +106,7 @@ fn write_fields<W: fmt::Write>(fields: &Fields, f: &mut fmt::Formatter<W>) -> fm
     Ok(())
 }
 
-// Writes the name and the type of a field, behind the text before it.
+// Writes `before`, and then `name:type`.
 #[cycle(texts)]
 #[tactic(auto, using(crate::proofs::FallLemmas::falls))]
 fn write_field<W: fmt::Write>(

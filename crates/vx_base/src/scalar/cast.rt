@@ -1,4 +1,4 @@
-//! Scalars cast to another type.
+//! Casts of scalars.
 
 ghost use Rattle.std.specs.Prelude.{◌≡◌};
 ghost use Rattle.vx_base.specs.Answers.{Decided};
@@ -14,8 +14,8 @@ use crate::error::{VortexError, VortexResult};
 use std::alloc::Global;
 
 impl Scalar {
-    /// The same value in another type of its base, or the same whole number in another integer type. Refuses
-    /// MismatchedTypes at any other type, and CastRefused where the type doesn't hold the number or null.
+    /// The value in another integer type, or in a type that differs in outermost nullability alone. Refuses MismatchedTypes
+    /// for any other pair of types, then CastRefused where the number is out of range, or null in a non-nullable type.
     pub fn cast(&self, alloc: Global, dtype: &DType) -> VortexResult<Scalar>
         ensures { Decided (cast_refusal self.now.dtype (type_of dtype.now) self.now.value) (λ s. s ≡ scalar (type_of dtype.now) self.now.value) result }
     {
@@ -31,14 +31,14 @@ impl Scalar {
     }
 }
 
-// Whether values of the first type are cast to the second.
+// Whether there is a cast between the types.
 fn is_cast(from: &DType, to: &DType) -> bool
     ensures { result ≡ is_cast (type_of from.now) (type_of to.now) }
 {
     (from.is_integer() && to.is_integer()) || has_base(from, to)
 }
 
-// Whether the two types have one base.
+// Whether the types are equal up to outermost nullability.
 fn has_base(from: &DType, to: &DType) -> bool
     ensures { result ≡ same_base (type_of from.now) (type_of to.now) }
 {

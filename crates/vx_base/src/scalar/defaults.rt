@@ -1,4 +1,4 @@
-//! What stands where nothing is known.
+//! Default values.
 
 ghost use Rattle.std.specs.Prelude.{◌≡◌, map, replicate};
 ghost use Rattle.vx_base.specs.Answers.{Answers, OrMemory};
@@ -14,8 +14,8 @@ use crate::value::{Value, Values};
 use std::alloc::Global;
 
 impl Scalar {
-    /// The type's default: null where it is nullable, else false, 0 or empty, a struct of its fields' defaults, or as many
-    /// defaults as a list of fixed size has items.
+    /// The default of a type: null where it is nullable, else false, 0 or empty. A struct has the default of each field, a
+    /// list of fixed size the default of its items as often as its size.
     #[tactic(auto, using(crate::proofs::FitLemmas::fitting))]
     pub fn default_value(alloc: Global, dtype: &DType) -> VortexResult<Scalar>
         ensures { Answers result (scalar (type_of dtype.now) (null_or_default (type_of dtype.now))) }
@@ -26,7 +26,7 @@ impl Scalar {
     }
 }
 
-// The value that stands where a type's column has none.
+// Null where the type is nullable, else its default.
 #[cycle(defaults)]
 #[tactic(auto, using(crate::proofs::FallLemmas::falls))]
 fn null_or_default(alloc: Global, dtype: &DType) -> VortexResult<Value>
@@ -49,7 +49,7 @@ fn null_or_default(alloc: Global, dtype: &DType) -> VortexResult<Value>
     }
 }
 
-// One default for each field.
+// The default of each field.
 #[cycle(defaults)]
 #[tactic(auto, using(crate::proofs::FallLemmas::falls))]
 fn field_defaults(alloc: Global, fields: &Fields) -> VortexResult<Values>
@@ -62,7 +62,7 @@ fn field_defaults(alloc: Global, fields: &Fields) -> VortexResult<Values>
     Ok(Values::from_vec(values))
 }
 
-// The value so many times.
+// `count` copies of a value.
 fn repeated(alloc: Global, value: &Value, count: u32) -> VortexResult<Values>
     ensures { Answers result (replicate count (value_of value.now)) }
 {

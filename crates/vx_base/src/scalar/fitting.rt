@@ -1,4 +1,4 @@
-//! Which values a type has.
+//! Which values are of a type.
 
 ghost use Rattle.std.specs.Prelude.{◌≡◌};
 ghost use Rattle.vx_base.specs.PlainScalar.{fits, list_fits, field_list_fits};
@@ -10,7 +10,7 @@ use crate::dtype::{DType, Fields};
 use crate::ptype::PType;
 use crate::value::{Value, Values};
 
-/// Whether no text or binary within has 2^32 bytes or more.
+/// Whether each text and binary within, at any depth, has fewer than 2^32 bytes.
 #[cycle(short)]
 #[tactic(auto, using(crate::proofs::FallLemmas::falls))]
 pub(crate) fn has_short(value: &Value) -> bool
@@ -23,7 +23,7 @@ pub(crate) fn has_short(value: &Value) -> bool
     }
 }
 
-// The same of each value.
+// Whether that holds of each value.
 #[cycle(short)]
 #[tactic(auto, using(crate::proofs::FallLemmas::falls))]
 fn have_short(values: &Values) -> bool
@@ -37,7 +37,7 @@ fn have_short(values: &Values) -> bool
     true
 }
 
-/// Whether the value is one of the type.
+/// Whether the value is of the type.
 #[cycle(fitting)]
 #[tactic(auto, using(crate::proofs::FallLemmas::falls))]
 pub(crate) fn fits(dtype: &DType, value: &Value) -> bool
@@ -60,7 +60,7 @@ pub(crate) fn fits(dtype: &DType, value: &Value) -> bool
     }
 }
 
-// Whether each value is one of its field's type, and there are as many.
+// Whether there is one value per field, each of its field's type.
 #[cycle(fitting)]
 #[tactic(auto, using(crate::proofs::FallLemmas::falls))]
 fn fields_fit(fields: &Fields, values: &Values) -> bool
@@ -79,7 +79,7 @@ fn fields_fit(fields: &Fields, values: &Values) -> bool
     true
 }
 
-// Whether each value is one of the type.
+// Whether each value is of the type.
 #[cycle(fitting)]
 #[tactic(auto, using(crate::proofs::FallLemmas::falls))]
 fn items_fit(items: &DType, values: &Values) -> bool

@@ -1,4 +1,4 @@
-//! Scalars from a value and its type.
+//! Constructors of scalars.
 
 ghost use Rattle.std.specs.Prelude.{◌≡◌, None, true};
 ghost use Rattle.vx_base.specs.Answers.{Answers, SurelyDecided, MakesSurely, unless};
@@ -23,8 +23,8 @@ use crate::value::Value;
 use std::alloc::Global;
 
 impl Scalar {
-    /// A type and a value of it. Refuses ValueTooLong where the value has 2^32 bytes or more, then MismatchedTypes where it
-    /// isn't one of the type.
+    /// A value of a type. Refuses ValueTooLong where a text or binary within has 2^32 bytes or more, then MismatchedTypes
+    /// where the value isn't of the type.
     pub fn new(dtype: DType, value: Value) -> Result<Scalar, Refused<(DType, Value)>>
         ensures { MakesSurely (unless (has_short (value_of value)) ValueTooLong (unless (fits (type_of dtype) (value_of value)) MismatchedTypes None)) (scalar (type_of dtype) (value_of value)) (dtype, value) result }
     {
@@ -43,7 +43,7 @@ impl Scalar {
         Ok(Scalar { dtype, value })
     }
 
-    /// The null of a nullable type.
+    /// Null. Refuses MismatchedTypes where the type isn't nullable.
     pub fn null(dtype: DType) -> Result<Scalar, Refused<DType>>
         ensures { MakesSurely (unless (is_nullable (type_of dtype)) MismatchedTypes None) (scalar (type_of dtype) null) dtype result }
     {
@@ -59,7 +59,7 @@ impl Scalar {
         })
     }
 
-    /// The value in a cell, as one of a type that it fits.
+    /// The value in a cell, which is of the type.
     pub fn of_cell(alloc: Global, dtype: &DType, cell: Cell<'_>) -> VortexResult<Scalar>
         requires { fits (type_of dtype.now) (cell_value cell) ≡ true }
         ensures { Answers result (scalar (type_of dtype.now) (cell_value cell.entry)) }
@@ -79,7 +79,7 @@ impl Scalar {
         }
     }
 
-    /// An integer. Refuses OutOfBounds where its type doesn't hold it.
+    /// An integer. Refuses OutOfBounds where it is out of the range of its type.
     pub fn primitive(value: i128, ptype: PType, nullability: Nullability) -> VortexResult<Scalar>
         ensures { SurelyDecided (unless (lies_in ptype value) OutOfBounds None) (λ s. s ≡ scalar (primitive ptype nullability) (int value)) result }
     {
@@ -108,7 +108,7 @@ impl Scalar {
         })
     }
 
-    /// Bytes. Refuses ValueTooLong where there are 2^32 or more.
+    /// A binary. Refuses ValueTooLong where it has 2^32 bytes or more.
     pub fn binary(value: Bytes, nullability: Nullability) -> Result<Scalar, Refused<Bytes>>
         ensures { MakesSurely (unless (is_short value) ValueTooLong None) (scalar (binary nullability) (bytes value)) value result }
     {

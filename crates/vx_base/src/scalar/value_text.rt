@@ -1,4 +1,4 @@
-//! The text of a scalar's value.
+//! Values of scalars as text.
 
 ghost use Rattle.std.specs.Prelude.{◌≡◌, ◌++◌, string_bytes, IsUtf8, IsTrue};
 ghost use Rattle.json.specs.Print.{quoted};
@@ -16,7 +16,8 @@ use serde_json::Value as Json;
 use std::alloc::Global;
 
 impl Scalar {
-    /// The value's text: compact JSON.
+    /// The value as compact JSON: a text as a string, a binary as the string of its lower-case hex digits, a struct as the
+    /// array of its field values.
     pub fn json(&self, alloc: Global) -> VortexResult<Text>
         ensures { Answers result (value_text self.now.dtype self.now.value) }
     {
@@ -26,7 +27,7 @@ impl Scalar {
     }
 }
 
-// Adds the value's text.
+// Appends the value's JSON.
 #[cycle(write)]
 #[tactic(auto, using(crate::proofs::FallLemmas::falls))]
 fn write_value(alloc: Global, text: &mut String, dtype: &DType, value: &Value) -> VortexResult<()>
@@ -60,7 +61,7 @@ fn write_value(alloc: Global, text: &mut String, dtype: &DType, value: &Value) -
     }
 }
 
-// Adds the list of the values' texts, each by its field's type.
+// Appends a struct: the array of its field values, each by its field's type.
 #[cycle(write)]
 #[tactic(auto, using(crate::proofs::FallLemmas::falls))]
 fn write_fields(
@@ -85,7 +86,7 @@ fn write_fields(
     Ok(())
 }
 
-// Adds the list of the values' texts, by one type.
+// Appends an array of values of one type.
 #[cycle(write)]
 #[tactic(auto, using(crate::proofs::FallLemmas::falls))]
 fn write_items(alloc: Global, text: &mut String, items: &DType, values: &Values) -> VortexResult<()>
@@ -103,7 +104,7 @@ fn write_items(alloc: Global, text: &mut String, items: &DType, values: &Values)
     Ok(())
 }
 
-// The text that the bytes are.
+// The text of bytes that are valid UTF-8.
 fn text_of(alloc: Global, bytes: &[u8]) -> VortexResult<String>
     requires { IsUtf8 bytes.now }
     ensures { OrMemory result (λ text. string_bytes text ≡ bytes.now) }
@@ -114,7 +115,7 @@ fn text_of(alloc: Global, bytes: &[u8]) -> VortexResult<String>
     }
 }
 
-// Adds the inside as a string of JSON.
+// Appends a JSON string, quoted and escaped.
 fn write_quoted(alloc: Global, text: &mut String, inside: String) -> VortexResult<()>
     ensures { OrMemory result (λ _. string_bytes text.new ≡ string_bytes text.old ++ quoted (string_bytes inside)) }
 {

@@ -1,4 +1,4 @@
-//! What a value holds, by itself.
+//! The content of a value, moved out of it.
 
 ghost use Rattle.std.specs.Prelude.{◌≡◌};
 ghost use Rattle.vx_base.specs.PlainValue.{bytes_or_empty, items_or_empty};
@@ -9,7 +9,7 @@ use crate::items::Bytes;
 use std::alloc::Global;
 
 impl Value {
-    /// The bytes of a text or a binary, none of any other value. They are moved.
+    /// The bytes of a text or a binary, none of any other value.
     pub fn into_bytes(self, alloc: Global) -> Bytes
         ensures { result ≡ bytes_or_empty (value_of self) }
     {
@@ -19,7 +19,7 @@ impl Value {
         }
     }
 
-    /// The values within, none of any that holds no others. They are moved.
+    /// The items of a list or the field values of a struct, none of any other value.
     #[tactic(auto, using(crate::proofs::WithinLemmas::within))]
     pub fn into_values(self, alloc: Global) -> Values
         ensures { result ≡ items_or_empty (value_of self) }

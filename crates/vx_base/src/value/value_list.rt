@@ -59,7 +59,7 @@ impl Values {
         }
     }
 
-    /// The same values.
+    /// A deep copy.
     #[cycle(copy)]
     pub fn copy(&self, alloc: Global) -> VortexResult<Values>
         ensures { Answers result self.now }
@@ -71,7 +71,7 @@ impl Values {
         Ok(Values { items })
     }
 
-    // Whether the values are the same, one by one.
+    // Whether the two lists are equal.
     #[cycle(same)]
     pub(crate) fn same(&self, other: &Values) -> bool
         ensures { IsTrue result ↔ (self.now ≡ other.now) }
@@ -87,7 +87,7 @@ impl Values {
         true
     }
 
-    // Feeds a hash each value.
+    // Writes each value to a hasher, without their number.
     #[cycle(feed)]
     pub(crate) fn feed<H: Hasher>(&self, state: &mut H)
         ensures { state.new ≡ fold H.write state.old (value_list_writes self.now) }

@@ -1,4 +1,4 @@
-//! The rows of a document as values of any type.
+//! Reads rows of any type as values, row by row.
 
 ghost use Rattle.std.specs.Prelude.{◌≡◌, false, is_some, map, option_map};
 ghost use Rattle.serde_json.specs.Data.{null};
@@ -16,7 +16,7 @@ use serde_json::Value as Json;
 use std::alloc::Global;
 use vx_base::{DType, Fields, PType, Value, Values};
 
-// A row of a type.
+// A row of the type.
 #[cycle(cell)]
 fn read_cell(alloc: Global, json: Json, dtype: &DType) -> Result<Value, Unread>
     ensures { Gives value_of result (row_of (type_of dtype.now) (view json)) }
@@ -37,7 +37,7 @@ fn read_cell(alloc: Global, json: Json, dtype: &DType) -> Result<Value, Unread>
     }
 }
 
-// A null, of a nullable type alone.
+// A null, refused where the type is not nullable.
 fn read_null(dtype: &DType) -> Result<Value, Unread>
     ensures { Gives value_of result (row_of (type_of dtype.now) null) }
 {
@@ -48,14 +48,14 @@ fn read_null(dtype: &DType) -> Result<Value, Unread>
     }
 }
 
-// A row of a kind.
+// A row of a leaf type that isn't null.
 fn read_item<K: Kind>(alloc: Global, json: Json) -> Result<Value, Unread>
     ensures { Gives value_of result (row_of K.dtype (view json)) }
 {
     Ok(K::into_value(K::read(alloc, json)?))
 }
 
-// A whole number of an integer type.
+// A row of an integer type that isn't null.
 fn read_whole(alloc: Global, json: Json, ptype: PType) -> Result<Value, Unread>
     ensures { Gives value_of result (row_of (primitive ptype NonNullable) (view json)) }
 {
@@ -81,7 +81,7 @@ fn list_of(json: Json) -> Result<Vec<Json>, Unread>
     }
 }
 
-// A struct, which is a list of one row for each field.
+// A struct: a list of one value for each field.
 #[cycle(cell)]
 fn read_struct(alloc: Global, json: Json, fields: &Fields) -> Result<Value, Unread>
     ensures { Gives value_of result (struct_row (fields_of fields.now) (view json)) }
@@ -90,7 +90,7 @@ fn read_struct(alloc: Global, json: Json, fields: &Fields) -> Result<Value, Unre
     Ok(Value::List(Values::from_vec(values)))
 }
 
-// A list of rows.
+// A list: its values in a list.
 #[cycle(cell)]
 fn read_list(alloc: Global, json: Json, items: &DType) -> Result<Value, Unread>
     ensures { Gives value_of result (list_row (type_of items.now) (view json)) }
@@ -99,7 +99,7 @@ fn read_list(alloc: Global, json: Json, items: &DType) -> Result<Value, Unread>
     Ok(Value::List(Values::from_vec(values)))
 }
 
-// A list of so many rows.
+// A list of `size` values.
 #[cycle(cell)]
 fn read_fixed_list(alloc: Global, json: Json, items: &DType, size: u32) -> Result<Value, Unread>
     ensures { Gives value_of result (fixed_list_row (type_of items.now) size (view json)) }
@@ -112,7 +112,7 @@ fn read_fixed_list(alloc: Global, json: Json, items: &DType, size: u32) -> Resul
     Ok(Value::List(Values::from_vec(values)))
 }
 
-// A row for each field.
+// A value for each field, by its type.
 #[cycle(cell)]
 fn read_fields(alloc: Global, list: Vec<Json>, fields: &Fields) -> Result<Vec<Value>, Unread>
     ensures { Gives (λ values. map value_of values.items) result (field_rows (fields_of fields.now) (items_view list.items)) }
@@ -129,7 +129,7 @@ fn read_fields(alloc: Global, list: Vec<Json>, fields: &Fields) -> Result<Vec<Va
     Ok(values)
 }
 
-// The rows of a list, each of which is let go as it is read.
+// The rows of a list. Each value of JSON is dropped as it is read.
 #[cycle(cell)]
 pub(crate) fn read_cells(
     alloc: Global,

@@ -1,13 +1,13 @@
-//! The column of a document, and its plain tree.
+//! The column of a document: flat types are read as their plain tree, nested ones as values first.
 
 ghost use Rattle.std.specs.List.{list_all};
 ghost use Rattle.std.specs.Prelude.{◌≡◌, IfOk, nat_le};
 ghost use Rattle.serde_json.specs.View.{view, items_view};
 ghost use Rattle.vx_base.specs.Answers.{Answers};
 ghost use Rattle.vx_base.specs.TypeOf.{type_of};
-ghost use Rattle.vx_model.specs.Column.{IsColumn};
+ghost use Rattle.vx_model.specs.Column.{IsColumn, column_of};
 ghost use Rattle.vx_model.specs.Extents.{counts, row_limit};
-ghost use Rattle.vx_model.specs.Plain.{plain};
+ghost use Rattle.vx_model.specs.Plain.{plain, IsPlain};
 ghost use Rattle.vx_document.specs.Reading.{Gives, all_by};
 ghost use Rattle.vx_document.specs.RowsOf.{row_of, rows_of};
 
@@ -20,16 +20,16 @@ use std::marker::Model;
 use vx_array::{ArrayRef, counts_fit};
 use vx_base::{DType, Value, VortexResult};
 
-// Rows as they are read.
+// Rows as they are read. Values wait until their counts are known to fit, since a short document can name a huge tree.
 #[derive(Drop)]
 enum ReadRows {
-    // The plain tree of a type whose values hold no others.
+    // The plain tree of a flat type.
     Plain(ArrayRef),
-    // A type, and values that fit it.
+    // A nested type, and values that fit it.
     Values(DType, Vec<Value>),
 }
 
-/// The column of a document. Contracts see it as plain data.
+/// The column of a document. Contracts see it as its type and its rows.
 pub struct DocumentColumn {
     rows: ReadRows,
 }
@@ -54,7 +54,7 @@ impl Drop for DocumentColumn {
 }
 
 impl DocumentColumn {
-    /// Whether the column's rows, and those of each nested column, are at most 2^31. No tree is made for it.
+    /// Whether the column and each nested one are within the row limit, 2^31 rows. No tree is made.
     #[tactic(auto, using(crate::proofs::ReadColumns::counting))]
     pub fn counts_fit(&self) -> bool
         ensures { result ≡ list_all (λ count. nat_le count row_limit) (counts self.now.dtype self.now.values) }
@@ -65,7 +65,7 @@ impl DocumentColumn {
         }
     }
 
-    /// Tells a proof that each value fits the type.
+    /// The fact that each value fits the type, for proofs. It does nothing.
     pub fn known(&self)
         ensures { IsColumn self.now }
     {
@@ -74,9 +74,12 @@ impl DocumentColumn {
         }
     }
 
-    /// The plain tree, which the values move into. Only want of memory refuses.
+    /// The plain tree of the column. An Err is want of memory. The column is not handed back: its values move into the
+    /// tree as it is made.
     pub fn into_plain(self, alloc: Global) -> VortexResult<ArrayRef>
-        ensures { Answers result (plain self) }
+        ensures tree { Answers result (plain self) }
+        ensures plain { IfOk result (λ tree. IsPlain tree) }
+        ensures kept { IfOk result (λ tree. column_of tree ≡ self) }
     {
         let DocumentColumn { rows } = self;
         match rows {
@@ -86,7 +89,7 @@ impl DocumentColumn {
     }
 }
 
-// The column of a list of rows.
+// The column of a list of rows of a type.
 #[tactic(auto, using(crate::proofs::FlatColumns::reads))]
 fn read_list(alloc: Global, list: Vec<Json>, dtype: DType) -> Result<DocumentColumn, Unread>
     ensures rows { Gives (λ column. column.values) result (all_by (row_of (type_of dtype)) (items_view list.items)) }
@@ -104,7 +107,7 @@ fn read_list(alloc: Global, list: Vec<Json>, dtype: DType) -> Result<DocumentCol
     })
 }
 
-// The column of a value's rows.
+// The column of a type whose rows are a value of JSON, which has to be a list.
 #[tactic(auto, unfolding(crate::specs::RowsOf::rows_of))]
 pub(crate) fn read_column(alloc: Global, json: Json, dtype: DType) -> Result<DocumentColumn, Unread>
     ensures rows { Gives (λ column. column.values) result (rows_of (type_of dtype) (view json)) }

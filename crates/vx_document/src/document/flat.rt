@@ -1,4 +1,4 @@
-//! The columns of types whose values hold no others, as their plain trees.
+//! Reads the rows of flat types as their plain trees.
 
 ghost use Rattle.std.specs.Prelude.{◌≡◌, map, pos, true};
 ghost use Rattle.serde_json.specs.View.{items_view};
@@ -7,7 +7,7 @@ ghost use Rattle.vx_base.specs.PlainValue.{int};
 ghost use Rattle.vx_base.specs.TypeOf.{type_of};
 ghost use Rattle.vx_values.specs.IntsOf.{ptype_of, wholes_of};
 ghost use Rattle.vx_document.specs.Reading.{Gives, GivesForm, all_by};
-ghost use Rattle.vx_document.specs.RowsOf.{AreRows, plain_rows, row_of};
+ghost use Rattle.vx_document.specs.RowsOf.{AreReadRows, plain_rows, row_of};
 
 use crate::document::kinds::{Binaries, Texts, Truths, Wholes};
 use crate::document::rows::read_rows;
@@ -18,7 +18,7 @@ use vx_array::ArrayRef;
 use vx_base::{DType, Mask, Nullability, PType, TimestampType};
 use vx_values::Ints;
 
-// Truth values.
+// The plain tree of truth values.
 fn read_truths(
     alloc: Global,
     list: Vec<Value>,
@@ -33,19 +33,19 @@ fn read_truths(
         nullability,
     ) {
         Ok(tree) => Ok(tree),
-        // Rows that fit their type are never refused.
+        // Rows that fit their type are never refused, so this arm is never reached.
         Err(_refused) => Err(Unread::BadDocument),
     }
 }
 
-// Integers of one type that the value tells.
+// Rows of an integer type, and their validity.
 #[derive(Drop)]
 struct TypedRows {
     values: Ints,
     valid: Option<Mask>,
 }
 
-// The rows of the type, by the reader of its integers.
+// Reads rows of the integer type of a variant of Ints.
 macro_rules! typed_rows {
     ($alloc:expr, $list:expr, $nullability:expr, $variant:ident, $integer:ty) => {{
         let rows = read_rows::<Wholes<$integer>>($alloc, $list, $nullability)?;
@@ -56,7 +56,7 @@ macro_rules! typed_rows {
     }};
 }
 
-// The rows of a list of values, of an integer type.
+// The rows of an integer type.
 #[tactic(auto, using(crate::proofs::FlatColumns::fused))]
 fn read_typed(
     alloc: Global,
@@ -64,7 +64,7 @@ fn read_typed(
     ptype: PType,
     nullability: Nullability,
 ) -> Result<TypedRows, Unread>
-    ensures { GivesForm (λ rows values. (ptype_of rows.values ≡ ptype) × AreRows (int (pos 0)) nullability (map int (wholes_of rows.values)) rows.valid values) result
+    ensures { GivesForm (λ rows values. (ptype_of rows.values ≡ ptype) × AreReadRows (int (pos 0)) nullability (map int (wholes_of rows.values)) rows.valid values) result
         (all_by (row_of (primitive ptype nullability)) (items_view list.items)) }
 {
     match ptype {
@@ -79,7 +79,7 @@ fn read_typed(
     }
 }
 
-// Integers.
+// The plain tree of integers.
 fn read_integers(
     alloc: Global,
     list: Vec<Value>,
@@ -91,12 +91,12 @@ fn read_integers(
     let rows = read_typed(alloc, list, ptype, nullability)?;
     match ArrayRef::primitive(rows.values, rows.valid, nullability) {
         Ok(tree) => Ok(tree),
-        // Rows that fit their type are never refused.
+        // Rows that fit their type are never refused, so this arm is never reached.
         Err(_refused) => Err(Unread::BadDocument),
     }
 }
 
-// Texts.
+// The plain tree of texts.
 fn read_texts(alloc: Global, list: Vec<Value>, nullability: Nullability) -> Result<ArrayRef, Unread>
     ensures { Gives (λ tree. tree) result (plain_rows (utf8 nullability) (items_view list.items)) }
 {
@@ -104,12 +104,12 @@ fn read_texts(alloc: Global, list: Vec<Value>, nullability: Nullability) -> Resu
     let dtype = DType::utf8(nullability);
     match ArrayRef::var_bin_view(rows.items, rows.valid, dtype) {
         Ok(tree) => Ok(tree),
-        // Rows that fit their type are never refused.
+        // Rows that fit their type are never refused, so this arm is never reached.
         Err(_refused) => Err(Unread::BadDocument),
     }
 }
 
-// Binaries.
+// The plain tree of binaries.
 fn read_binaries(
     alloc: Global,
     list: Vec<Value>,
@@ -121,12 +121,12 @@ fn read_binaries(
     let dtype = DType::binary(nullability);
     match ArrayRef::var_bin_view(rows.items, rows.valid, dtype) {
         Ok(tree) => Ok(tree),
-        // Rows that fit their type are never refused.
+        // Rows that fit their type are never refused, so this arm is never reached.
         Err(_refused) => Err(Unread::BadDocument),
     }
 }
 
-// Timestamps, over their whole numbers.
+// The plain tree of timestamps, over that of their integers.
 fn read_timestamps(
     alloc: Global,
     list: Vec<Value>,
@@ -138,12 +138,12 @@ fn read_timestamps(
     let storage = read_integers(alloc, list, PType::I64, nullability)?;
     match ArrayRef::timestamp(alloc, storage, kind) {
         Ok(tree) => Ok(tree),
-        // Integers of 64 signed bits are refused for want of memory alone.
+        // Over integers of type i64 only want of memory refuses.
         Err(_refused) => Err(Unread::NoMemory),
     }
 }
 
-// The plain tree of a list of values, of a type whose values hold no others.
+// The plain tree of rows of a flat type, whose values have none within.
 pub(crate) fn read_flat(alloc: Global, list: Vec<Value>, dtype: &DType) -> Result<ArrayRef, Unread>
     requires { is_flat (type_of dtype.now) ≡ true }
     ensures { Gives (λ tree. tree) result (plain_rows (type_of dtype.now) (items_view list.items)) }

@@ -1,4 +1,4 @@
-//! The kinds of rows: what one that isn't null is read of, and what stands in place of null.
+//! The kinds of flat rows: how a row that isn't null is read, and the default beneath a null.
 
 ghost use Rattle.std.specs.Prelude.{◌≡◌, false, option_map, string_bytes, refl};
 ghost use Rattle.serde_json.specs.View.{view};
@@ -17,22 +17,22 @@ use std::alloc::Global;
 use std::marker::PhantomData;
 use vx_base::{Bytes, Integer, Text};
 
-// A kind of rows.
+// A kind of flat rows.
 pub(crate) trait Kind {
-    // What stands for a row.
+    // A row that isn't null.
     type Item: Drop;
 
-    // The type, without nulls.
+    // The type, not nullable.
     ghost dtype: { PlainType };
 
     // The value that an item is.
     ghost seen: { Self.Item → PlainValue };
 
-    // The row that a value is.
+    // Reads a row that isn't null.
     fn read(alloc: Global, value: Value) -> Result<Self::Item, Unread>
         ensures { Gives seen result (row_of dtype (view value)) };
 
-    // What stands in place of null.
+    // The default of the type, which stands beneath a null.
     fn default(alloc: Global) -> Self::Item
         ensures { seen result ≡ default_of dtype };
 
@@ -114,7 +114,7 @@ impl<T: Integer> Kind for Wholes<T> {
     ghost not_null = { λ x. refl };
 }
 
-// Bytes of which there are fewer than 2^32.
+// Refuses 2^32 bytes and more: a view has 32 bits for the length of a row.
 fn short(bytes: Bytes) -> Result<Bytes, Unread>
     ensures { Gives (λ bytes. bytes) result (option_map (λ _. bytes) (when (is_short bytes))) }
 {
@@ -156,7 +156,7 @@ impl Kind for Texts {
     ghost not_null = { λ x. refl };
 }
 
-// Binaries, as texts of their digits.
+// Binaries, which JSON has as hexadecimal texts.
 pub(crate) struct Binaries;
 
 impl Kind for Binaries {
@@ -187,7 +187,7 @@ impl Kind for Binaries {
     ghost not_null = { λ x. refl };
 }
 
-// The bytes whose digits a text is, which is let go.
+// The bytes that a text writes in hexadecimal.
 fn bytes_of_digits(alloc: Global, text: String) -> Result<Bytes, Unread>
     ensures { Gives (λ bytes. bytes) result (bytes_of_digits (string_bytes text)) }
 {

@@ -1,4 +1,4 @@
-//! The members of an object, and the items of a list.
+//! Members of an object, and the items of a pair.
 
 ghost use Rattle.std.specs.Prelude.{◌≡◌, ℕ, List, map, false, option_map};
 ghost use Rattle.std.specs.Str.{bytes_eq};
@@ -16,7 +16,7 @@ fn is_one_of(key: &str, names: &[&str]) -> bool
     names.contains(&key)
 }
 
-// Whether no other key stands in the object.
+// Whether each key of the object is one of these names.
 pub(crate) fn has_only(object: &Map<String, Value>, names: &[&str]) -> bool
     ensures { result ≡ has_only (map (λ name. name.now) names.now) (members_view object.now.entries) }
 {
@@ -35,7 +35,7 @@ pub(crate) fn has_member(map: &Map<String, Value>, name: &str) -> bool
     map.contains_key(name)
 }
 
-// Takes a member out of the object; the other keys keep theirs.
+// Takes the member of a key out of the object, and leaves the others.
 pub(crate) fn take_member(map: &mut Map<String, Value>, name: &str) -> Option<Value>
     ensures taken { option_map view result ≡ get_member name.now (members_view map.old.entries) }
     ensures others { (key : List ℕ) → bytes_eq name.now key ≡ false
@@ -44,7 +44,7 @@ pub(crate) fn take_member(map: &mut Map<String, Value>, name: &str) -> Option<Va
     map.remove(name)
 }
 
-// The two items of a list that has no more.
+// The items of a list of two.
 pub(crate) fn pair_of(list: Vec<Value>) -> Option<(Value, Value)>
     ensures { result ≡ pair_of list.items }
 {

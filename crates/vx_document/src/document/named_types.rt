@@ -1,4 +1,4 @@
-//! The types that a text names.
+//! The types that have a name of one text.
 
 ghost use Rattle.std.specs.Prelude.{◌≡◌, IsTrue, option_map, None};
 ghost use Rattle.vx_base.specs.PlainType.{timestamp};
@@ -19,7 +19,7 @@ fn stamps(unit: TimeUnit, nullability: Nullability) -> DType
     }
 }
 
-// The type of a text.
+// The type whose name the text is.
 #[tactic(auto, unfolding(crate::specs::Types::type_named))]
 pub(crate) fn type_named(text: &str) -> Option<DType>
     ensures { option_map type_of result ≡ type_named text.now }

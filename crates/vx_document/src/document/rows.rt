@@ -1,4 +1,4 @@
-//! The rows of a document as lists of one kind.
+//! Reads rows of a flat kind as a list of items and their validity.
 
 ghost use Rattle.std.specs.Prelude.{◌≡◌, ◌∷◌, ◌++◌, [], map, option_map, unwrap_or, OnOk, IfOk};
 ghost use Rattle.serde_json.specs.View.{view, items_view};
@@ -6,7 +6,7 @@ ghost use Rattle.vx_base.specs.Defaults.{default_of, or_default};
 ghost use Rattle.vx_base.specs.PlainType.{with_nullability};
 ghost use Rattle.vx_base.specs.PlainValue.{null};
 ghost use Rattle.vx_document.specs.Reading.{Gives, GivesForm, all_by};
-ghost use Rattle.vx_document.specs.RowsOf.{AreRows, row_of, bits_of};
+ghost use Rattle.vx_document.specs.RowsOf.{AreReadRows, row_of, bits_of};
 
 use crate::document::kinds::Kind;
 use crate::document::unread::Unread;
@@ -14,14 +14,14 @@ use serde_json::Value;
 use std::alloc::{AllocError, Global};
 use vx_base::{Items, Mask, Nullability};
 
-// Rows of one kind: the default beneath nulls, and where the type is nullable whether each row is valid.
+// Rows of one kind: an item for each, the default beneath a null, and the validity of a nullable type.
 #[derive(Drop)]
 pub(crate) struct Rows<T> {
     pub(crate) items: Items<T>,
     pub(crate) valid: Option<Mask>,
 }
 
-// A row, which is null or an item.
+// A row: None for null.
 fn read_row<K: Kind>(
     alloc: Global,
     value: Value,
@@ -36,7 +36,7 @@ fn read_row<K: Kind>(
     Ok(Some(K::read(alloc, value)?))
 }
 
-// A row's item: the default beneath a null.
+// The item of a row: the default for null.
 fn item_of<K: Kind>(alloc: Global, row: Option<K::Item>) -> K::Item
     ensures { K.seen result ≡ or_default (default_of K.dtype) (unwrap_or (option_map K.seen row) null) }
 {
@@ -46,7 +46,7 @@ fn item_of<K: Kind>(alloc: Global, row: Option<K::Item>) -> K::Item
     }
 }
 
-// One truth value more, where there are any.
+// Appends a truth value to a validity, if there is one.
 fn push_bit(valid: &mut Option<Vec<bool>>, bit: bool) -> Result<(), AllocError>
     ensures { OnOk result (option_map (λ v. v.items) valid.new ≡ option_map (λ v. v.items ++ bit ∷ []) valid.old) }
 {
@@ -56,13 +56,13 @@ fn push_bit(valid: &mut Option<Vec<bool>>, bit: bool) -> Result<(), AllocError>
     Ok(())
 }
 
-// The rows of a list of values, each of which is let go as it is read.
+// The rows of a list. Each value of JSON is dropped as it is read.
 pub(crate) fn read_rows<K: Kind>(
     alloc: Global,
     list: Vec<Value>,
     nullability: Nullability,
 ) -> Result<Rows<K::Item>, Unread>
-    ensures { GivesForm (λ rows. AreRows (default_of K.dtype) nullability (map K.seen rows.items) rows.valid) result
+    ensures { GivesForm (λ rows. AreReadRows (default_of K.dtype) nullability (map K.seen rows.items) rows.valid) result
         (all_by (row_of (with_nullability K.dtype nullability)) (items_view list.items)) }
 {
     let mut items = Vec::with_capacity(alloc, list.len())?;
@@ -78,7 +78,7 @@ pub(crate) fn read_rows<K: Kind>(
     })
 }
 
-// Room for the truth values of a nullable type.
+// An empty validity with room for `len` rows; None for a type that is not nullable.
 fn bits_for(
     alloc: Global,
     nullability: Nullability,
@@ -93,7 +93,7 @@ fn bits_for(
     }
 }
 
-// The truth values as a mask.
+// The validity as a mask.
 fn mask_of(valid: Option<Vec<bool>>) -> Option<Mask>
     ensures { result ≡ option_map (λ v. v.items) valid }
 {

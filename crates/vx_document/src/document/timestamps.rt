@@ -1,4 +1,4 @@
-//! The types of timestamps that an object names.
+//! Reads a type of timestamps from an object.
 
 ghost use Rattle.std.specs.Prelude.{◌≡◌, IfOk, IfSome, IsTrue, option_map};
 ghost use Rattle.serde_json.specs.View.{view, members_view};
@@ -13,7 +13,7 @@ use crate::document::unread::Unread;
 use serde_json::{Map, Value};
 use vx_base::{DType, Text, TimeUnit, TimestampType};
 
-// The unit of a text, which is never days.
+// The unit whose name the text is. Days have no name here, since no timestamp counts them.
 #[tactic(auto, unfolding(crate::specs::Types::unit_named))]
 fn unit_named(text: &str) -> Option<TimeUnit>
     ensures unit { result ≡ unit_named text.now }
@@ -28,7 +28,7 @@ fn unit_named(text: &str) -> Option<TimeUnit>
     }
 }
 
-// The unit of a value.
+// The unit at the key `timestamp`, which has to be there.
 fn read_unit(value: Option<Value>) -> Result<TimeUnit, Unread>
     ensures unit { Gives (λ unit. unit) result (unit_in (option_map view value)) }
     ensures divides { IfOk result (λ unit. IsTrue (divides unit)) }
@@ -39,7 +39,7 @@ fn read_unit(value: Option<Value>) -> Result<TimeUnit, Unread>
     }
 }
 
-// The zone of a value, which may be absent.
+// The zone at the key `zone`, which may be absent.
 fn read_zone(value: Option<Value>) -> Result<Option<Text>, Unread>
     ensures { Gives (λ zone. zone) result (zone_in (option_map view value)) }
 {
@@ -50,7 +50,7 @@ fn read_zone(value: Option<Value>) -> Result<Option<Text>, Unread>
     }
 }
 
-// The type of an object that has no other type's key.
+// The type of timestamps that an object names.
 #[tactic(auto, unfolding(crate::specs::Types::timestamp_of))]
 pub(crate) fn read_timestamp(mut map: Map<String, Value>) -> Result<DType, Unread>
     ensures { Gives type_of result (timestamp_of (members_view map.entries)) }
@@ -63,7 +63,7 @@ pub(crate) fn read_timestamp(mut map: Map<String, Value>) -> Result<DType, Unrea
     let nullability = read_nullability(take_member(&mut map, "nullable"))?;
     match TimestampType::new(unit, zone) {
         Ok(kind) => Ok(DType::timestamp(kind, nullability)),
-        // A unit that has a name divides a second.
+        // Each unit with a name divides a second.
         Err(_) => unreachable!(),
     }
 }

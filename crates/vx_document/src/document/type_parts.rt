@@ -1,4 +1,4 @@
-//! What stands in an object beside a type.
+//! The members that a type has beside its own key: its nullability, and the size of a fixed-size list.
 
 ghost use Rattle.std.specs.Prelude.{option_map};
 ghost use Rattle.serde_json.specs.View.{view};
@@ -9,7 +9,7 @@ use crate::document::unread::Unread;
 use serde_json::Value;
 use vx_base::Nullability;
 
-// The nullability of a value, which may be absent.
+// The nullability at the key `nullable`; NonNullable where it is absent.
 pub(crate) fn read_nullability(value: Option<Value>) -> Result<Nullability, Unread>
     ensures { Gives (λ n. n) result (nullability_in (option_map view value)) }
 {
@@ -20,7 +20,7 @@ pub(crate) fn read_nullability(value: Option<Value>) -> Result<Nullability, Unre
     }
 }
 
-// The size of a value, which is below 2^32.
+// The size at the key `size`, from 0 to 2^32 - 1, which has to be there.
 pub(crate) fn read_size(value: Option<Value>) -> Result<u32, Unread>
     ensures { Gives (λ size. size) result (size_in (option_map view value)) }
 {

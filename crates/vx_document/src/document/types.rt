@@ -1,4 +1,4 @@
-//! The type that a document names.
+//! Reads a type from a text or an object.
 
 ghost use Rattle.std.specs.Prelude.{option_map, option_and_then, codes};
 ghost use Rattle.serde_json.specs.Data.{object};
@@ -16,7 +16,7 @@ use serde_json::{Map, Value};
 use std::alloc::Global;
 use vx_base::{DType, Fields, Text};
 
-// The type that a value is.
+// The type that a value of JSON names.
 #[cycle(types)]
 pub(crate) fn read_type(alloc: Global, value: Value) -> Result<DType, Unread>
     ensures { Gives type_of result (type_read (view value)) }
@@ -28,7 +28,7 @@ pub(crate) fn read_type(alloc: Global, value: Value) -> Result<DType, Unread>
     }
 }
 
-// The type of an object, by its key.
+// The type that an object names, by the key that it has.
 #[cycle(types)]
 fn read_object(alloc: Global, map: Map<String, Value>) -> Result<DType, Unread>
     ensures { Gives type_of result (type_read (object (members_view map.entries))) }
@@ -45,7 +45,7 @@ fn read_object(alloc: Global, map: Map<String, Value>) -> Result<DType, Unread>
     read_timestamp(map)
 }
 
-// Structs.
+// A type of structs.
 #[cycle(types)]
 #[tactic(auto, using(crate::proofs::DocumentTypes::keyed))]
 fn read_structs(alloc: Global, mut map: Map<String, Value>) -> Result<DType, Unread>
@@ -59,7 +59,7 @@ fn read_structs(alloc: Global, mut map: Map<String, Value>) -> Result<DType, Unr
     Ok(DType::structure(fields, nullability))
 }
 
-// Lists.
+// A type of lists.
 #[cycle(types)]
 #[tactic(auto, using(crate::proofs::DocumentTypes::keyed))]
 fn read_lists(alloc: Global, mut map: Map<String, Value>) -> Result<DType, Unread>
@@ -73,7 +73,7 @@ fn read_lists(alloc: Global, mut map: Map<String, Value>) -> Result<DType, Unrea
     Ok(DType::list(items, nullability))
 }
 
-// Lists of one size.
+// A type of fixed-size lists.
 #[cycle(types)]
 #[tactic(auto, using(crate::proofs::DocumentTypes::keyed))]
 fn read_fixed_lists(alloc: Global, mut map: Map<String, Value>) -> Result<DType, Unread>
@@ -88,7 +88,7 @@ fn read_fixed_lists(alloc: Global, mut map: Map<String, Value>) -> Result<DType,
     Ok(DType::fixed_size_list(items, size, nullability))
 }
 
-// The type of a list's items.
+// The type of the items of lists.
 #[cycle(types)]
 fn read_items(alloc: Global, value: Option<Value>) -> Result<Box<DType>, Unread>
     ensures { Gives (λ items. type_of items.value) result (option_and_then type_read (option_map view value)) }
@@ -100,7 +100,7 @@ fn read_items(alloc: Global, value: Option<Value>) -> Result<Box<DType>, Unread>
     Ok(Box::new(alloc, items)?)
 }
 
-// The fields of a struct, each a list of its name and its type.
+// The fields of structs, which are a list of pairs.
 #[cycle(types)]
 fn read_fields(alloc: Global, value: Option<Value>) -> Result<Fields, Unread>
     ensures { Gives fields_of result (option_and_then fields_in (option_map view value)) }
@@ -114,7 +114,7 @@ fn read_fields(alloc: Global, value: Option<Value>) -> Result<Fields, Unread>
     }
 }
 
-// The fields of a list.
+// The fields that a list has.
 #[cycle(types)]
 fn read_field_list(alloc: Global, list: Vec<Value>) -> Result<Fields, Unread>
     ensures { Gives fields_of result (all_by field_read (items_view list.items)) }
@@ -126,7 +126,7 @@ fn read_field_list(alloc: Global, list: Vec<Value>) -> Result<Fields, Unread>
     Ok(Fields::from_vec(fields))
 }
 
-// A field.
+// A field: a pair of its name and its type.
 #[cycle(types)]
 fn read_field(alloc: Global, value: Value) -> Result<(Text, DType), Unread>
     ensures { Gives field_of result (field_read (view value)) }

@@ -1,16 +1,16 @@
-//! Why there is no document.
+//! Why bytes are not read as a document.
 
 ghost use Rattle.std.specs.Prelude.{◌≡◌};
 ghost use Rattle.vx_document.specs.declared.document.unread.Unread.TheVariants.{NoMemory};
 
 use std::alloc::{AllocError, AllocFailed};
 
-/// Why there is no document.
+/// Why bytes are not read as a document.
 #[derive(Clone, Copy, Debug, Drop)]
 pub enum Unread {
     /// Memory ran out.
     NoMemory,
-    /// The bytes are no document.
+    /// The bytes are not a document.
     BadDocument,
 }
 

@@ -15,10 +15,10 @@ use serde_json::Value;
 use std::alloc::{AllocError, Global};
 use vx_base::Words;
 
-// The most words of a list, and as many as a seed stands for.
+// The most words that a document may list, and the number that a seed stands for.
 const MOST_WORDS: usize = 1024;
 
-// The words of a list of values.
+// A list of words.
 fn read_words(alloc: Global, list: Vec<Value>) -> Result<Vec<u64>, Unread>
     ensures { Gives (λ v. v.items) result (all_by word_of (items_view list.items)) }
 {
@@ -32,7 +32,7 @@ fn read_words(alloc: Global, list: Vec<Value>) -> Result<Vec<u64>, Unread>
     Ok(words)
 }
 
-// The words of a value, at least one and at most `MOST_WORDS`.
+// A list of 1 to `MOST_WORDS` words.
 #[tactic(auto, unfolding(crate::specs::Words::words_of))]
 fn words_of(alloc: Global, value: Value) -> Result<Words, Unread>
     ensures words { Gives (λ words. words) result (words_of (view value)) }
@@ -48,7 +48,7 @@ fn words_of(alloc: Global, value: Value) -> Result<Words, Unread>
     Ok(Words::from_vec(words))
 }
 
-// So many outputs of a generator, one a step.
+// The first `count` outputs of a generator.
 fn outputs(alloc: Global, mut generator: Lcg64Xsh32, count: usize) -> Result<Vec<u64>, AllocError>
     ensures words { IfOk result (λ v. v.items ≡ first_words pcg32 count generator) }
     ensures count { IfOk result (λ v. length v.items ≡ count) }
@@ -60,7 +60,7 @@ fn outputs(alloc: Global, mut generator: Lcg64Xsh32, count: usize) -> Result<Vec
     Ok(words)
 }
 
-// The words that a seed stands for.
+// The `MOST_WORDS` words that a seed stands for.
 fn words_from(alloc: Global, seed: u64) -> Result<Words, AllocError>
     ensures words { IfOk result (λ words. words ≡ words_from seed) }
     ensures some { IfOk result (λ words. 0 < length words) }
@@ -69,7 +69,7 @@ fn words_from(alloc: Global, seed: u64) -> Result<Words, AllocError>
     Ok(Words::from_vec(outputs(alloc, generator, MOST_WORDS)?))
 }
 
-// The words of one of two members: a list, or a seed.
+// The words of the member `words` or of the member `seed`; a document has exactly one of them.
 pub(crate) fn words_in(
     alloc: Global,
     words: Option<Value>,

@@ -1,8 +1,7 @@
 //! The line of a node.
 
-ghost use Rattle.std.specs.Prelude.{◌≡◌, ◌<◌, ◌^◌, ◌++◌, OnOk, string_bytes, codes};
+ghost use Rattle.std.specs.Prelude.{◌≡◌, ◌++◌, OnOk, string_bytes, codes};
 ghost use Rattle.vx_base.specs.TypeText.{value_text};
-ghost use Rattle.vx_model.specs.Size.{size};
 ghost use Rattle.vx_model.specs.Tree.{PlainPacked, packed_of};
 ghost use Rattle.vx_array.specs.TreeOf.{sparse_of, tree_of, unboxed};
 ghost use Rattle.vx_document.specs.Listing.{packed_numbers, own_numbers, heading, line};
@@ -11,7 +10,7 @@ use std::alloc::{AllocError, Global};
 use vx_array::{ArrayRef, Node, Patches};
 use vx_base::Scalar;
 
-// Adds a scalar's value behind a name, as compact JSON.
+// Appends ` name=value`, the value of a scalar as compact JSON.
 fn push_named(
     alloc: Global,
     text: &mut String,
@@ -29,7 +28,7 @@ fn push_named(
     Ok(())
 }
 
-// How many patches there are.
+// The number of patches, 0 where there are none.
 fn patch_count(patches: &Option<Box<Patches>>) -> u64
     ensures { (k : PlainPacked) → own_numbers (packed_of k (unboxed patches.now)) ≡ packed_numbers k.width result }
 {
@@ -39,7 +38,7 @@ fn patch_count(patches: &Option<Box<Patches>>) -> u64
     }
 }
 
-// Adds the offset of patches, the value in all other rows, and how many patches there are.
+// Appends the offset of patches, the fill of all other rows, and the number of patches.
 fn push_patched(
     alloc: Global,
     text: &mut String,
@@ -57,7 +56,7 @@ fn push_patched(
     Ok(())
 }
 
-// Adds the numbers that only this encoding has.
+// Appends the numbers that the encoding has beside those of every node.
 fn push_own_numbers(alloc: Global, text: &mut String, node: &Node) -> Result<(), AllocError>
     ensures { OnOk result (string_bytes text.new
         ≡ string_bytes text.old ++ own_numbers (tree_of node.now)) }
@@ -87,10 +86,9 @@ fn push_own_numbers(alloc: Global, text: &mut String, node: &Node) -> Result<(),
     }
 }
 
-// Adds the root's encoding, type, rows and bytes.
+// Appends the root's encoding, type, rows and bytes.
 #[tactic(auto, unfolding(crate::specs::Listing::heading))]
 fn push_heading(text: &mut String, tree: &ArrayRef) -> Result<(), AllocError>
-    requires { size tree.now < 2 ^ 128 }
     ensures { OnOk result (string_bytes text.new ≡ string_bytes text.old ++ heading tree.now) }
 {
     let id = tree.encoding_id();
@@ -101,7 +99,7 @@ fn push_heading(text: &mut String, tree: &ArrayRef) -> Result<(), AllocError>
     Ok(())
 }
 
-// Adds the root's line.
+// Appends the root's line.
 #[tactic(auto, unfolding(crate::specs::Listing::line))]
 pub(super) fn push_line(
     alloc: Global,
@@ -109,7 +107,6 @@ pub(super) fn push_line(
     indent: &str,
     tree: &ArrayRef,
 ) -> Result<(), AllocError>
-    requires { size tree.now < 2 ^ 128 }
     ensures { OnOk result (string_bytes text.new ≡ string_bytes text.old ++ line indent.now tree.now) }
 {
     write!(text, "{indent}")?;

@@ -11,7 +11,7 @@ use vx_base::VortexResult;
 use vx_btrblocks::{AnyScheme, BtrBlocksCompressor, shipped_schemes};
 use vx_compressor::{CascadingCompressor, Schemes};
 
-// Joined texts, and then the shipped schemes in their order.
+// Joined texts in front of the shipped schemes.
 fn schemes(alloc: Global) -> VortexResult<Schemes<AnyScheme<JoinedTexts>>>
     ensures { OrMemory result (λ schemes. map (any_meaning (λ scheme. joined_texts)) schemes ≡ with_joined_texts) }
 {

@@ -11,7 +11,7 @@ use vx_base::VortexResult;
 use vx_btrblocks::{AnyScheme, BtrBlocksCompressor, shipped_schemes};
 use vx_compressor::{CascadingCompressor, Schemes};
 
-// The shipped schemes in their order, and then the caller's.
+// Quick packing behind the shipped schemes.
 fn schemes(alloc: Global) -> VortexResult<Schemes<AnyScheme<QuickPacking>>>
     ensures { OrMemory result (λ schemes. map (any_meaning (λ scheme. quick_packing)) schemes ≡ with_quick_packing) }
 {

@@ -11,7 +11,7 @@ use vx_base::VortexResult;
 use vx_btrblocks::{AnyScheme, BtrBlocksCompressor, shipped_schemes};
 use vx_compressor::{CascadingCompressor, Schemes};
 
-// Span frames, and then the shipped schemes in their order.
+// Span frames in front of the shipped schemes.
 fn schemes(alloc: Global) -> VortexResult<Schemes<AnyScheme<SpanFrame>>>
     ensures { OrMemory result (λ schemes. map (any_meaning (λ scheme. span_frame)) schemes ≡ with_span_frames) }
 {

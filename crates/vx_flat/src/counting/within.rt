@@ -1,4 +1,4 @@
-//! The rows that values have in a column within theirs.
+//! The rows that values have in a column nested in theirs.
 
 ghost use Rattle.std.specs.Prelude.{◌≡◌, ◌^◌, ◌-◌, ◌∷◌, [], map, min, option_map};
 ghost use Rattle.vx_base.specs.PlainValue.{is_null, items_or_empty};
@@ -10,7 +10,7 @@ use super::Way;
 use crate::elements::values_of;
 use vx_base::{DType, Value};
 
-/// The rows that values have in the column that a way leads to. At most the greatest number of 64 bits.
+/// The rows that values of a type have in the column at the end of `way`. Saturates at 2^64 - 1.
 #[cycle(rows_within)]
 pub fn rows_within(way: &Way<'_>, dtype: &DType, values: &[Value]) -> u64
     ensures { result ≡ min (count_at (way_of way.now) (type_of dtype.now) (map value_of values.now)) (2 ^ 64 - 1) }
@@ -22,7 +22,7 @@ pub fn rows_within(way: &Way<'_>, dtype: &DType, values: &[Value]) -> u64
     sum
 }
 
-// The same of one value, null where there is none.
+// `rows_within` of one value, of null where there is none.
 #[cycle(rows_within)]
 fn rows_of(way: &Way<'_>, dtype: &DType, value: Option<&Value>) -> u64
     ensures { result ≡ min (count_at (way_of way.now) (type_of dtype.now) (value_in value.entry ∷ [])) (2 ^ 64 - 1) }
@@ -34,7 +34,7 @@ fn rows_of(way: &Way<'_>, dtype: &DType, value: Option<&Value>) -> u64
     }
 }
 
-// Those of a field of the value. A null struct's are those of a null field.
+// `rows_of` the value's field. A null struct counts as one with null in the field.
 #[cycle(rows_within)]
 #[tactic(auto, using(crate::proofs::ValueWayLemmas::ways))]
 fn rows_of_field(rest: &Way<'_>, place: u64, dtype: &DType, value: Option<&Value>) -> u64
@@ -46,7 +46,7 @@ fn rows_of_field(rest: &Way<'_>, place: u64, dtype: &DType, value: Option<&Value
     }
 }
 
-// The type of a field.
+// The type of the field at a place, None where the type has no such field.
 #[tactic(auto, using(crate::proofs::ValueWayLemmas::ways))]
 fn field_type(dtype: &DType, place: u64) -> Option<&DType>
     ensures { option_map (λ t. type_of t.now) result ≡ field_type place (type_of dtype.now) }
@@ -60,7 +60,7 @@ fn field_type(dtype: &DType, place: u64) -> Option<&DType>
     }
 }
 
-// Those of the items of the value. A null list of fixed size has as many null items.
+// `rows_within` of the value's items. A null list has none, a null fixed-size list as many null items as its size.
 #[cycle(rows_within)]
 fn rows_of_items(rest: &Way<'_>, dtype: &DType, value: Option<&Value>) -> u64
     ensures { result ≡ min (count_at (inside (way_of rest.now)) (type_of dtype.now) (value_in value.entry ∷ [])) (2 ^ 64 - 1) }
@@ -74,7 +74,7 @@ fn rows_of_items(rest: &Way<'_>, dtype: &DType, value: Option<&Value>) -> u64
     }
 }
 
-// The type of the items of lists.
+// The type of the items of lists, None of any other type.
 #[tactic(auto, using(crate::proofs::ValueWayLemmas::ways))]
 fn items_type(dtype: &DType) -> Option<&DType>
     ensures { option_map (λ t. type_of t.now) result ≡ items_type (type_of dtype.now) }
@@ -85,7 +85,7 @@ fn items_type(dtype: &DType) -> Option<&DType>
     }
 }
 
-// How many items stand in place of null.
+// How many items stand beneath a null: the size of fixed-size lists, else none.
 #[tactic(auto, using(crate::proofs::ValueWayLemmas::ways))]
 fn items_of_null(dtype: &DType) -> u64
     ensures { result ≡ items_of_null (type_of dtype.now) }
@@ -105,7 +105,7 @@ fn is_null(value: Option<&Value>) -> bool
     }
 }
 
-// The values within a value.
+// The values within a value, none of null.
 fn values_in<'a>(value: Option<&'a Value>) -> &'a [Value]
     ensures { map value_of result.now ≡ items_or_empty (value_in value.entry) }
 {
@@ -115,7 +115,7 @@ fn values_in<'a>(value: Option<&'a Value>) -> &'a [Value]
     }
 }
 
-// One of them.
+// The value within at a place, None where there is none.
 #[tactic(auto, using(crate::proofs::ValueWayLemmas::lent))]
 fn value_within<'a>(value: Option<&'a Value>, place: u64) -> Option<&'a Value>
     ensures { value_in result ≡ row_at (items_or_empty (value_in value.entry)) place }

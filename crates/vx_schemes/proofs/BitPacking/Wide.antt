@@ -1,20 +1,19 @@
 -- Where a histogram counts no row above a width, no row is wider.
-use Rattle.std.proofs.Common.{◌≡◌, ◌<◌, ◌≤◌, ◌+◌, ◌^◌, ◌∙◌, ℕ, zero, suc, ℤ, pos, negsuc, Bool, true, false, List, [], ◌∷◌, length, map, get_or, take, drop, sum, cond, refl, sym, subst, arith, lit<}
+use Rattle.std.proofs.Common.{◌≡◌, ◌<◌, ◌≤◌, ◌+◌, ◌^◌, ◌∙◌, ℕ, zero, suc, ℤ, pos, negsuc, Bool, true, false, List, [], ◌∷◌, length, map, get_or, take, drop, sum, cond, refl, sym, subst, arith}
 use Rattle.std.specs.Prelude.{◌==◌, count_by, filter, not, nat_lt}
 use Rattle.std.specs.List.{list_all, list_any, range_with_len}
 use Rattle.std.proofs.lemmas.Bool.{and_parts, or_parts, ltb-true, lt-ltb}
 use Rattle.std.proofs.lemmas.Bool.Decides.{nat_tests}
 use Rattle.std.proofs.lemmas.List.{length-map}
 use Rattle.std.proofs.lemmas.List.Sums.{sum_by-cons, sum_by-take-drop, sum_by_more, count_by-le-length}
-use Rattle.std.proofs.lemmas.Nat.{leading_length}
-use Rattle.std.proofs.Math.Nat as nat
 use Rattle.vx_base.specs.declared.ptype.PType.{PType}
-use Rattle.vx_base.specs.declared.ptype.PType.TheVariants.{U8, U16, U32, U64, I8, I16, I32, I64}
 use Rattle.vx_base.specs.Digits.{digits}
-use Rattle.vx_base.specs.Integers.{bits_in, bits_of, lies_in, natural_bits}
+use Rattle.vx_base.proofs.DigitsLemmas.{le-digits}
+use Rattle.vx_base.specs.Integers.{bits_in, bits_of, lies_in}
 use Rattle.vx_base.specs.Packed.{is_wide, kept_row, kept_rows, wide_rows}
 use Rattle.vx_blocks.specs.Histogram.{IsHistogram}
 use Rattle.vx_blocks.proofs.Rows.{kept_row-fits, kept_rows-get, length-kept_rows}
+use Rattle.vx_schemes_common.proofs.DigitLemmas.{word_bits}
 use Rattle.vx_schemes.specs.BitPacking.Tree.{is_negative}
 
 -- ---- the entries up to a number of digits count the rows with fewer
@@ -60,7 +59,7 @@ none_counted (count ∷ counts) h =
     let zero_here : count ≡ 0 = grind (arith, nat_tests, parts.0) in
     omega (arith, zero_here, none_counted counts parts.1, sum_by-cons (λ n. n) count counts)
 
--- where the entries above a width count nothing, each row has at most so many digits
+-- where the entries above a width count nothing, each row has at most width digits
 few_digits : (width all : ℕ) (rows counts : List ℕ) → IsHistogram all rows counts → width ≤ all → sum (drop (width + 1) counts) ≡ 0 → (i : ℕ) → i < length rows → nat_lt (digits (get_or rows i 0)) (width + 1) ≡ true
 few_digits width all rows counts h within none =
     all_counted (λ row. nat_lt (digits row) (width + 1)) rows (omega (arith, counted all rows counts h (width + 1) (omega arith), sum_by-take-drop (λ x. x) counts (width + 1), none, h.total))
@@ -69,9 +68,8 @@ few_digits width all rows counts h within none =
 
 below_power : (row width : ℕ) → row < 2 ^ 64 → nat_lt (digits row) (width + 1) ≡ true → row < 2 ^ width
 below_power row width h few =
-    let m = leading_length 64 row h in
-    let short : m.0 ≤ width = omega (arith, m.1, ltb-true _ _ few) in
-    omega (arith, m.2, nat.pow-le-pow_right {n = 2} (lit< tt) short)
+    let fewer : digits row < width + 1 = ltb-true _ _ few in
+    le-digits row width (omega arith)
 
 not_wide : (width bits : ℕ) (valid : Bool) → bits < 2 ^ 64 → nat_lt (digits (kept_row 64 bits valid)) (width + 1) ≡ true → is_wide width bits valid ≡ false
 not_wide width bits false h few = refl
@@ -83,16 +81,6 @@ not_wide width bits true h few =
 filter-none : (q : ℕ → Bool) (start n : ℕ) → ((i : ℕ) → i < start + n → q i ≡ false) → filter q (range_with_len start n) ≡ []
 filter-none q start zero h = refl
 filter-none q start (suc n) h = rw (h start (omega arith)) (filter-none q (start + 1) n (λ i l. h i (omega arith)))
-
-pub word_bits : (p : PType) → 2 ^ natural_bits p ≤ 2 ^ 64
-word_bits U8 = omega arith
-word_bits U16 = omega arith
-word_bits U32 = omega arith
-word_bits U64 = omega arith
-word_bits I8 = omega arith
-word_bits I16 = omega arith
-word_bits I32 = omega arith
-word_bits I64 = omega arith
 
 natural_word : (p : PType) (z : ℤ) → lies_in p z ≡ true → is_negative z ≡ false → bits_in p z < 2 ^ 64
 natural_word p (pos n) held natural = omega (arith, ltb-true _ _ held, word_bits p)

@@ -19,7 +19,7 @@ use Rattle.vx_stats.specs.Stats.{valid_wholes, distinct_values}
 use Rattle.vx_stats.proofs.DistinctLemmas.{times-next, distinct-times}
 use Rattle.vx_stats.proofs.TallyLemmas.{same-eq}
 use Rattle.vx_stats.proofs.StatsLemmas.{valid_wholes-map-int}
-use Rattle.vx_schemes.specs.Dictionary.Tree.{place_in, code_in, code_type}
+use Rattle.vx_schemes.specs.Dictionary.Tree.{code_of, code_in, code_type}
 use Rattle.vx_schemes.specs.Dictionary.Places.{place-holds}
 use Rattle.vx_schemes.specs.Dictionary.Codes.{as_code, codes_in}
 
@@ -40,8 +40,8 @@ codes-next whole f items bits row x done c all within same is code e =
 
 -- ---- codes are the places of the rows' values
 
-code-exact : (p : PType) (numbers : List ℤ) (z : ℤ) → length numbers ≤ 2 ^ natural_bits p → 0 < times numbers z → as_code p numbers z ≡ pos (place_in numbers z)
-code-exact p numbers z few h = wrap-same p (pos (place_in numbers z)) (lt-ltb _ _ (omega (arith, (place-holds numbers z h).within)))
+code-exact : (p : PType) (numbers : List ℤ) (z : ℤ) → length numbers ≤ 2 ^ natural_bits p → 0 < times numbers z → as_code p numbers z ≡ pos (code_of numbers z)
+code-exact p numbers z few h = wrap-same p (pos (code_of numbers z)) (lt-ltb _ _ (omega (arith, (place-holds numbers z h).within)))
 
 -- the numbers of the valid rows are among these
 abbrev Holds : List ℤ → List ℤ → Type 0

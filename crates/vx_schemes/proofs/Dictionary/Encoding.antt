@@ -1,4 +1,4 @@
--- What statistics tell of a column whose dictionary is made, and what the dictionary stands for.
+-- The statistics of a column whose dictionary is made, and what the dictionary stands for.
 use Rattle.std.proofs.Common.{◌≡◌, ◌<◌, ◌^◌, ◌∙◌, ℕ, ℤ, List, length, map, true, Some, None, refl, ap, subst, arith}
 use Rattle.std.specs.Prelude.{IfSome, Result, Ok, Err}
 use Rattle.vx_base.specs.Answers.{Answers, OrMemory}

@@ -9,7 +9,7 @@ use Rattle.std.proofs.lemmas.Bool.{cases_lt}
 use Rattle.std.proofs.lemmas.List.{length-map, get_or-map}
 use Rattle.std.proofs.lemmas.Int.{ints}
 use Rattle.std.proofs.lemmas.List.Sorted.{searchable_from_sorted}
-use Rattle.vx_schemes.specs.Dictionary.Tree.{place_in}
+use Rattle.vx_schemes.specs.Dictionary.Tree.{code_of}
 
 eq-self : (x : ℤ) → int_eq x x ≡ true
 eq-self x = grind (arith, ints)
@@ -31,14 +31,14 @@ below-at z [] k d b h = absurd (omega arith)
 below-at z (w ∷ ws) zero d b h = b.0
 below-at z (w ∷ ws) (suc k) d b h = below-at z ws k d b.1 (omega arith)
 
-place-here : (w : ℤ) (ws : List ℤ) (z : ℤ) → int_eq z w ≡ true → place_in (w ∷ ws) z ≡ 0
-place-here w ws z h = ap (λ b. cond (not b) (1 + place_in ws z) 0) h
+place-here : (w : ℤ) (ws : List ℤ) (z : ℤ) → int_eq z w ≡ true → code_of (w ∷ ws) z ≡ 0
+place-here w ws z h = ap (λ b. cond (not b) (1 + code_of ws z) 0) h
 
-place-later : (w : ℤ) (ws : List ℤ) (z : ℤ) → int_eq z w ≡ false → place_in (w ∷ ws) z ≡ 1 + place_in ws z
-place-later w ws z h = ap (λ b. cond (not b) (1 + place_in ws z) 0) h
+place-later : (w : ℤ) (ws : List ℤ) (z : ℤ) → int_eq z w ≡ false → code_of (w ∷ ws) z ≡ 1 + code_of ws z
+place-later w ws z h = ap (λ b. cond (not b) (1 + code_of ws z) 0) h
 
 -- a number's place is the one where it stands
-pub place-at : (numbers : List ℤ) (k : ℕ) (z d : ℤ) → IsStrictlySortedBy int_cmp numbers → k < length numbers → get_or numbers k d ≡ z → place_in numbers z ≡ k
+pub place-at : (numbers : List ℤ) (k : ℕ) (z d : ℤ) → IsStrictlySortedBy int_cmp numbers → k < length numbers → get_or numbers k d ≡ z → code_of numbers z ≡ k
 unfolding IsStrictlySortedBy
 place-at [] k z d s h e = absurd (omega arith)
 place-at (w ∷ ws) zero z d s h e = place-here w ws z (ap (λ x. int_eq z x) e ∙ eq-self z)
@@ -46,7 +46,7 @@ place-at (w ∷ ws) (suc k) z d s h e =
     place-later w ws z (less-eq w z (subst (λ x. int_cmp w x ≡ Less) e (below-at w ws k d s.0 (omega arith)))) ∙ ap (λ n. 1 + n) (place-at ws k z d s.1 (omega arith) e) ∙ omega arith
 
 -- a number that isn't there has the place behind all
-pub place-missing : (numbers : List ℤ) (z d : ℤ) → ((k : ℕ) → k < length numbers → int_eq z (get_or numbers k d) ≡ false) → place_in numbers z ≡ length numbers
+pub place-missing : (numbers : List ℤ) (z d : ℤ) → ((k : ℕ) → k < length numbers → int_eq z (get_or numbers k d) ≡ false) → code_of numbers z ≡ length numbers
 place-missing [] z d h = refl
 place-missing (w ∷ ws) z d h = place-later w ws z (h 0 (omega arith)) ∙ ap (λ n. 1 + n) (place-missing ws z d (λ k l. h (suc k) (omega arith))) ∙ omega arith
 
@@ -64,13 +64,13 @@ module _ {T : Type 0} (whole : T → ℤ) (cmp : T → T → Ordering) (ordered 
       later : (k : ℕ) → suc (k + 1) ≡ suc k + 1
       later k = omega arith
 
-  pub place-found : (xs : List T) (x : T) (k : ℕ) → IsStrictlySortedBy int_cmp (map whole xs) → k < length xs → ((d : T) → cmp (get_or xs k d) x ≡ Equal) → k ≡ place_in (map whole xs) (whole x)
+  pub place-found : (xs : List T) (x : T) (k : ℕ) → IsStrictlySortedBy int_cmp (map whole xs) → k < length xs → ((d : T) → cmp (get_or xs k d) x ≡ Equal) → k ≡ code_of (map whole xs) (whole x)
   place-found xs x k s h found =
       let there = equal-is (whole (get_or xs k x)) (whole x) (sym (ordered (get_or xs k x) x) ∙ found x) in
       sym (place-at (map whole xs) k (whole x) (whole x) s (omega (arith, length-map xs whole)) (get_or-map whole xs k x (whole x) h ∙ there))
 
   pub place-not_found : (total : IsTotalOrder cmp) (xs : List T) (x : T) (i : ℕ) → IsStrictlySortedBy int_cmp (map whole xs)
-      → (IsNonDecreasingBy (λ y. ordering_index (cmp y x)) xs → IsPartitionPoint (λ y. cmp y x ≡ Less) (λ y. cmp y x ≡ Greater) xs i) → length xs ≡ place_in (map whole xs) (whole x)
+      → (IsNonDecreasingBy (λ y. ordering_index (cmp y x)) xs → IsPartitionPoint (λ y. cmp y x ≡ Less) (λ y. cmp y x ≡ Greater) xs i) → length xs ≡ code_of (map whole xs) (whole x)
   place-not_found total xs x i s parted =
       let parts = parted (searchable_from_sorted total (λ y. y) xs x (values-sorted xs s)) in
       sym (place-missing (map whole xs) (whole x) (whole x) (λ k l. other k (omega (arith, length-map xs whole)) (apart parts k (omega (arith, length-map xs whole)))) ∙ length-map xs whole)

@@ -20,11 +20,12 @@ use Rattle.vx_stats.specs.Distinct.{times}
 use Rattle.vx_scheme.specs.Meaning.{parts}
 use Rattle.vx_scheme.specs.Meaning.{kept as nothing}
 use Rattle.vx_stats.specs.Stats.{valid_wholes, value_count, distinct_values, distinct_counts, distinct_count}
-use Rattle.vx_schemes.specs.Dictionary.Tree.{place_in, code_in, code_type, dictionary_values, dictionary_codes}
+use Rattle.vx_schemes.specs.Dictionary.Tree.{code_of, code_in, code_type, dictionary_values, dictionary_codes}
 use Rattle.vx_schemes.specs.Dictionary.Meaning.{values_found, dictionary_parts}
-use Rattle.vx_schemes.specs.Pairs.{pair_of}
+use Rattle.vx_schemes_common.specs.Pairs.{pair_of}
 use Rattle.vx_schemes.specs.Dictionary.Laws.{dictionary-admitted}
-use Rattle.vx_schemes.proofs.ColumnLemmas.{each_int-long, each_int-plain}
+use Rattle.vx_schemes_common.proofs.ColumnLemmas.{each_int-long, each_int-plain}
+use Rattle.vx_schemes_common.proofs.PairLemmas.{no_pair, pair-fits}
 
 -- ---- the distinct values without their counts
 
@@ -63,31 +64,12 @@ module _ (t : Tree) (p : PType) (xs : List ℤ) (valid : Validity) (n : Nullabil
     wholes = are ∙ ap (λ s. map whole_or_zero (map (code_in ds) (rows s))) at
 
     pub codes_long : length ys ≡ length (rows t)
-    codes_long = each_int-long t p (λ z. pos (place_in ds z)) p ys wholes
+    codes_long = each_int-long t p (λ z. pos (code_of ds z)) p ys wholes
 
     pub codes_tree : (q : PType) → q ≡ code_type (length ds) → primitive q ys (validity (rows t)) (nullability_of (tree_type t)) ≡ plain (dictionary_codes (column_of t))
-    codes_tree q e = each_int-plain t (code_type (distinct_count (rows t))) (λ z. pos (place_in ds z)) q ys wholes e
+    codes_tree q e = each_int-plain t (code_type (distinct_count (rows t))) (λ z. pos (code_of ds z)) q ys wholes e
 
 -- ---- the two trees of the parts
-
-some_same : {A : Type 0} (a b : A) → Some a ≡ Some b → a ≡ b
-some_same a b e = cc
-
-heads : {A : Type 0} (a b c d : A) → a ∷ b ∷ [] ≡ c ∷ d ∷ [] → (a ≡ c) × (b ≡ d)
-heads a b c d e = (cc, cc)
-
-pub pair-fits : (trees : List Tree) (x y : Tree) (first second : Column) → Some (x, y) ≡ pair_of trees → map column_of trees ≡ first ∷ second ∷ [] → (column_of x ≡ first) × (column_of y ≡ second)
-pair-fits [] x y first second e fit = absurd cc
-pair-fits (s ∷ []) x y first second e fit = absurd cc
-pair-fits (s ∷ t ∷ []) x y first second e fit =
-    let pair : (x, y) ≡ (s, t) = some_same (x, y) (s, t) e in
-    let columns = heads (column_of s) (column_of t) first second fit in
-    (ap (λ p. column_of p.0) pair ∙ columns.0, ap (λ p. column_of p.1) pair ∙ columns.1)
-pair-fits (s ∷ t ∷ u ∷ us) x y first second e fit = absurd cc
-
-pub no_pair : (trees : List Tree) (x y : Tree) → Some (x, y) ≡ pair_of trees → map column_of trees ≡ [] → ⊥
-no_pair [] x y e fit = cc
-no_pair (t ∷ ts) x y e fit = cc
 
 pub pair-admitted : (c : Column) (trees : List Tree) (x y : Tree) → is_integer c.dtype ≡ true → IsColumn c → Some (x, y) ≡ pair_of trees → FitParts (dictionary_parts c) trees → dict_refusal y x ≡ None
 pair-admitted c trees x y j h e fit = by_test (value_count c.values == 0) fit

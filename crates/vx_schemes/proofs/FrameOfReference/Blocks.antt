@@ -5,7 +5,7 @@ use Rattle.std.proofs.lemmas.List.{length-map}
 use Rattle.vx_base.specs.declared.ptype.PType.{PType}
 use Rattle.vx_base.specs.declared.dtype.Nullability.{Nullability}
 use Rattle.vx_base.specs.Integers.{bits_in, bits_of, bytes_of, unsigned_of}
-use Rattle.vx_base.specs.Packed.{bytes_in, joined, kept_row, kept_rows, packed_size, wide_rows}
+use Rattle.vx_base.specs.Packed.{bytes_in, packed_number, kept_row, kept_rows, packed_size, wide_rows}
 use Rattle.vx_base.specs.PlainValue.{whole_or_zero}
 use Rattle.vx_blocks.specs.Cost.{IsBest, cost}
 use Rattle.vx_blocks.specs.Histogram.{IsHistogram}
@@ -27,9 +27,9 @@ use Rattle.vx_schemes.specs.BitPacking.FirstLeast.{first_least-is, narrow_width}
 use Rattle.vx_schemes.specs.BitPacking.Tree.{packed_bytes, packed_tree, packing_of, patches_of}
 use Rattle.vx_schemes.specs.FrameOfReference.Tree.{less, difference, differences, packed_or_plain}
 use Rattle.vx_schemes.specs.Widths.{best_width_of, widths_of}
-use Rattle.vx_schemes.proofs.BitPacking.Tree.{all_bits-are, all_bits-true}
+use Rattle.vx_schemes_common.proofs.BitsLemmas.{all_bits-are, all_bits-true}
 use Rattle.vx_schemes.proofs.BitPacking.Wide.{none_wider}
-use Rattle.vx_schemes.proofs.ColumnLemmas.{length_is, validity_is, wholes_are}
+use Rattle.vx_schemes_common.proofs.ColumnLemmas.{length_is, validity_is, wholes_are}
 use Rattle.vx_schemes.proofs.FrameOfReference.Framed.{less-held, less-natural}
 use Rattle.vx_schemes.proofs.WidthLemmas.{widths_of-is}
 
@@ -93,7 +93,7 @@ module _ (p : PType) (xs : List ℤ) (valid : Validity) (n : Nullability) (w : W
   same = length-valid_bits (differences (column_of t) reference).values ∙ sym (length-map (differences (column_of t) reference).values whole_or_zero)
 
   bytes : (width : ℕ) → packed_bytes u width ys bits ≡ packed_differences p reference xs valid width
-  bytes width = (λ i. bytes_in (packed_size width (long i)) (joined width (kept-are width i))) ∙ packed-is p reference xs valid width
+  bytes width = (λ i. bytes_in (packed_size width (long i)) (packed_number width (kept-are width i))) ∙ packed-is p reference xs valid width
 
   pub counted : (counts : List ℕ) → IsHistogram (bits_of u) (kept_rows 64 (difference_bits p reference xs) all) counts → sum counts ≡ length xs
   counted counts h =

@@ -14,7 +14,7 @@ use Rattle.vx_model.specs.TreeType.{tree_type}
 use Rattle.vx_model.specs.WellFormed.{WellFormed}
 use Rattle.vx_model.proofs.EachIntLemmas.{wholes-each_int}
 use Rattle.vx_schemes.specs.FrameOfReference.Tree.{less, difference, differences}
-use Rattle.vx_schemes.proofs.ColumnLemmas.{wholes_are, validity_is, each_int-long, each_int-plain}
+use Rattle.vx_schemes_common.proofs.ColumnLemmas.{wholes_are, validity_is, each_int-long, each_int-plain}
 
 module _ (t : Tree) (p : PType) (xs : List ℤ) (valid : Validity) (n : Nullability) (at : primitive p xs valid n ≡ t) (w : WellFormed (primitive p xs valid n)) (is_plain : IsPlain t) (reference : ℤ) where
   well : WellFormed t

@@ -13,7 +13,7 @@ use Rattle.vx_model.specs.TreeType.{tree_type}
 use Rattle.vx_model.specs.WellFormed.{WellFormed}
 use Rattle.vx_model.proofs.EachIntLemmas.{wholes-each_int-zero}
 use Rattle.vx_schemes.specs.ZigZag.Tree.{zigzag_whole, zigzagged, zigzags}
-use Rattle.vx_schemes.proofs.ColumnLemmas.{wholes_are, each_int-long, each_int-plain}
+use Rattle.vx_schemes_common.proofs.ColumnLemmas.{wholes_are, each_int-long, each_int-plain}
 
 module _ (t : Tree) (p : PType) (xs : List ℤ) (valid : Validity) (n : Nullability) (at : primitive p xs valid n ≡ t) (w : WellFormed (primitive p xs valid n)) (is_plain : IsPlain t) (ys : List ℤ) (are : ys ≡ map zigzag_whole xs) where
   wholes : ys ≡ map whole_or_zero (map zigzagged (rows t))

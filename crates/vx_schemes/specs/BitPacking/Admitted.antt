@@ -47,7 +47,7 @@ patches_long : (p : PType) (xs : List ℤ) (chosen : List ℕ) → patches_lengt
 patches_long p xs [] = refl
 patches_long p xs (row ∷ chosen) = eq-eqb (length xs) (length xs) refl
 
--- bits, and the validity of the tree: the bits, or none where each is true
+-- the bitmap that the rows are packed by, and the validity of the tree: that bitmap, or None where each bit is true
 pub packed_admitted_by : (p : PType) (n : Nullability) (xs : List ℤ) (bits : List Bool) (valid : Validity) (width : ℕ) (chosen : List ℕ) → validity_length valid (length xs) ≡ true → validity_allowed valid n ≡ true → nat_le width (natural_bits p) ≡ true
     → bit_packed_refusal (plain_packed p width (packed_bytes p width xs bits) (length xs) valid n) (patches_of p xs chosen) ≡ None
 packed_admitted_by p n xs bits valid width chosen same allowed narrow =

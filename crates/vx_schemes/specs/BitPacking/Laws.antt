@@ -9,19 +9,19 @@ use Rattle.vx_base.specs.declared.ptype.PType.{PType}
 use Rattle.vx_base.specs.declared.dtype.Nullability.{Nullability}
 use Rattle.vx_base.specs.declared.dtype.Nullability.TheVariants.{NonNullable, Nullable}
 use Rattle.vx_base.specs.Integers.{bits_of, bits_in, bytes_of, lies_in, natural_bits}
-use Rattle.vx_base.specs.Packed.{kept_row, kept_rows, joined, packed_size, packed_row, wide_rows, is_wide}
+use Rattle.vx_base.specs.Packed.{kept_row, kept_rows, packed_number, packed_size, packed_row, wide_rows, is_wide}
 use Rattle.vx_base.specs.PlainScalar.{fits}
 use Rattle.vx_base.specs.PlainType as types
 use Rattle.vx_base.specs.IntegersIn.{integer_in}
 use Rattle.vx_base.specs.PlainValue.{PlainValue, null, int, cell, is_null, whole_or_zero}
-use Rattle.vx_base.proofs.BytesLemmas.{length-bytes_in, bytes_in-held, joined-bytes_in}
+use Rattle.vx_base.proofs.BytesLemmas.{length-bytes_in, bytes_in-held, packed_number-bytes_in}
 use Rattle.vx_base.proofs.IntegerLemmas.{by_integer, row-integer_in}
 use Rattle.vx_base.proofs.NullLemmas.{all-not_null}
 use Rattle.vx_blocks.specs.Cost.{cost}
 use Rattle.vx_blocks.specs.IsPacked.{IsPacked}
 use Rattle.vx_blocks.proofs.ReadBack.{unpacked}
 use Rattle.vx_blocks.proofs.Rows.{length-kept_rows, kept_rows-fit, place_within}
-use Rattle.vx_blocks.proofs.Windows.{joined-lt}
+use Rattle.vx_blocks.proofs.Windows.{packed_number-lt}
 use Rattle.vx_model.specs.Column.{column, column_of}
 use Rattle.vx_model.specs.Plain.{valid_bits}
 use Rattle.vx_model.specs.Refusals.{kept, validity_allowed}
@@ -33,7 +33,7 @@ use Rattle.vx_model.proofs.PackedLemmas.{packed_accepted}
 use Rattle.vx_model.proofs.PackedOfLemmas.{length-packed_of, row_at-packed_of, type-packed_of}
 use Rattle.vx_model.proofs.PlainLemmas.{wholes_lie_in}
 use Rattle.vx_schemes.specs.BitPacking.Tree.{is_negative, packed_bytes, patches_at, patches_of, packed_tree, packing_of, bit_packing_made}
-use Rattle.vx_schemes.specs.StandsFor.{StandsFor, AllStandFor}
+use Rattle.vx_schemes_common.specs.StandsFor.{StandsFor, AllStandFor}
 use Rattle.vx_schemes.specs.Widths.{widths_of, best_width_of}
 use Rattle.vx_schemes.specs.BitPacking.Admitted.{packed_admitted}
 use Rattle.vx_schemes.specs.BitPacking.Rising.{wide_rows-ascend}
@@ -61,11 +61,11 @@ bytes_hold p width xs valid same =
     let bits = map (bits_in p) xs in
     let long : length bits ≡ length xs = length-map xs (bits_in p) in
     let rows : length (kept_rows width bits valid) ≡ length xs = length-kept_rows width bits valid (same ∙ sym long) ∙ long in
-    let small : joined width (kept_rows width bits valid) < 2 ^ (width * length (kept_rows width bits valid)) = joined-lt width (kept_rows width bits valid) (kept_rows-fit width bits valid) in
+    let small : packed_number width (kept_rows width bits valid) < 2 ^ (width * length (kept_rows width bits valid)) = packed_number-lt width (kept_rows width bits valid) (kept_rows-fit width bits valid) in
     let room : width * length (kept_rows width bits valid) ≤ 8 * packed_size width (length xs) = rw rows (place_within width (length xs) (length xs) (packed_size width (length xs)) (omega arith) refl) in
     let more : 2 ^ (width * length (kept_rows width bits valid)) ≤ 2 ^ (8 * packed_size width (length xs)) = nat.pow-le-pow_right (omega arith) room in
     record {
-      number = joined-bytes_in (packed_size width (length xs)) (joined width (kept_rows width bits valid)) (omega arith);
+      number = packed_number-bytes_in (packed_size width (length xs)) (packed_number width (kept_rows width bits valid)) (omega arith);
       size = length-bytes_in (packed_size width (length xs)) _ ∙ ap (packed_size width) (sym rows);
     }
 

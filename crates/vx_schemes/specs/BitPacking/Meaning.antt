@@ -1,4 +1,4 @@
--- What the scheme of bit packing means.
+-- What the bit-packing scheme means.
 use Rattle.std.specs.Prelude.{false, if◌then◌else◌, [], codes, refl}
 use Rattle.vx_base.specs.IdNumber.{same_id}
 use Rattle.vx_base.specs.PlainType.{is_integer}
@@ -10,12 +10,12 @@ use Rattle.vx_scheme.specs.declared.estimate.CompressionEstimate.TheVariants.{Ve
 use Rattle.vx_scheme.specs.declared.estimate.DeferredEstimate.TheVariants.{Sample}
 use Rattle.vx_scheme.specs.declared.estimate.EstimateVerdict.TheVariants.{Skip}
 use Rattle.vx_schemes.specs.BitPacking.Tree.{has_negative, bit_packing_made}
-use Rattle.vx_schemes.specs.Finishing.{finished_or_kept}
-use Rattle.vx_schemes.specs.FinishingLaws.{finishing-lawful}
+use Rattle.vx_schemes_common.specs.Finishing.{finished_or_kept}
+use Rattle.vx_schemes_common.specs.FinishingLaws.{finishing-lawful}
 use Rattle.vx_schemes.specs.BitPacking.Laws.{bit_packing-lawful}
 use Rattle.vx_schemes.specs.declared.integer.bit_packing.BitPackingScheme.{BitPackingScheme}
 
--- a column with a negative value is skipped, any other judged by a sample; a tree is the packed rows, and has no parts
+-- Skip for a column with a negative value; any other is tried on a sample. The tree is finished at once, without parts
 abbrev pub bit_packing_meaning : BitPackingScheme → Meaning
 bit_packing_meaning s = record {
   name = codes "vortex.int.bitpacking";

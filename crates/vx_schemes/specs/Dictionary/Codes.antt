@@ -1,12 +1,12 @@
--- Places as codes of a type, wrapped where the type is too narrow for them.
+-- Codes of a type, wrapped where the type is too narrow for them.
 use Rattle.std.specs.Prelude.{◌≡◌, ℤ, pos, List, map}
 use Rattle.vx_base.specs.declared.ptype.PType.{PType}
 use Rattle.vx_base.specs.Wrapping.{wrap}
-use Rattle.vx_schemes.specs.Dictionary.Tree.{place_in}
+use Rattle.vx_schemes.specs.Dictionary.Tree.{code_of}
 
--- the code of a number: its place among the distinct ones, in a type
+-- the code of a number, in a type
 abbrev pub as_code : PType → List ℤ → ℤ → ℤ
-as_code p numbers z = wrap p (pos (place_in numbers z))
+as_code p numbers z = wrap p (pos (code_of numbers z))
 
 -- the codes of numbers, in their order
 abbrev pub codes_in : PType → List ℤ → List ℤ → List ℤ

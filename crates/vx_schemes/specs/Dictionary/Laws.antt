@@ -29,8 +29,8 @@ use Rattle.vx_scheme.specs.Lawful.{IsPart}
 use Rattle.vx_stats.specs.Stats.{valid_wholes, distinct_values, distinct_count}
 use Rattle.vx_stats.proofs.DistinctLemmas.{times-next, distinct-times}
 use Rattle.vx_stats.proofs.TallyLemmas.{same-eq}
-use Rattle.vx_schemes.specs.Dictionary.Tree.{place_in, code_in, code_type, dictionary_values, dictionary_codes}
-use Rattle.vx_schemes.specs.StandsFor.{StandsFor}
+use Rattle.vx_schemes.specs.Dictionary.Tree.{code_of, code_in, code_type, dictionary_values, dictionary_codes}
+use Rattle.vx_schemes_common.specs.StandsFor.{StandsFor}
 use Rattle.vx_schemes.specs.Dictionary.Places.{place-holds}
 
 -- ---- the values of the rows are among the distinct ones
@@ -58,7 +58,7 @@ distinct-holds zs z h = omega (arith, distinct-times z zs, some (times zs z) h)
 
 module _ (numbers : List ℤ) where
   code-back : (z : ℤ) → 0 < times numbers z → looked_up (map int numbers) (code_in numbers (int z)) ≡ int z
-  code-back z h = let held = place-holds numbers z h in get_or-map int numbers (place_in numbers z) z null held.within ∙ ap int (held.is z)
+  code-back z h = let held = place-holds numbers z h in get_or-map int numbers (code_of numbers z) z null held.within ∙ ap int (held.is z)
 
   -- the codes give the rows back
   codes-back : (os : List (Option ℤ)) → Holds numbers (valid_wholes (map cell os)) → map (looked_up (map int numbers)) (map (code_in numbers) (map cell os)) ≡ map cell os
@@ -85,9 +85,9 @@ module _ (numbers : List ℤ) where
   codes-fit p q n (Some z ∷ os) wide held h =
       let b = and_parts (lies_in p z) _ h in
       let others = valid_wholes (map cell os) in
-      and_from _ _ (wide (place_in numbers z) (place-holds numbers z (held z (first-times z others))).within) (codes-fit p q n os wide (rest-held numbers z others held) b.1)
+      and_from _ _ (wide (code_of numbers z) (place-holds numbers z (held z (first-times z others))).within) (codes-fit p q n os wide (rest-held numbers z others held) b.1)
 
--- the same of a column of an integer type, whose values are among these
+-- for a column of an integer type whose values are among the numbers
 module _ (c : Column) (j : is_integer c.dtype ≡ true) (h : IsColumn c) (numbers : List ℤ) (held : Holds numbers (valid_wholes c.values)) where
   of_integers : (P : List PlainValue → Type 0) → ((os : List (Option ℤ)) → Holds numbers (valid_wholes (map cell os)) → P (map cell os)) → P c.values
   of_integers P each =

@@ -1,4 +1,4 @@
--- What the scheme of dictionaries of integers means.
+-- What the dictionary scheme of integers means.
 use Rattle.std.specs.Prelude.{◌≡◌, ◌≤◌, ℕ, ℤ, ◌+◌, ◌*◌, ◌/◌, ◌==◌, nat_lt, min, Bool, true, false, ◌||◌, cond, if◌then◌else◌, List, [], ◌∷◌, length, map, All, Option, None, Some, codes}
 use Rattle.std.proofs.Common.{arith, subst, sym, ◌∙◌}
 use Rattle.std.proofs.lemmas.List.Elements.{recursion_from_All}
@@ -20,25 +20,25 @@ use Rattle.vx_scheme.specs.declared.estimate.CompressionEstimate.TheVariants.{Ve
 use Rattle.vx_scheme.specs.declared.estimate.EstimateVerdict.{EstimateVerdict}
 use Rattle.vx_scheme.specs.declared.estimate.EstimateVerdict.TheVariants.{Skip}
 use Rattle.vx_schemes.specs.Dictionary.Tree.{dictionary_values, dictionary_codes}
-use Rattle.vx_schemes.specs.Pairs.{pair_of}
-use Rattle.vx_schemes.specs.StandsFor.{StandsFor}
+use Rattle.vx_schemes_common.specs.Pairs.{pair_of}
+use Rattle.vx_schemes_common.specs.StandsFor.{StandsFor}
 use Rattle.vx_schemes.specs.Dictionary.Laws.{dictionary-small, dictionary-stands}
 use Rattle.vx_schemes.specs.declared.integer.dictionary.IntDictScheme.{IntDictScheme}
 
--- the bits of codes of so many digits: one for each value, or with 32 bits more one for each run
+-- the bits of codes of some width: a code a value, or a code and an end of 32 bits a run, whichever is less
 abbrev pub code_bits : ℕ → ℕ → ℕ → ℕ
 code_bits width values run_length = min (width * values) ((width + 32) * (values / run_length))
 
--- the bits of the values to those of the distinct ones and of the codes; none where more than half are distinct
+-- bits(values) / (bits(distinct values) + bits(codes)); Skip where there is no value, or more than half are distinct
 abbrev pub dictionary_verdict : ℕ → ℕ → ℕ → ℕ → EstimateVerdict
 dictionary_verdict bits values distinct run_length =
     if (values == 0) || nat_lt (values / 2) distinct then Skip else ratio_of (values * bits) (bits * distinct + code_bits (digits distinct) values run_length)
 
--- what a dictionary is expected to do for a column
+-- the verdict on a column
 abbrev pub dictionary_estimate : Column → EstimateVerdict
 dictionary_estimate c = dictionary_verdict (bits_of (integer_of c.dtype)) (value_count c.values) (distinct_count c.values) (average_run_length c.values)
 
--- the distinct values, where there is one
+-- the distinct values; None where there is no value
 abbrev pub values_found : List PlainValue → Option (List ℤ)
 values_found values = if value_count values == 0 then None else Some (distinct_values values)
 
@@ -46,7 +46,7 @@ values_found values = if value_count values == 0 then None else Some (distinct_v
 abbrev pub dictionary_parts : Column → PlainSplit
 dictionary_parts c = if value_count c.values == 0 then kept else parts (dictionary_values c ∷ dictionary_codes c ∷ [])
 
--- the second tree as codes over the first
+-- the dictionary of the pair, values first, then codes; plain unless there are two trees
 abbrev pub dictionary_or_plain : Column → Option (Tree × Tree) → Tree
 dictionary_or_plain c None = plain c
 dictionary_or_plain c (Some pair) = dict pair.1 pair.0

@@ -16,15 +16,15 @@ use Rattle.vx_model.specs.Tree.{Tree, dict}
 use Rattle.vx_stats.specs.Stats.{distinct_values, distinct_count}
 use Rattle.vx_stats.specs.declared.options.GenerateStatsOptions.{GenerateStatsOptions}
 
--- the place of a number among others, from 0
-abbrev pub place_in : List ℤ → ℤ → ℕ
-place_in numbers z = position_or_len (int_eq z) numbers
+-- the code of a number: its place among the distinct ones, from 0; their number where it isn't among them
+abbrev pub code_of : List ℤ → ℤ → ℕ
+code_of numbers z = position_or_len (int_eq z) numbers
 
--- the code of a row, its number's place; null stays
+-- the code of a row; null stays
 abbrev pub code_in : List ℤ → PlainValue → PlainValue
-code_in numbers = each_int (λ z. pos (place_in numbers z))
+code_in numbers = each_int (λ z. pos (code_of numbers z))
 
--- the narrowest unsigned type that holds the places of so many values
+-- the narrowest unsigned type that holds the codes of count values
 abbrev pub code_type : ℕ → PType
 code_type count = unwrap_or (narrow_of (pos 0) (pos (count - 1))) U8
 
@@ -40,6 +40,6 @@ dictionary_codes c = column (types.primitive (code_type (distinct_count c.values
 abbrev pub dictionary_of : Column → Tree
 dictionary_of c = dict (plain (dictionary_codes c)) (plain (dictionary_values c))
 
--- what is asked of statistics from which a dictionary is made
+-- the options of the statistics that a dictionary is made from
 abbrev pub distinct_options : GenerateStatsOptions
 distinct_options = record { count_distinct_values = true }

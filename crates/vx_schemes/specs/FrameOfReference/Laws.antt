@@ -34,7 +34,7 @@ use Rattle.vx_model.proofs.FlatTypeLemmas.{integer-flat}
 use Rattle.vx_model.proofs.PlainLemmas.{column_of-plain, plain_well_formed}
 use Rattle.vx_schemes.specs.BitPacking.Tree.{bit_packing_made}
 use Rattle.vx_schemes.specs.FrameOfReference.Tree as made
-use Rattle.vx_schemes.specs.StandsFor.{StandsFor, AllStandFor}
+use Rattle.vx_schemes_common.specs.StandsFor.{StandsFor, AllStandFor}
 use Rattle.vx_schemes.specs.BitPacking.Laws.{bit_packing-lawful}
 
 pub fold-held : (p : PType) (z : ℤ) (zs : List ℤ) → lies_in p z ≡ true → list_all (lies_in p) zs ≡ true → lies_in p (fold int_min z zs) ≡ true

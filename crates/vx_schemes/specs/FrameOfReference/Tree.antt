@@ -1,4 +1,4 @@
--- What a frame of reference makes of a column of integers: differences from the least value, packed.
+-- What the frame-of-reference scheme makes of a column of integers: the differences from the least value, packed.
 use Rattle.std.specs.Prelude.{◌-ℤ◌, ℤ, List, map, Option, unwrap_or, option_map}
 use Rattle.std.specs.Int.{int_min}
 use Rattle.std.specs.List.{reduce}
@@ -17,30 +17,30 @@ use Rattle.vx_model.specs.Tree.{Tree, frame_of_reference}
 use Rattle.vx_stats.specs.Stats.{valid_wholes}
 use Rattle.vx_schemes.specs.BitPacking.Tree.{bit_packing_made}
 
--- the least of the values, if there is one
+-- the least value; None where there is no value
 abbrev pub least_value : List PlainValue → Option ℤ
 least_value values = reduce int_min (valid_wholes values)
 
--- a whole number less the reference, wrapped in the unsigned type of the same width
+-- number - reference, wrapped to the unsigned type of the same width
 abbrev pub less : PType → ℤ → ℤ → ℤ
 less p reference z = wrap (unsigned_of p) (z -ℤ reference)
 
--- the same of a row; null stays
+-- the difference of a row; null stays
 abbrev pub difference : PType → ℤ → PlainValue → PlainValue
 difference p reference = each_int (less p reference)
 
--- the differences of a column's rows, as nullable as it is
+-- the differences of a column's rows, of the same nullability
 abbrev pub differences : Column → ℤ → Column
 differences c reference = column (types.primitive (unsigned_of (integer_of c.dtype)) (nullability_of c.dtype)) (map (difference (integer_of c.dtype) reference) c.values)
 
--- packed, or plain where bit packing makes nothing of them
+-- bit packed, or plain where bit packing keeps the column
 abbrev pub packed_or_plain : Column → Tree
 packed_or_plain c = unwrap_or (bit_packing_made c) (plain c)
 
--- the differences from a reference, under it
+-- the frame of reference over the differences from a reference
 abbrev pub framed : Column → ℤ → Tree
 framed c reference = frame_of_reference (packed_or_plain (differences c reference)) (scalar (types.primitive (integer_of c.dtype) NonNullable) (int reference))
 
--- from the least value; nothing where there is no value
+-- the frame of reference from the least value; None where there is no value
 abbrev pub for_made : Column → Option Tree
 for_made c = option_map (framed c) (least_value c.values)

@@ -1,10 +1,10 @@
--- Short patches have the rows of those that they were made of, and are well formed.
+-- Compressed patches have the rows and the values of those that they were made of, and are well formed.
 use Rattle.std.proofs.Common.{◌≡◌, ◌<◌, ◌≤◌, ◌+◌, ◌^◌, ◌∙◌, ℕ, zero, suc, ℤ, pos, Bool, true, false, List, [], ◌∷◌, length, map, Option, Some, None, cond, refl, sym, ap, subst, arith}
-use Rattle.std.specs.Prelude.{nat_lt, unwrap_or, slice_index_or, replicate}
+use Rattle.std.specs.Prelude.{nat_lt, slice_index_or, replicate}
 use Rattle.std.specs.List.{list_all}
 use Rattle.std.proofs.lemmas.Bool.{and_from, and_parts, ltb-true, lt-ltb}
 use Rattle.vx_base.specs.declared.ptype.PType.{PType}
-use Rattle.vx_base.specs.declared.ptype.PType.TheVariants.{U8, U16, U32, U64}
+use Rattle.vx_base.specs.declared.ptype.PType.TheVariants.{U64}
 use Rattle.vx_base.specs.declared.dtype.Nullability.TheVariants.{NonNullable}
 use Rattle.vx_base.specs.Integers.{lies_in}
 use Rattle.vx_base.specs.PlainScalar.{fits, scalar}
@@ -18,23 +18,16 @@ use Rattle.vx_model.specs.TreeType.{tree_type}
 use Rattle.vx_model.specs.WellFormed.{WellFormed, IsPatches, ascend, WellFormedPatches}
 use Rattle.vx_model.proofs.FewLemmas.{few-flat}
 use Rattle.vx_model.proofs.MadeLemmas.{rows_fit, primitive_made, constant_made}
-use Rattle.vx_schemes.specs.Patches.Compressed.{index_type, shared_value, narrowed, shared_or_plain, constant_or_plain, compressed_patches, PatchAlike}
+use Rattle.vx_schemes_common.specs.Narrowed.{index_type}
+use Rattle.vx_schemes_common.specs.NarrowedLaws.{index_type-holds}
+use Rattle.vx_schemes_common.specs.Rising.{rows_below, ascend-words, ascend-whole}
+use Rattle.vx_schemes.specs.Patches.Compressed.{shared_value, narrowed, shared_or_plain, constant_or_plain, compressed_patches, PatchAlike}
 use Rattle.vx_model.proofs.PackedLemmas.{patches_accepted}
 use Rattle.vx_model.proofs.PlainLemmas.{rows-plain_of, plain_well_formed, wholes_lie_in}
 use Rattle.vx_schemes.specs.BitPacking.Tree.{patches_at}
 use Rattle.vx_schemes.specs.BitPacking.Admitted.{patches_admitted, type-constant_or_plain}
-use Rattle.vx_schemes.specs.BitPacking.Rising.{rows_below, ascend-words, ascend-whole, fit_all}
 
 -- ---- the indices and the shared value fit
-
-pub index_type-holds : (is : List PlainValue) → fit_all U64 is ≡ true → fit_all (index_type is) is ≡ true
-index_type-holds is h = by_three (fit_all U8 is) (fit_all U16 is) (fit_all U32 is) refl refl refl
-  where
-    by_three : (a b c : Bool) → fit_all U8 is ≡ a → fit_all U16 is ≡ b → fit_all U32 is ≡ c → fit_all (unwrap_or (cond a (Some U8) (cond b (Some U16) (cond c (Some U32) None))) U64) is ≡ true
-    by_three true b c e f g = e
-    by_three false true c e f g = f
-    by_three false false true e f g = g
-    by_three false false false e f g = h
 
 -- a value that every row has fits their type
 pub shared-fits : (t : PlainType) (vs : List PlainValue) (v : PlainValue) → list_all (fits t) vs ≡ true → shared_value vs ≡ Some v → fits t v ≡ true
@@ -108,7 +101,7 @@ short_patches p h =
       ascending = ap (ascend low high) is ∙ h.2.ascending;
     }
 
--- where the values hold no others
+-- where the values are flat
 pub short_well : (p : PlainPatches) → is_flat (tree_type p.values) ≡ true → WellFormedPatches p → WellFormedPatches (compressed_patches p)
 short_well p flat h =
     (narrowed-well p.indices p.offset (p.offset + p.array_len) h.2.ascending h.0, constant_or_plain-well (column_of p.values) flat (rows_fit p.values h.1), short_patches p h)

@@ -21,8 +21,8 @@ use Rattle.vx_model.specs.WellFormed.{WellFormed}
 use Rattle.vx_model.proofs.EachIntLemmas.{all_fit-each_int}
 use Rattle.vx_model.proofs.ZigZagLemmas.{zig_zag_accepted}
 use Rattle.vx_scheme.specs.Lawful.{IsPart}
-use Rattle.vx_schemes.specs.OnePart.{PartStands}
-use Rattle.vx_schemes.specs.StandsFor.{StandsFor}
+use Rattle.vx_schemes_common.specs.OnePart.{PartStands}
+use Rattle.vx_schemes_common.specs.StandsFor.{StandsFor}
 use Rattle.vx_schemes.specs.ZigZag.Tree.{zigzag_whole, zigzagged, zigzags}
 
 -- ---- the types of zigzags

@@ -1,4 +1,4 @@
--- What the scheme of zigzag means.
+-- What the zigzag scheme means.
 use Rattle.std.specs.Prelude.{◌==◌, not, ◌||◌, false, if◌then◌else◌, List, [], ◌∷◌, codes, refl}
 use Rattle.std.proofs.Common.{arith}
 use Rattle.vx_base.specs.IdNumber.{same_id}
@@ -13,19 +13,19 @@ use Rattle.vx_scheme.specs.declared.estimate.DeferredEstimate.TheVariants.{Sampl
 use Rattle.vx_scheme.specs.declared.estimate.EstimateVerdict.TheVariants.{Skip}
 use Rattle.vx_scheme.specs.declared.selection.ChildSelection.TheVariants.{All}
 use Rattle.vx_schemes.specs.BitPacking.Tree.{has_negative}
-use Rattle.vx_schemes.specs.Exclusions.{not_in_codes}
-use Rattle.vx_schemes.specs.OnePartLaws.{one_part-lawful}
+use Rattle.vx_schemes_common.specs.Exclusions.{not_in_codes}
+use Rattle.vx_schemes_common.specs.OnePartLaws.{one_part-lawful}
 use Rattle.vx_schemes.specs.ZigZag.Tree.{zigzags, zig_zag_made, zig_zag_over}
 use Rattle.vx_schemes.specs.ZigZag.Laws.{zig_zag-stands}
 use Rattle.vx_schemes.specs.declared.integer.zig_zag.ZigZagScheme.{ZigZagScheme}
 
--- no dictionary, runs or sparse values below: what equal values are worth, they are worth before their zigzag
+-- no dictionary, run ends or sparse values below: they find the same equal rows before zigzag
 abbrev pub not_below : List Rule
 not_below =
     record { scheme = codes "vortex.int.dict"; children = All } ∷ record { scheme = codes "vortex.int.runend"; children = All }
     ∷ record { scheme = codes "vortex.int.sparse"; children = All } ∷ []
 
--- a column without a negative value is skipped, as is any where no scheme may follow; another is judged by a sample
+-- Skip at budget 0 and for a column without a negative value; any other is tried on a sample
 abbrev pub zig_zag_meaning : ZigZagScheme → Meaning
 zig_zag_meaning s = record {
   name = codes "vortex.int.zigzag";

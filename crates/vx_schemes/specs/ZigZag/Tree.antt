@@ -1,4 +1,4 @@
--- What zigzag makes of a column of integers: one part, with the zigzags of its rows.
+-- What the zigzag scheme makes of a column of integers: one part, the zigzags of its rows.
 use Rattle.std.specs.Prelude.{ℤ, pos, not, List, map}
 use Rattle.vx_base.specs.Integers.{unsigned_of}
 use Rattle.vx_base.specs.PlainType.{integer_of, nullability_of, is_unsigned}
@@ -9,17 +9,17 @@ use Rattle.vx_model.specs.Column.{Column, column}
 use Rattle.vx_model.specs.Rows.{each_int}
 use Rattle.vx_model.specs.Tree.{Tree, zig_zag}
 use Rattle.vx_scheme.specs.Meaning.{PlainSplit}
-use Rattle.vx_schemes.specs.OnePart.{part_where, over_part}
+use Rattle.vx_schemes_common.specs.OnePart.{part_where, over_part}
 
 -- the zigzag as a whole number
 abbrev pub zigzag_whole : ℤ → ℤ
 zigzag_whole z = pos (zigzag z)
 
--- the same of a row; null stays
+-- the zigzag of a row; null stays
 abbrev pub zigzagged : PlainValue → PlainValue
 zigzagged = each_int zigzag_whole
 
--- the zigzags of a column's rows in the unsigned type of their width, as nullable as it is
+-- the zigzags of a column's rows, in the unsigned type of the same width and of the same nullability
 abbrev pub zigzags : Column → Column
 zigzags c = column (types.primitive (unsigned_of (integer_of c.dtype)) (nullability_of c.dtype)) (map zigzagged c.values)
 
@@ -27,6 +27,6 @@ zigzags c = column (types.primitive (unsigned_of (integer_of c.dtype)) (nullabil
 abbrev pub zig_zag_made : Column → PlainSplit
 zig_zag_made c = part_where (not (is_unsigned c.dtype)) (zigzags c)
 
--- zigzag over the part's tree
+-- the zigzag array over the part's tree
 abbrev pub zig_zag_over : Column → List Tree → Tree
 zig_zag_over = over_part (λ c tree. zig_zag tree)

@@ -1,4 +1,4 @@
-//! The scheme of bit packing.
+//! The bit-packing scheme.
 
 ghost use Rattle.std.specs.Prelude.{◌≡◌, ◌≤◌, length, IsTrue};
 ghost use Rattle.vx_base.specs.Answers.{Answers};
@@ -10,14 +10,12 @@ ghost use Rattle.vx_scheme.specs.Asked.{most_rows};
 ghost use Rattle.vx_scheme.specs.Bundle.{SameArray};
 ghost use Rattle.vx_schemes.specs.BitPacking.Meaning.{bit_packing_meaning};
 ghost use Rattle.vx_schemes.specs.BitPacking.Tree.{has_negative};
-ghost use Rattle.vx_schemes.specs.Produced.{MakesProduced};
+ghost use Rattle.vx_schemes_common.specs.Produced.{MakesProduced};
 
 mod tree;
 
-use crate::finishing::finished_or_kept;
 use std::alloc::Global;
 use std::sync::ledger::Ledger;
-pub use tree::mask_of;
 pub(crate) use tree::{bit_packing_tree, counts_above};
 use vx_array::{ArrayRef, Arrays};
 use vx_base::{ArrayId, DType, ExecutionCtx, Fraction, IdSet, Steps, VortexResult};
@@ -25,15 +23,16 @@ use vx_scheme::{
     AllowedIds, AncestorRules, ArrayAndStats, CompressionEstimate, CompressorContext,
     DeferredEstimate, DescendantRules, EstimateVerdict, GenerateStatsOptions, Scheme, Split,
 };
+use vx_schemes_common::finished_or_kept;
 
-/// Packs integers from 0 on at the width of least cost, with the wider ones as patches, `vortex.int.bitpacking`. It skips
-/// a column with a negative value, is tried on a sample of any other, and keeps one whose values take all bits of their
-/// type. It has no children: its tree is finished at once. The default is `v1`.
+/// Bit packing, `vortex.int.bitpacking`: integers packed at the width of least cost, wider values as patches. Skips a
+/// column with a negative value; any other is tried on a sample. The column stays plain where the width of least cost is
+/// the type's own. No children: the tree is finished at once. The default is `v1`.
 #[derive(Clone, Copy, Debug, Default, PartialEq, Eq)]
 pub struct BitPackingScheme(());
 
 impl BitPackingScheme {
-    /// The scheme that has one width for the whole column.
+    /// Version 1: one width for the whole column.
     pub fn v1() -> BitPackingScheme
         ensures { MakesProduced (bit_packing_meaning result) }
     {
@@ -111,7 +110,7 @@ impl Scheme for BitPackingScheme {
         }
     }
 
-    // The estimate is never put off to this call.
+    // Not reached: no estimate of this scheme is `Callback`.
     fn resolve_estimate(
         &self,
         _column: &mut ArrayAndStats,
@@ -139,7 +138,7 @@ impl Scheme for BitPackingScheme {
         Ok(finished_or_kept(bit_packing_tree(column.array(), ctx)?))
     }
 
-    // It has no parts, so the column stays plain.
+    // No parts, so the column stays plain.
     fn join(
         &self,
         column: &mut ArrayAndStats,

@@ -1,4 +1,4 @@
-//! The scheme of dictionaries of integers.
+//! The dictionary scheme of integers.
 
 ghost use Rattle.std.specs.Prelude.{◌≡◌, ◌<◌, ◌≤◌, ◌^◌, true, IsTrue, IfSome, None, option_map, [], ◌∷◌, length};
 ghost use Rattle.vx_values.specs.IntsOf.{ptype_of, wholes_of};
@@ -22,7 +22,6 @@ mod ratio;
 mod recent_codes;
 mod tree;
 
-use crate::pairs::{pair_of, two_parts};
 use distinct_ints::distinct_ints;
 pub use encoding::integer_dictionary_encode;
 use ratio::verdict_by;
@@ -36,11 +35,13 @@ use vx_scheme::{
     AllowedIds, AncestorRules, ArrayAndStats, CompressionEstimate, CompressorContext,
     DescendantRules, EstimateVerdict, GenerateStatsOptions, Scheme, Split,
 };
+use vx_schemes_common::{pair_of, two_parts};
 use vx_values::Ints;
 
-/// Integers as places among their distinct values, `vortex.int.dict`. It skips a column more than half of whose values
-/// are distinct, and expects of any other the bits of its values to those of the distinct ones and of the codes. Child
-/// 0: the distinct values, ascending; child 1: the codes, null where the row is.
+/// Dictionary, `vortex.int.dict`: each row as the code of its value, its place among the distinct values. Skips a column
+/// without a value, or with more distinct values than half of its v values. The ratio of any other is
+/// `v * bits / (distinct * bits + min(w * v, (w + 32) * (v / average run length)))`, where w is digits(distinct). Child 0:
+/// the distinct values, ascending; child 1: the codes, null where the row is.
 #[derive(Clone, Copy, Debug, PartialEq, Eq)]
 pub struct IntDictScheme;
 
@@ -135,7 +136,7 @@ impl Scheme for IntDictScheme {
             return Ok(CompressionEstimate::Verdict(EstimateVerdict::Skip));
         }
         let bits = dtype.ptype().bit_width();
-        // Most columns without many equal values are told apart at once, before all their distinct ones are counted.
+        // A lower bound on the distinct count skips most columns of nearly distinct values, before all are counted.
         if column.is_mostly_distinct(ctx)? {
             return Ok(CompressionEstimate::Verdict(EstimateVerdict::Skip));
         }
@@ -143,7 +144,7 @@ impl Scheme for IntDictScheme {
         Ok(CompressionEstimate::Verdict(verdict_by(stats, bits)))
     }
 
-    // No estimate is put off.
+    // Not reached: no estimate of this scheme is `Callback`.
     fn resolve_estimate(
         &self,
         _column: &mut ArrayAndStats,

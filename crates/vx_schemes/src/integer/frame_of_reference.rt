@@ -1,4 +1,4 @@
-//! The scheme of frames of reference.
+//! The frame-of-reference scheme.
 
 ghost use Rattle.std.specs.Prelude.{◌≡◌, ◌<◌, ◌≤◌, ◌≤ℤ◌, ◌-ℤ◌, pos, length, IsTrue};
 ghost use Rattle.vx_base.specs.Answers.{Answers};
@@ -9,15 +9,12 @@ ghost use Rattle.vx_scheme.specs.Asked.{most_rows};
 ghost use Rattle.vx_scheme.specs.Bundle.{SameArray};
 ghost use Rattle.vx_stats.specs.Erased.{extremes_of};
 ghost use Rattle.vx_schemes.specs.FrameOfReference.Tree.{least_value};
-ghost use Rattle.vx_schemes.specs.Produced.{MakesProduced};
+ghost use Rattle.vx_schemes_common.specs.Produced.{MakesProduced};
 ghost use Rattle.vx_schemes.specs.FrameOfReference.Meaning.{for_meaning, is_as_wide, gains_nothing, for_verdict};
 
 mod blocks;
 mod tree;
 
-use crate::exclusions::not_in_codes;
-use crate::finishing::finished_or_kept;
-use crate::widths::digits;
 use std::alloc::Global;
 use std::sync::ledger::Ledger;
 use tree::frame_of_reference_tree;
@@ -29,15 +26,16 @@ use vx_scheme::{
     DescendantRules, ErasedStats, EstimateVerdict, GenerateStatsOptions, IntegerStats, Scheme,
     Split,
 };
+use vx_schemes_common::{digits, finished_or_kept, not_in_codes};
 
-/// Integers as differences from the least of them, bit packed, `vortex.int.for`. It skips a column whose differences are
-/// no shorter than its values, and expects of any other the bits of a value to those of the widest difference. It has no
-/// children: its tree is finished at once.
+/// Frame of reference, `vortex.int.for`: the differences from the least value, bit packed. Skips any column at budget 0,
+/// and one whose differences are no shorter than its values; the ratio of any other is
+/// `bits(type) / digits(greatest - least)`. No children: the tree is finished at once.
 #[derive(Clone, Copy, Debug, PartialEq, Eq)]
 pub struct FoRScheme(());
 
 impl FoRScheme {
-    /// One reference for the whole column.
+    /// Version 1: one reference for the whole column.
     pub fn v1() -> Self
         ensures { MakesProduced (for_meaning result) }
     {
@@ -55,7 +53,7 @@ impl Default for FoRScheme {
     }
 }
 
-// Whether no value is negative, and the differences have as many digits as the greatest.
+// Whether no value is negative, and the greatest difference has as many digits as the greatest value.
 fn is_as_wide(erased: &ErasedStats, span: u64) -> bool
     requires ordered { (extremes_of erased.now).least ≤ℤ (extremes_of erased.now).greatest }
     requires span { pos span ≡ (extremes_of erased.now).greatest -ℤ (extremes_of erased.now).least }
@@ -79,7 +77,7 @@ fn gains_nothing(erased: &ErasedStats, span: u64) -> bool
     erased.min_is_zero() || span == 0 || is_as_wide(erased, span)
 }
 
-// The bits of a value to the digits of the span, where there is a gain.
+// bits(type) / digits(span); Skip where differences are no shorter than the values.
 fn verdict(stats: &IntegerStats, bits: u32) -> EstimateVerdict
     requires { 0 < stats.now.value_count }
     ensures { result ≡ for_verdict bits stats.now.extremes }
@@ -168,7 +166,7 @@ impl Scheme for FoRScheme {
         Ok(CompressionEstimate::Verdict(verdict(stats, bits)))
     }
 
-    // No estimate is put off.
+    // Not reached: no estimate of this scheme is `Callback`.
     fn resolve_estimate(
         &self,
         _column: &mut ArrayAndStats,
@@ -195,7 +193,7 @@ impl Scheme for FoRScheme {
         Ok(finished_or_kept(tree))
     }
 
-    // It has no parts, so the column stays plain.
+    // No parts, so the column stays plain.
     fn join(
         &self,
         column: &mut ArrayAndStats,

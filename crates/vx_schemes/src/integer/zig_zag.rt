@@ -1,4 +1,4 @@
-//! The scheme of zigzag.
+//! The zigzag scheme.
 
 ghost use Rattle.std.specs.Prelude.{◌≡◌, true, IsTrue};
 ghost use Rattle.vx_base.specs.Answers.{Answers, OrMemory};
@@ -9,17 +9,13 @@ ghost use Rattle.vx_model.specs.Tree.{zig_zag};
 ghost use Rattle.vx_model.specs.TreeType.{tree_type};
 ghost use Rattle.vx_scheme.specs.Asked.{FitParts};
 ghost use Rattle.vx_scheme.specs.Meaning.{split_of};
-ghost use Rattle.vx_scheme.specs.Names.{name_of};
 ghost use Rattle.vx_scheme.specs.Rules.{descendants_of};
-ghost use Rattle.vx_scheme.specs.declared.selection.ChildSelection.TheVariants.{All};
 ghost use Rattle.vx_schemes.specs.ZigZag.Meaning.{not_below};
 ghost use Rattle.vx_schemes.specs.ZigZag.Tree.{zig_zag_made, zig_zag_over};
 
 mod tree;
 
-use crate::exclusions::not_in_codes;
 use crate::integer::bit_packing::has_negative;
-use crate::single::{one_part, only};
 use std::alloc::Global;
 use std::sync::ledger::Ledger;
 use tree::zigzags;
@@ -27,40 +23,30 @@ use vx_array::{ArrayRef, Arrays};
 use vx_base::{ArrayId, DType, ExecutionCtx, Fraction, IdSet, Steps, VortexResult};
 use vx_scheme::{
     AllowedIds, AncestorRules, ArrayAndStats, ChildSelection, CompressionEstimate,
-    CompressorContext, DeferredEstimate, DescendantExclusion, DescendantRules, EstimateVerdict,
-    GenerateStatsOptions, Scheme, SchemeId, Split,
+    CompressorContext, DeferredEstimate, DescendantRules, EstimateVerdict, GenerateStatsOptions,
+    Scheme, Split,
 };
+use vx_schemes_common::{excluded, not_in_codes, one_part, only};
 
-/// Signed integers as their zigzag, `vortex.int.zigzag`: small words where the integers are near 0. It skips a column
-/// without a negative value, and one below which no scheme may follow; it is tried on a sample of any other. Its one
-/// child is the zigzags, in the unsigned type of the width. A column of an unsigned type is kept.
+/// Zigzag, `vortex.int.zigzag`: 0, -1, 1, -2 become 0, 1, 2, 3, so that integers near 0 are small words. Skips a column
+/// without a negative value, and any at budget 0, since its gain comes from the schemes of its child; any other is tried
+/// on a sample. Child 0: the zigzags, in the unsigned type of the same width. A column of an unsigned type stays plain.
 #[derive(Clone, Copy, Debug, Default, PartialEq, Eq)]
 pub struct ZigZagScheme;
 
-// No dictionary, runs or sparse values below.
+// No dictionary, run ends or sparse values below: they find the same equal rows before zigzag.
 fn not_below(alloc: Global) -> VortexResult<DescendantRules>
     ensures { OrMemory result (λ rules. descendants_of rules ≡ not_below) }
 {
     let rules = vec![in alloc;
-        excluded("vortex.int.dict"),
-        excluded("vortex.int.runend"),
-        excluded("vortex.int.sparse"),
+        excluded("vortex.int.dict", ChildSelection::All),
+        excluded("vortex.int.runend", ChildSelection::All),
+        excluded("vortex.int.sparse", ChildSelection::All),
     ]?;
     Ok(DescendantRules::from_vec(rules))
 }
 
-// Not below any child.
-fn excluded(scheme: &'static str) -> DescendantExclusion
-    ensures scheme { name_of result.excluded ≡ scheme.now }
-    ensures children { result.children ≡ All }
-{
-    DescendantExclusion {
-        excluded: SchemeId::of(scheme),
-        children: ChildSelection::All,
-    }
-}
-
-// The zigzags as the one part; none of an unsigned type.
+// The zigzags as the one part; a column of an unsigned type is kept.
 fn parts_or_kept(alloc: Global, array: &ArrayRef) -> VortexResult<Split>
     requires plain { IsPlain array.now }
     requires integer { IsTrue (is_integer (tree_type array.now)) }
@@ -72,7 +58,7 @@ fn parts_or_kept(alloc: Global, array: &ArrayRef) -> VortexResult<Split>
     one_part(alloc, zigzags(alloc, array)?)
 }
 
-// The integers whose zigzag a tree has.
+// The ZigZag over a tree of zigzags.
 fn over(alloc: Global, words: ArrayRef) -> VortexResult<ArrayRef>
     requires { is_unsigned (tree_type words) ≡ true }
     ensures { Answers result (zig_zag words) }
@@ -83,7 +69,7 @@ fn over(alloc: Global, words: ArrayRef) -> VortexResult<ArrayRef>
     }
 }
 
-// Zigzag over the part's tree; without a part the column stays plain.
+// The ZigZag over the part's tree; without a part the column stays plain.
 fn joined(alloc: Global, array: &ArrayRef, trees: Arrays) -> VortexResult<ArrayRef>
     requires plain { IsPlain array.now }
     requires trees { FitParts (zig_zag_made (column_of array.now)) trees }
@@ -155,7 +141,7 @@ impl Scheme for ZigZagScheme {
         }
     }
 
-    // The estimate is never put off to this call.
+    // Not reached: no estimate of this scheme is `Callback`.
     fn resolve_estimate(
         &self,
         _column: &mut ArrayAndStats,

@@ -20,9 +20,9 @@ use Rattle.vx_model.specs.TreeType.{tree_type}
 use Rattle.vx_model.specs.WellFormed.{WellFormed}
 use Rattle.vx_model.proofs.DecodeLemmas.{wholes-map-int, no_null-map-int}
 use Rattle.vx_model.proofs.MadeLemmas.{rows_fit}
-use Rattle.vx_schemes.specs.Pairs.{pair_of}
-use Rattle.vx_schemes.proofs.BitPacking.Tree.{all_bits, all_bits-are}
-use Rattle.vx_schemes.proofs.ColumnLemmas.{wholes_are}
+use Rattle.vx_schemes_common.specs.Pairs.{pair_of}
+use Rattle.vx_schemes_common.proofs.BitsLemmas.{all_bits, all_bits-are}
+use Rattle.vx_schemes_common.proofs.ColumnLemmas.{wholes_are}
 use Rattle.vx_schemes_runs.specs.Delta.Laws.{optional-integers, delta-admitted}
 use Rattle.vx_schemes_runs.specs.Delta.Tree.{whole_column, filled_rows, delta_bases, delta_differences}
 

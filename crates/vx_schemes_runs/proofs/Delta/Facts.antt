@@ -21,16 +21,16 @@ pub delta_verdict-squares : delta_verdict default_ratio 2048 64 4093 ≡ ratio_o
 unfolding lib.Count.count_leading_zeros
 delta_verdict-squares = refl
 
--- none where all differences are 0; of a block of 8 bits it is 760/600 at 5 digits, and at 6 it is 760/700, which isn't above 5/4
+-- Skip where all differences are 0; for a block of 8-bit rows the ratio is 760/600 at 5 digits, and 760/700 at 6, which isn't above 5/4
 pub delta_verdict-least : (delta_verdict default_ratio 1024 64 0 ≡ Skip) × (delta_verdict default_ratio 1024 8 31 ≡ ratio_of (95 * 1024 * 8) (100 * 1024 * 6)) × (delta_verdict default_ratio 1024 8 32 ≡ Skip)
 unfolding lib.Count.count_leading_zeros
 delta_verdict-least = (refl, refl, refl)
 
--- from -3 to 2, and of no number
+-- from -3 to 2; 0 for one number and for none
 pub spread-five : (spread (pos 0 ∷ pos 2 ∷ negsuc 2 ∷ []) ≡ 5) × (spread (pos 7 ∷ []) ≡ 0) × (spread [] ≡ 0)
 spread-five = (refl, refl, refl)
 
--- told up to itself, and not where less is the most
+-- the spread up to its own bound, and None for a lower one
 pub spread_within-five : (spread_within 5 (pos 0 ∷ pos 2 ∷ negsuc 2 ∷ []) ≡ Some 5) × (spread_within 4 (pos 0 ∷ pos 2 ∷ negsuc 2 ∷ []) ≡ None)
 spread_within-five = (refl, refl)
 

@@ -3,9 +3,9 @@ use Rattle.std.proofs.Common.{◌≡◌, true, [], ◌∷◌, Option, Some, None
 use Rattle.vx_base.specs.PlainType.{is_integer}
 use Rattle.vx_model.specs.Column.{Column}
 use Rattle.vx_model.specs.Tree.{Tree}
-use Rattle.vx_schemes.specs.Pairs.{pair_of}
-use Rattle.vx_schemes.specs.Produced.{IsProduced, MakesProduced}
-use Rattle.vx_schemes.proofs.Produced.{plain-produced}
+use Rattle.vx_schemes_common.specs.Pairs.{pair_of}
+use Rattle.vx_schemes_common.specs.Produced.{IsProduced, MakesProduced}
+use Rattle.vx_schemes_common.proofs.Produced.{plain-produced}
 use Rattle.vx_schemes_runs.specs.Delta.Meaning.{delta_meaning, unfinished}
 use Rattle.vx_schemes_runs.specs.Delta.Tree.{delta_bases, delta_differences, delta_or_plain}
 use Rattle.vx_schemes_runs.specs.declared.integer.delta.DeltaScheme.{DeltaScheme}

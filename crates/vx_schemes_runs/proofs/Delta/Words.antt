@@ -8,7 +8,7 @@ use Rattle.std.proofs.lemmas.Int.{ints}
 use Rattle.vx_base.specs.declared.ptype.PType.{PType}
 use Rattle.vx_base.specs.declared.ptype.PType.TheVariants.{I8, I16, I32, I64}
 use Rattle.vx_base.specs.Integers.{natural_bits, is_signed, lies_in}
-use Rattle.vx_schemes.proofs.BitPacking.Wide.{word_bits}
+use Rattle.vx_schemes_common.proofs.DigitLemmas.{word_bits}
 use Rattle.vx_schemes_runs.specs.Delta.Meaning.{spread}
 
 half_word : (p : PType) → is_signed p ≡ true → 2 ^ natural_bits p ≤ 2 ^ 63

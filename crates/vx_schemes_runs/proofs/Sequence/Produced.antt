@@ -5,8 +5,8 @@ use Rattle.vx_base.specs.declared.array_id.ArrayId.TheVariants as ids
 use Rattle.vx_model.specs.Column.{Column}
 use Rattle.vx_model.specs.Nodes.{encoding}
 use Rattle.vx_model.specs.Tree.{Tree}
-use Rattle.vx_schemes.specs.Produced.{MakesProduced}
-use Rattle.vx_schemes.proofs.Produced.{finishing-produced}
+use Rattle.vx_schemes_common.specs.Produced.{MakesProduced}
+use Rattle.vx_schemes_common.proofs.Produced.{finishing-produced}
 use Rattle.vx_schemes_runs.specs.Sequence.Meaning.{sequence_meaning}
 use Rattle.vx_schemes_runs.specs.Sequence.Tree.{sequence_in, sequence_over, sequence_made}
 use Rattle.vx_schemes_runs.specs.declared.integer.sequence.SequenceScheme.{SequenceScheme}

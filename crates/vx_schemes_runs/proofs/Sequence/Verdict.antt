@@ -21,29 +21,28 @@ use Rattle.vx_model.specs.Tree.{Tree, Validity, primitive}
 use Rattle.vx_model.specs.TreeType.{tree_type}
 use Rattle.vx_model.specs.WellFormed.{WellFormed}
 use Rattle.vx_model.proofs.PlainLemmas.{wholes_lie_in}
-use Rattle.vx_scheme.specs.Resolved.{IsResolved}
 use Rattle.vx_scheme.specs.declared.estimate.EstimateVerdict.TheVariants.{Skip, Ratio}
 use Rattle.vx_scheme.proofs.RatioLemmas.{Ratio-parts}
-use Rattle.vx_schemes.proofs.ColumnLemmas.{wholes_are, validity_is}
+use Rattle.vx_schemes_common.proofs.ColumnLemmas.{wholes_are, validity_is}
 use Rattle.vx_schemes_runs.specs.Sequence.Laws.{found-is, found-admitted}
 use Rattle.vx_schemes_runs.specs.Sequence.Meaning.{sequence_verdict}
 use Rattle.vx_schemes_runs.specs.Sequence.Tree.{sequence_in}
-use Rattle.vx_schemes_runs.specs.Thresholds.{IsAtMost}
-use Rattle.vx_schemes_runs.proofs.ThresholdLemmas.{resolved-itself, ratio-bounds}
+use Rattle.vx_schemes_runs.specs.Thresholds.{is_beaten, above}
+use Rattle.vx_schemes_runs.proofs.ThresholdLemmas.{beaten, passing}
 use Rattle.std.proofs.lemmas.List.{length-map}
 
 -- ---- verdicts
 
-pub half-bounds : (len : ℕ) (o : Option (ℤ × ℤ)) (x : Fraction) → numerator x ≡ len → divisor x ≡ 2 → IsAtMost x (sequence_verdict len o)
-half-bounds len None x num den = tt
-half-bounds len (Some found) x num den = ratio-bounds x len 2 num den
+pub half-beaten : (t : Option Fraction) (len : ℕ) (o : Option (ℤ × ℤ)) (x : Fraction) → is_beaten x t ≡ true → numerator x ≡ len → divisor x ≡ 2 → Skip ≡ above t (sequence_verdict len o)
+half-beaten t len None x b num den = refl
+half-beaten t len (Some found) x b num den = beaten t x (sequence_verdict len (Some found)) b (Ratio-parts x len 2 num den)
 
-pub half-resolved : (t : Option Fraction) (len : ℕ) (o : Option (ℤ × ℤ)) (found : ℤ × ℤ) (x : Fraction) → Some found ≡ o → numerator x ≡ len → divisor x ≡ 2 → IsResolved t (sequence_verdict len o) (Ratio x)
-half-resolved t len o found x e num den =
-    subst (λ p. IsResolved t (sequence_verdict len p) (Ratio x)) e (subst (λ v. IsResolved t v (Ratio x)) (Ratio-parts x len 2 num den) (resolved-itself t (Ratio x)))
+pub half-passing : (t : Option Fraction) (len : ℕ) (o : Option (ℤ × ℤ)) (found : ℤ × ℤ) (x : Fraction) → Some found ≡ o → is_beaten x t ≡ false → numerator x ≡ len → divisor x ≡ 2 → Ratio x ≡ above t (sequence_verdict len o)
+half-passing t len o found x e b num den =
+    subst (λ p. Ratio x ≡ above t (sequence_verdict len p)) e (passing t x (sequence_verdict len (Some found)) b (Ratio-parts x len 2 num den))
 
-pub none-resolved : (t : Option Fraction) (len : ℕ) (o : Option (ℤ × ℤ)) → None ≡ o → IsResolved t (sequence_verdict len o) Skip
-none-resolved t len o e = subst (λ p. IsResolved t (sequence_verdict len p) Skip) e (resolved-itself t Skip)
+pub none-skipped : (t : Option Fraction) (len : ℕ) (o : Option (ℤ × ℤ)) → None ≡ o → Skip ≡ above t (sequence_verdict len o)
+none-skipped t len o e = subst (λ p. Skip ≡ above t (sequence_verdict len p)) e refl
 
 -- ---- the sequence of a plain tree
 

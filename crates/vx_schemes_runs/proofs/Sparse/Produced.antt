@@ -7,9 +7,9 @@ use Rattle.vx_model.specs.Nodes.{encoding}
 use Rattle.vx_model.specs.Tree.{Tree}
 use Rattle.vx_scheme.specs.Meaning.{finished}
 use Rattle.vx_stats.specs.Stats.{most_frequent}
-use Rattle.vx_schemes.specs.Pairs.{pair_of}
-use Rattle.vx_schemes.specs.Produced.{IsProduced, MakesProduced}
-use Rattle.vx_schemes.proofs.Produced.{plain-produced}
+use Rattle.vx_schemes_common.specs.Pairs.{pair_of}
+use Rattle.vx_schemes_common.specs.Produced.{IsProduced, MakesProduced}
+use Rattle.vx_schemes_common.proofs.Produced.{plain-produced}
 use Rattle.vx_schemes_runs.specs.Sparse.Meaning.{sparse_meaning, sparse_split, shared_tree, by_split}
 use Rattle.vx_schemes_runs.specs.Sparse.Tree.{sparse_or_plain}
 use Rattle.vx_schemes_runs.specs.declared.integer.sparse.SparseScheme.{SparseScheme}

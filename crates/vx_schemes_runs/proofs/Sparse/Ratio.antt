@@ -1,4 +1,4 @@
--- What the scheme of sparse values expects, by the counts.
+-- The estimate of the sparse scheme, by the counts.
 use Rattle.std.proofs.Common.{◌≡◌, ◌≤◌, ◌*◌, ◌∙◌, ℕ, true, false, refl, sym}
 use Rattle.std.specs.Prelude.{◌-◌, nat_lt}
 use Rattle.std.proofs.lemmas.Bool.{ne_eqb, le-ltb}
@@ -15,7 +15,7 @@ mostly-null rows nulls values often x some most num den =
     let is : sparse_verdict rows nulls values often ≡ ratio_of rows values = rw (ne_eqb values 0 some, most) refl in
     Ratio-parts x rows values num den ∙ sym is
 
--- where one value stands in nine of ten valid rows and not in all
+-- where one value stands in 9 of 10 valid rows but not in all
 pub frequent : (rows nulls values often : ℕ) (x : Fraction) → (values ≡ 0 → ⊥) → nat_lt (9 * rows) (10 * nulls) ≡ false → (often ≡ values → ⊥) → 9 * values ≤ 10 * often → numerator x ≡ values → divisor x ≡ values - often
     → Ratio x ≡ sparse_verdict rows nulls values often
 frequent rows nulls values often x some few other nine num den =

@@ -1,4 +1,4 @@
--- A number that nine of ten numbers are leaves few others, and so few runs: where runs are short there is none.
+-- A value of 9 of 10 rows leaves few others, and so few runs: where runs are short there is no such value.
 use Rattle.std.proofs.Common.{◌≡◌, ◌≤◌, ◌+◌, ◌*◌, ◌/◌, ℕ, ℤ, Bool, true, false, cond, List, [], ◌∷◌, length, refl, sym, ap, subst, arith}
 use Rattle.std.specs.Prelude.{◌==◌}
 use Rattle.std.specs.Ordering.{int_eq}
@@ -24,7 +24,7 @@ runs_after-few : (z w : ℤ) (zs : List ℤ) → runs_after w zs + 2 * times zs 
 runs_after-few z w [] = omega arith
 runs_after-few z w (x ∷ xs) = omega (arith, runs_after-few z x xs, times-next z x xs, changed z w x)
 
--- two for each of the others, and one more
+-- at most 2 * others + 1 runs
 pub run_count-few : (zs : List ℤ) (z : ℤ) → run_count zs + 2 * times zs z ≤ 2 * length zs + 1
 run_count-few [] z = omega arith
 run_count-few (x ∷ xs) z = by_test (int_eq z x) refl
@@ -33,7 +33,7 @@ run_count-few (x ∷ xs) z = by_test (int_eq z x) refl
     by_test true e = omega (arith, runs_after-few z x xs, times-next z x xs, ap (λ b. cond {A = ℕ} b 1 0) e, ap (λ b. cond {A = ℕ} b 0 1) e)
     by_test false e = omega (arith, runs_after-few z x xs, times-next z x xs, ap (λ b. cond {A = ℕ} b 1 0) e, ap (λ b. cond {A = ℕ} b 0 1) e)
 
--- twenty numbers, of which nine of ten are one, have four a run
+-- 20 values or more, 9 of 10 of them equal, have an average run length of at least 4
 pub runs-long : (zs : List ℤ) (z : ℤ) → 20 ≤ length zs → 9 * length zs ≤ 10 * times zs z → 4 ≤ cond (length zs == 0) 0 (length zs / run_count zs)
 runs-long [] z many nine = absurd (omega (arith, many))
 runs-long (x ∷ xs) z many nine =

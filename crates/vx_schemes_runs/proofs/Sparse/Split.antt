@@ -12,11 +12,11 @@ use Rattle.vx_model.specs.Tree.{Tree}
 use Rattle.vx_scheme.specs.Asked.{FitParts}
 use Rattle.vx_scheme.specs.Meaning.{finished, parts}
 use Rattle.vx_stats.specs.Stats.{most_frequent, null_count, value_count}
-use Rattle.vx_encode.specs.Filling.{filling_of}
-use Rattle.vx_encode.proofs.FillingLemmas.{ArePatches}
-use Rattle.vx_encode.proofs.SharedLemmas.{frequent-fits, null-fits}
-use Rattle.vx_schemes.specs.Pairs.{pair_of}
-use Rattle.vx_schemes.proofs.Dictionary.Tree.{no_pair, pair-fits}
+use Rattle.vx_sparse_array.specs.Filling.{filling_of}
+use Rattle.vx_sparse_array.proofs.FillingLemmas.{ArePatches}
+use Rattle.vx_sparse_array.proofs.SharedLemmas.{frequent-fits, null-fits}
+use Rattle.vx_schemes_common.specs.Pairs.{pair_of}
+use Rattle.vx_schemes_common.proofs.PairLemmas.{no_pair, pair-fits}
 use Rattle.vx_schemes_runs.specs.Sparse.Laws.{fill-fits, parts-patch}
 use Rattle.vx_schemes_runs.specs.Sparse.Meaning.{by_split, shared_tree, sparse_split}
 use Rattle.vx_schemes_runs.specs.Sparse.Tree.{sparse_fill, sparse_indices, sparse_values}

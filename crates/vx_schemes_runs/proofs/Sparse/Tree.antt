@@ -6,9 +6,9 @@ use Rattle.vx_base.specs.PlainValue.{cell}
 use Rattle.vx_model.specs.Column.{Column}
 use Rattle.vx_model.specs.WellFormed.{ascend}
 use Rattle.vx_scheme.specs.Asked.{most_rows}
-use Rattle.vx_encode.specs.Filling.{filling_of, patched_rows}
-use Rattle.vx_encode.proofs.FillingLemmas.{patched_rows-under}
-use Rattle.vx_schemes.specs.Narrowed.{number_rows}
+use Rattle.vx_sparse_array.specs.Filling.{filling_of, patched_rows}
+use Rattle.vx_sparse_array.proofs.FillingLemmas.{patched_rows-under}
+use Rattle.vx_schemes_common.specs.Narrowed.{number_rows}
 use Rattle.vx_schemes_runs.specs.Sparse.Laws.{rows-rise}
 use Rattle.vx_schemes_runs.specs.Sparse.Tree.{sparse_fill, sparse_filling}
 

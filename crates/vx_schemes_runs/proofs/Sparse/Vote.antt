@@ -10,14 +10,14 @@ use Rattle.vx_stats.specs.Distinct as numbers
 use Rattle.vx_stats.specs.Runs.{better}
 use Rattle.vx_stats.specs.Stats.{valid_wholes, value_count, average_run_length, most_frequent}
 use Rattle.vx_stats.proofs.DistinctLemmas.{times-next, distinct-times, eq-same, best-most_frequent}
-use Rattle.vx_encode.proofs.SharedLemmas.{frequent-few}
+use Rattle.vx_sparse_array.proofs.SharedLemmas.{frequent-few}
 use Rattle.vx_schemes_runs.specs.Sparse.Meaning.{sparse_verdict}
 use Rattle.vx_schemes_runs.specs.Sparse.Vote.{after_vote, winner, winner_count}
 use Rattle.vx_schemes_runs.proofs.Sparse.Runs.{runs-long}
 
 -- ---- a vote
 
--- a leader by so many votes stands for as many numbers before the others: a number that isn't the winner is at most half of all
+-- the invariant of the vote: the lead is at most how far the leader is ahead of the others, so a number that isn't the winner is at most half of all
 abbrev Trails : ℤ → ℕ → ℕ → List ℤ → ℤ × ℕ → Type 0
 Trails z times count zs leader = int_eq z (fold after_vote leader zs).0 ≡ false → 2 * times ≤ count
 

@@ -42,8 +42,8 @@ use Rattle.vx_model.proofs.PackedLemmas.{passed}
 use Rattle.vx_model.proofs.PlainLemmas.{rows-plain_of, wholes_lie_in}
 use Rattle.vx_model.proofs.RowLemmas.{row_at-cells}
 use Rattle.vx_scheme.specs.Lawful.{IsPart}
-use Rattle.vx_schemes.specs.Pairs.{pair_of}
-use Rattle.vx_schemes.specs.StandsFor.{StandsFor}
+use Rattle.vx_schemes_common.specs.Pairs.{pair_of}
+use Rattle.vx_schemes_common.specs.StandsFor.{StandsFor}
 use Rattle.vx_schemes_runs.specs.Delta.Tree.{delta_bases, delta_differences, delta_or_plain}
 
 -- ---- the filled rows

@@ -5,7 +5,6 @@ use Rattle.std.proofs.Common.{arith, subst, sym, ◌∙◌, zero-lt-suc}
 use Rattle.vx_base.specs.declared.array_id.ArrayId.TheVariants.{Delta}
 use Rattle.vx_base.specs.declared.fraction.Fraction.{Fraction}
 use Rattle.vx_base.specs.Digits.{digits}
-use Rattle.vx_base.specs.Fractions.{is_less}
 use Rattle.vx_base.specs.IdNumber.{same_id}
 use Rattle.vx_base.specs.Integers.{bits_of}
 use Rattle.vx_base.specs.Packed.{block_count}
@@ -19,23 +18,24 @@ use Rattle.vx_scheme.specs.Scores.{ratio_of}
 use Rattle.vx_scheme.specs.declared.estimate.CompressionEstimate.TheVariants.{Verdict, Deferred}
 use Rattle.vx_scheme.specs.declared.estimate.DeferredEstimate.TheVariants.{Callback}
 use Rattle.vx_scheme.specs.declared.estimate.EstimateVerdict.{EstimateVerdict}
-use Rattle.vx_scheme.specs.declared.estimate.EstimateVerdict.TheVariants.{Skip, AlwaysUse, Ratio}
+use Rattle.vx_scheme.specs.declared.estimate.EstimateVerdict.TheVariants.{Skip}
 use Rattle.vx_scheme.specs.declared.selection.ChildSelection.TheVariants as selections
-use Rattle.vx_schemes.specs.Exclusions.{not_in_codes}
-use Rattle.vx_schemes.specs.Pairs.{pair_of}
+use Rattle.vx_schemes_common.specs.Exclusions.{not_in_codes}
+use Rattle.vx_schemes_common.specs.Pairs.{pair_of}
 use Rattle.vx_schemes_runs.specs.Delta.Laws.{delta-small, delta-joined}
 use Rattle.vx_schemes_runs.specs.Delta.Tree.{differences_of, delta_bases, delta_differences, delta_or_plain}
+use Rattle.vx_schemes_runs.specs.Thresholds.{above}
 use Rattle.vx_schemes_runs.specs.declared.integer.delta.DeltaScheme.{DeltaScheme}
 
--- the ratio that isn't worth it
+-- the greatest ratio that is skipped
 abbrev pub least_ratio : DeltaScheme → Fraction
 least_ratio s = s.min_ratio
 
--- the scheme that skips what isn't above five over four
+-- the scheme that skips ratios up to 5/4
 abbrev pub default_delta : DeltaScheme
 default_delta = record { min_ratio = record { num = 5; den = 4; positive = zero-lt-suc 3 } }
 
--- no second delta below a first
+-- no delta below a delta
 abbrev pub not_twice : List Rule
 not_twice = record { scheme = codes "vortex.int.delta"; children = selections.All } ∷ []
 
@@ -44,33 +44,27 @@ abbrev pub spread : List ℤ → ℕ
 spread [] = 0
 spread (z ∷ zs) = unsigned_abs (fold int_max z zs -ℤ fold int_min z zs)
 
--- the spread, where it isn't above a greatest one
+-- the spread; None where it is above the bound
 abbrev pub spread_within : ℕ → List ℤ → Option ℕ
 spread_within most zs = if nat_lt most (spread zs) then None else Some (spread zs)
 
--- the rows, and those that fill their last block of 1,024
+-- the rows padded to whole blocks of 1,024
 abbrev pub padded : ℕ → ℕ
 padded len = 1024 * block_count len
 
--- 95 of 100 of the rows' bits, to those of differences of so many digits and a bit more
+-- 0.95 * bits(rows) / bits(padded differences), with width + 1 bits a difference: 5 % off for the prefix sums that decoding takes
 abbrev pub delta_ratio : ℕ → ℕ → ℕ → EstimateVerdict
 delta_ratio len bits width = ratio_of (95 * len * bits) (100 * padded len * (width + 1))
 
--- a ratio that is above a least one
-abbrev pub if_above : Fraction → EstimateVerdict → EstimateVerdict
-if_above least Skip = Skip
-if_above least AlwaysUse = AlwaysUse
-if_above least (Ratio ratio) = if is_less least ratio then Ratio ratio else Skip
-
--- by the spread of the differences; none where they are all equal
+-- the ratio by the spread of the differences, where it is above the least; Skip where all differences are equal
 abbrev pub delta_verdict : Fraction → ℕ → ℕ → ℕ → EstimateVerdict
-delta_verdict least len bits span = if span == 0 then Skip else if_above least (delta_ratio len bits (digits span))
+delta_verdict least len bits span = if span == 0 then Skip else above (Some least) (delta_ratio len bits (digits span))
 
--- what is expected of a column's differences
+-- the verdict on a column
 abbrev pub delta_resolved : Fraction → Column → EstimateVerdict
 delta_resolved least c = delta_verdict least (length c.values) (bits_of (integer_of c.dtype)) (spread (differences_of c))
 
--- the bases are part 0, and the differences part 1; fewer rows than a block are skipped, as is any column where no scheme may follow
+-- the bases are part 0, and the differences part 1; Skip at budget 0 and for a column shorter than a block, while the estimate of any other is deferred
 abbrev pub delta_meaning : DeltaScheme → Meaning
 delta_meaning s = record {
   name = codes "vortex.int.delta";

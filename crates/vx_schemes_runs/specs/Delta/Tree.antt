@@ -1,5 +1,5 @@
--- What a delta scheme makes of a column of integers: the bases of its blocks of 1,024 rows, and the differences from row to
--- row. Each null takes the last value before it, and 0 before the first.
+-- What the delta scheme makes of a column of integers: the base of each block of 1,024 rows, and the differences from row to
+-- row. A null has the last value before it; before the first value it has 0.
 use Rattle.std.specs.Prelude.{ℤ, List, length, map, Option, None, Some}
 use Rattle.vx_base.specs.declared.dtype.Nullability.TheVariants.{NonNullable}
 use Rattle.vx_base.specs.IntegersIn.{integer_in}
@@ -15,7 +15,7 @@ use Rattle.vx_model.specs.Tree.{Tree, delta}
 abbrev pub whole_column : Column → List ℤ → Column
 whole_column c numbers = column (types.primitive (integer_of c.dtype) NonNullable) (map int numbers)
 
--- the numbers of the rows
+-- the rows as integers, each null filled with the value before it
 abbrev pub filled_rows : Column → List ℤ
 filled_rows c = filled (map integer_in c.values)
 
@@ -31,7 +31,7 @@ delta_bases c = whole_column c (bases (filled_rows c))
 abbrev pub delta_differences : Column → Column
 delta_differences c = whole_column c (differences_of c)
 
--- the sums of bases and differences, null where the column is
+-- the delta of the pair, bases first, then differences, null where the column is; plain unless there are two trees
 abbrev pub delta_or_plain : Column → Option (Tree × Tree) → Tree
 delta_or_plain c None = plain c
 delta_or_plain c (Some pair) = delta pair.0 pair.1 (length c.values) (validity c.values) (nullability_of c.dtype)

@@ -10,8 +10,8 @@ use Rattle.vx_blocks.specs.Runs.{ends_run, run_ends}
 use Rattle.vx_blocks.proofs.RunEnds.{ends_to, ends-all}
 use Rattle.vx_model.specs.Rows.{row_at, offset_at, run_value}
 use Rattle.vx_model.proofs.RunEndLemmas.{last_end}
-use Rattle.vx_schemes.specs.Narrowed.{number_rows}
-use Rattle.vx_schemes.specs.NarrowedLaws.{number_rows-long}
+use Rattle.vx_schemes_common.specs.Narrowed.{number_rows}
+use Rattle.vx_schemes_common.specs.NarrowedLaws.{number_rows-long}
 use Rattle.vx_schemes_runs.specs.RowsAtLaws.{RowsFollow}
 
 module _ (os : List (Option ℤ)) (vs : List PlainValue) (follow : RowsFollow os vs) where

@@ -19,11 +19,11 @@ use Rattle.vx_model.specs.WellFormed.{WellFormed, ascend}
 use Rattle.vx_model.proofs.RunEndLemmas.{last_end, run_end_accepted}
 use Rattle.vx_scheme.specs.Asked.{most_rows}
 use Rattle.vx_scheme.specs.Lawful.{IsPart}
-use Rattle.vx_encode.proofs.RisingLemmas.{filter-ascends}
-use Rattle.vx_schemes.specs.Narrowed.{number_rows}
-use Rattle.vx_schemes.specs.NarrowedLaws.{rising-column, number_rows-long}
-use Rattle.vx_schemes.specs.Pairs.{pair_of}
-use Rattle.vx_schemes.specs.StandsFor.{StandsFor}
+use Rattle.vx_model.proofs.RisingLemmas.{filter-ascends}
+use Rattle.vx_schemes_common.specs.Narrowed.{number_rows}
+use Rattle.vx_schemes_common.specs.NarrowedLaws.{rising-column, number_rows-long}
+use Rattle.vx_schemes_common.specs.Pairs.{pair_of}
+use Rattle.vx_schemes_common.specs.StandsFor.{StandsFor}
 use Rattle.vx_schemes_runs.specs.RowsAt.{optional_wholes}
 use Rattle.vx_schemes_runs.specs.RowsAtLaws.{rows_follow, rows_at-column, all_filtered, few_filtered, below-is}
 use Rattle.vx_schemes_runs.specs.RunEnd.Back.{runs-back, last_end-rows}

@@ -1,4 +1,4 @@
--- What the scheme of run ends means.
+-- What the run-end scheme means.
 use Rattle.std.specs.Prelude.{◌≤◌, nat_lt, false, if◌then◌else◌, List, [], ◌∷◌, length, All, codes}
 use Rattle.std.proofs.Common.{arith, subst, sym, ◌∙◌}
 use Rattle.vx_base.specs.IdNumber.{same_id}
@@ -14,20 +14,20 @@ use Rattle.vx_scheme.specs.declared.estimate.DeferredEstimate.TheVariants.{Sampl
 use Rattle.vx_scheme.specs.declared.estimate.EstimateVerdict.TheVariants.{Skip}
 use Rattle.vx_scheme.specs.declared.selection.ChildSelection.TheVariants.{One}
 use Rattle.vx_stats.specs.Stats.{average_run_length}
-use Rattle.vx_schemes.specs.Exclusions.{not_in_values}
-use Rattle.vx_schemes.specs.Pairs.{pair_of}
+use Rattle.vx_schemes_common.specs.Exclusions.{not_in_values}
+use Rattle.vx_schemes_common.specs.Pairs.{pair_of}
 use Rattle.vx_schemes_runs.specs.PartsLaws.{never_finished, parts_same}
 use Rattle.vx_schemes_runs.specs.RunEnd.Tree.{run_values, narrowed_ends, runs_or_plain}
 use Rattle.vx_schemes_runs.specs.RunEnd.Laws.{runs-small, joined}
 use Rattle.vx_schemes_runs.specs.declared.integer.run_end.RunEndScheme.{RunEndScheme}
 
--- below the ends, its child 1, no dictionary, runs or sparse values: no two ends are equal
+-- below the ends, its child 1, no dictionary, runs or sparse values: the ends ascend strictly, so no two are equal
 abbrev pub not_below_ends : List Rule
 not_below_ends =
     record { scheme = codes "vortex.int.dict"; children = One 1 } ∷ record { scheme = codes "vortex.int.runend"; children = One 1 }
     ∷ record { scheme = codes "vortex.int.rle"; children = One 1 } ∷ record { scheme = codes "vortex.int.sparse"; children = One 1 } ∷ []
 
--- a column with fewer than four values a run is skipped, another is judged by a sample
+-- Skip below an average run length of 4; any other column is tried on a sample
 abbrev pub runs_estimate : Column → CompressionEstimate
 runs_estimate c = if nat_lt (average_run_length c.values) 4 then Verdict Skip else Deferred Sample
 

@@ -13,7 +13,7 @@ use Rattle.vx_blocks.specs.Runs.{begins_run, heads_before, heads, runs_before, o
 use Rattle.vx_blocks.proofs.HeadsOfRuns.{heads-push, heads-skip, begins-first, runs-push}
 use Rattle.vx_blocks.proofs.Ranges.{filter-range_more}
 use Rattle.vx_model.specs.Rows.{row_at, looked_up, rle_place}
-use Rattle.vx_schemes.specs.Narrowed.{number_rows}
+use Rattle.vx_schemes_common.specs.Narrowed.{number_rows}
 use Rattle.vx_schemes_runs.specs.RowsAtLaws.{RowsFollow}
 
 -- ---- numbers as rows

@@ -21,13 +21,13 @@ use Rattle.vx_model.proofs.PackedLemmas.{below-passes}
 use Rattle.vx_model.proofs.RleLemmas.{rle_accepted}
 use Rattle.vx_scheme.specs.Asked.{most_rows}
 use Rattle.vx_scheme.specs.Lawful.{IsPart}
-use Rattle.vx_schemes.specs.Narrowed.{number_rows}
-use Rattle.vx_schemes.specs.NarrowedLaws.{narrowed-column, number_rows-long}
-use Rattle.vx_schemes.specs.StandsFor.{StandsFor}
+use Rattle.vx_schemes_common.specs.Narrowed.{number_rows}
+use Rattle.vx_schemes_common.specs.NarrowedLaws.{narrowed-column, number_rows-long}
+use Rattle.vx_schemes_common.specs.StandsFor.{StandsFor}
 use Rattle.vx_schemes_runs.specs.RowsAt.{optional_wholes}
 use Rattle.vx_schemes_runs.specs.RowsAtLaws.{rows_follow, rows_at-column, all_filtered, few_filtered, all_mapped, below-is}
 use Rattle.vx_schemes_runs.specs.RunLength.Back.{blocks-back, head-within, place-is}
-use Rattle.vx_schemes_runs.specs.RunLength.Tree.{head_values, narrowed_run_numbers, narrowed_offsets, blocks_or_plain}
+use Rattle.vx_schemes_runs.specs.RunLength.Tree.{head_values, narrowed_run_numbers, narrowed_offsets, rle_or_plain}
 use Rattle.vx_schemes_runs.specs.Triples.{triple_of}
 
 optional-long : (c : Column) → length (optional_wholes c) ≡ length c.values
@@ -120,7 +120,7 @@ module _ (c : Column) (values indices offs : Tree) (j : is_integer c.dtype ≡ t
   pub blocks-stand : WellFormed values → WellFormed indices → WellFormed offs → StandsFor (rle values indices offs (length c.values)) c
   blocks-stand wv wi wo = (rle_accepted values indices offs (length c.values) blocks-admitted wv wi wo, λ i. column (ap (λ d. d.dtype) v i) (back i))
 
-pub joined : (c : Column) (trees : List Tree) → is_integer c.dtype ≡ true → IsColumn c → All WellFormed trees → map column_of trees ≡ head_values c ∷ narrowed_run_numbers c ∷ narrowed_offsets c ∷ [] → StandsFor (blocks_or_plain c (triple_of trees)) c
+pub joined : (c : Column) (trees : List Tree) → is_integer c.dtype ≡ true → IsColumn c → All WellFormed trees → map column_of trees ≡ head_values c ∷ narrowed_run_numbers c ∷ narrowed_offsets c ∷ [] → StandsFor (rle_or_plain c (triple_of trees)) c
 joined c [] j h well fit = absurd cc
 joined c (values ∷ []) j h well fit = absurd cc
 joined c (values ∷ indices ∷ []) j h well fit = absurd cc

@@ -1,4 +1,4 @@
--- What the scheme of runs in blocks means.
+-- What the run-length scheme means.
 use Rattle.std.specs.Prelude.{◌≤◌, ◌==◌, ◌||◌, nat_lt, false, if◌then◌else◌, List, [], ◌∷◌, length, All, codes}
 use Rattle.std.proofs.Common.{arith, subst, sym, ◌∙◌}
 use Rattle.vx_base.specs.IdNumber.{same_id}
@@ -15,23 +15,23 @@ use Rattle.vx_scheme.specs.declared.estimate.DeferredEstimate.TheVariants.{Sampl
 use Rattle.vx_scheme.specs.declared.estimate.EstimateVerdict.TheVariants.{Skip}
 use Rattle.vx_scheme.specs.declared.selection.ChildSelection.TheVariants.{Many}
 use Rattle.vx_stats.specs.Stats.{average_run_length}
-use Rattle.vx_schemes.specs.Exclusions.{not_in_values}
+use Rattle.vx_schemes_common.specs.Exclusions.{not_in_values}
 use Rattle.vx_schemes_runs.specs.Triples.{triple_of}
 use Rattle.vx_schemes_runs.specs.PartsLaws.{never_finished, parts_same}
-use Rattle.vx_schemes_runs.specs.RunLength.Tree.{head_values, narrowed_run_numbers, narrowed_offsets, blocks_or_plain}
+use Rattle.vx_schemes_runs.specs.RunLength.Tree.{head_values, narrowed_run_numbers, narrowed_offsets, rle_or_plain}
 use Rattle.vx_schemes_runs.specs.RunLength.Laws.{blocks-small, joined}
 use Rattle.vx_schemes_runs.specs.declared.integer.run_length.IntRLEScheme.{IntRLEScheme}
 
--- below the numbers and the offsets, its children 1 and 2, no dictionary and no sparse values
+-- below the numbers and the offsets, its children 1 and 2, no dictionary and no sparse values: bit packing takes such small numbers best
 abbrev pub not_below_numbers : List Rule
 not_below_numbers =
     record { scheme = codes "vortex.int.dict"; children = Many 1 2 } ∷ record { scheme = codes "vortex.int.sparse"; children = Many 1 2 } ∷ []
 
--- a column with fewer than four values a run is skipped, as is any where no scheme may follow; another is judged by a sample
-abbrev pub blocks_estimate : Column → Site → CompressionEstimate
-blocks_estimate c site = if site.budget == 0 || nat_lt (average_run_length c.values) 4 then Verdict Skip else Deferred Sample
+-- Skip at budget 0 and below an average run length of 4; any other column is tried on a sample
+abbrev pub rle_estimate : Column → Site → CompressionEstimate
+rle_estimate c site = if site.budget == 0 || nat_lt (average_run_length c.values) 4 then Verdict Skip else Deferred Sample
 
--- the values of the runs are part 0, the rows' numbers part 1, and the blocks' offsets part 2
+-- the values of the runs are part 0, the run numbers of the rows part 1, and the offsets of the blocks part 2
 abbrev pub int_rle_meaning : IntRLEScheme → Meaning
 int_rle_meaning s = record {
   name = codes "vortex.int.rle";
@@ -41,10 +41,10 @@ int_rle_meaning s = record {
   produces = λ id. same_id id Rle;
   descendants = not_below_numbers;
   ancestors = not_in_values;
-  estimate = blocks_estimate;
+  estimate = rle_estimate;
   resolve = λ c site. Skip;
   splits = λ c site. parts (head_values c ∷ narrowed_run_numbers c ∷ narrowed_offsets c ∷ []);
-  joined = λ c site trees. blocks_or_plain c (triple_of trees);
+  joined = λ c site trees. rle_or_plain c (triple_of trees);
 }
 
 pub int_rle_lawful : (s : IntRLEScheme) → Lawful (int_rle_meaning s)

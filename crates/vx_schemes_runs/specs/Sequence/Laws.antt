@@ -1,4 +1,4 @@
--- A sequence that a column is stands for it.
+-- The sequence that is made of a column stands for it.
 use Rattle.std.proofs.Common.{◌≡◌, ◌<◌, ◌≤◌, ◌+◌, ◌-◌, ◌∙◌, ℕ, zero, suc, ℤ, pos, Bool, true, false, cond, List, [], ◌∷◌, length, map, get_or, Option, None, Some, refl, sym, ap, subst, arith}
 use Rattle.std.specs.Prelude.{nat_le, ◌==◌, ◌&&◌, ◌+ℤ◌, ◌*ℤ◌, option_map}
 use Rattle.std.specs.List.{list_all, list_any, range_with_len}
@@ -25,7 +25,7 @@ use Rattle.vx_model.specs.Tree.{Tree}
 use Rattle.vx_model.proofs.PackedLemmas.{length-below, row_at-below}
 use Rattle.vx_model.proofs.PlainLemmas.{rows-plain_of, wholes_lie_in}
 use Rattle.vx_model.proofs.SequenceLemmas.{sequence_accepted}
-use Rattle.vx_schemes.specs.StandsFor.{StandsFor, AllStandFor}
+use Rattle.vx_schemes_common.specs.StandsFor.{StandsFor, AllStandFor}
 use Rattle.vx_schemes_runs.specs.Sequence.Tree.{sequence_over, sequence_made}
 
 -- ---- what a sequence that was found tells

@@ -1,4 +1,4 @@
--- What the scheme of sequences means.
+-- What the sequence scheme means.
 use Rattle.std.specs.Prelude.{ℕ, ℤ, ◌||◌, false, if◌then◌else◌, [], codes, length, Option, None, Some, refl}
 use Rattle.std.specs.List.{list_any}
 use Rattle.vx_base.specs.IdNumber.{same_id}
@@ -13,19 +13,19 @@ use Rattle.vx_scheme.specs.declared.estimate.CompressionEstimate.TheVariants.{Ve
 use Rattle.vx_scheme.specs.declared.estimate.DeferredEstimate.TheVariants.{Callback}
 use Rattle.vx_scheme.specs.declared.estimate.EstimateVerdict.{EstimateVerdict}
 use Rattle.vx_scheme.specs.declared.estimate.EstimateVerdict.TheVariants.{Skip}
-use Rattle.vx_schemes.specs.Exclusions.{not_in_codes}
-use Rattle.vx_schemes.specs.Finishing.{finished_or_kept}
-use Rattle.vx_schemes.specs.FinishingLaws.{finishing-lawful}
+use Rattle.vx_schemes_common.specs.Exclusions.{not_in_codes}
+use Rattle.vx_schemes_common.specs.Finishing.{finished_or_kept}
+use Rattle.vx_schemes_common.specs.FinishingLaws.{finishing-lawful}
 use Rattle.vx_schemes_runs.specs.Sequence.Laws.{sequence-lawful}
 use Rattle.vx_schemes_runs.specs.Sequence.Tree.{sequence_in, sequence_made}
 use Rattle.vx_schemes_runs.specs.declared.integer.sequence.SequenceScheme.{SequenceScheme}
 
--- the rows to the two numbers that a sequence is; no ratio of other rows
+-- rows / 2 for an arithmetic sequence, which is two numbers; Skip for anything else
 abbrev pub sequence_verdict : ℕ → Option (ℤ × ℤ) → EstimateVerdict
 sequence_verdict len None = Skip
 sequence_verdict len (Some found) = ratio_of len 2
 
--- a sample of a sequence is none, and a column with a null is none either; of another the rows are looked at when it is asked again
+-- Skip for a sample, which tells nothing of the other rows, and for a column with a null; the estimate of any other is deferred
 abbrev pub sequence_meaning : SequenceScheme → Meaning
 sequence_meaning s = record {
   name = codes "vortex.int.sequence";

@@ -16,14 +16,14 @@ use Rattle.vx_model.proofs.MadeLemmas.{constant_made}
 use Rattle.vx_scheme.specs.Asked.{most_rows}
 use Rattle.vx_scheme.specs.Lawful.{IsPart}
 use Rattle.vx_stats.specs.Stats.{most_frequent}
-use Rattle.vx_encode.specs.Filling.{filling_of, is_mostly_null, patched_rows, filled_over}
-use Rattle.vx_encode.proofs.FillingLemmas.{Stands, null-stands, value-stands, ArePatches, filled-column, filled-well, patched_rows-ascend}
-use Rattle.vx_schemes.specs.BitPacking.Rising.{rows_below}
-use Rattle.vx_schemes.specs.NarrowedLaws.{rising-column, number_rows-long}
-use Rattle.vx_schemes.specs.Pairs.{pair_of}
-use Rattle.vx_schemes.specs.StandsFor.{StandsFor}
+use Rattle.vx_sparse_array.specs.Filling.{filling_of, is_mostly_null, patched_rows, filled_over}
+use Rattle.vx_sparse_array.proofs.FillingLemmas.{Stands, null-stands, value-stands, ArePatches, filled-column, filled-well, patched_rows-ascend}
+use Rattle.vx_schemes_common.specs.Rising.{rows_below}
+use Rattle.vx_schemes_common.specs.NarrowedLaws.{rising-column, number_rows-long}
+use Rattle.vx_schemes_common.specs.Pairs.{pair_of}
+use Rattle.vx_schemes_common.specs.StandsFor.{StandsFor}
 use Rattle.vx_schemes_runs.specs.RowsAtLaws.{rows_at-column, few_filtered}
-use Rattle.vx_encode.proofs.SharedLemmas.{frequent-fits, mostly-null-fits}
+use Rattle.vx_sparse_array.proofs.SharedLemmas.{frequent-fits, mostly-null-fits}
 use Rattle.vx_schemes_runs.specs.Sparse.Tree.{sparse_fill, sparse_filling, sparse_values, sparse_indices, sparse_or_plain}
 
 -- ---- the fill

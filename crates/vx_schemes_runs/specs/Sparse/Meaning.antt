@@ -1,4 +1,4 @@
--- What the scheme of sparse values means.
+-- What the sparse scheme means.
 use Rattle.std.specs.Prelude.{◌≡◌, ◌<◌, ◌≤◌, ◌*◌, ◌-◌, ◌==◌, ◌||◌, nat_lt, ℕ, Bool, true, false, cond, if◌then◌else◌, List, [], ◌∷◌, length, All, codes}
 use Rattle.std.proofs.Common.{arith, subst, sym, ◌∙◌, refl}
 use Rattle.std.proofs.lemmas.Bool.{eqb-true}
@@ -18,14 +18,14 @@ use Rattle.vx_scheme.specs.declared.estimate.EstimateVerdict.{EstimateVerdict}
 use Rattle.vx_scheme.specs.declared.estimate.EstimateVerdict.TheVariants.{Skip}
 use Rattle.vx_scheme.specs.declared.selection.ChildSelection.TheVariants.{One}
 use Rattle.vx_stats.specs.Stats.{null_count, value_count, most_frequent}
-use Rattle.vx_schemes.specs.Pairs.{pair_of}
-use Rattle.vx_schemes.specs.StandsFor.{StandsFor}
-use Rattle.vx_encode.proofs.SharedLemmas.{frequent-fits, frequent-shared, null-fits, nulls-shared}
+use Rattle.vx_schemes_common.specs.Pairs.{pair_of}
+use Rattle.vx_schemes_common.specs.StandsFor.{StandsFor}
+use Rattle.vx_sparse_array.proofs.SharedLemmas.{frequent-fits, frequent-shared, null-fits, nulls-shared}
 use Rattle.vx_schemes_runs.specs.Sparse.Laws.{sparse-small, shared-stands, joined}
 use Rattle.vx_schemes_runs.specs.Sparse.Tree.{sparse_values, sparse_indices, sparse_or_plain}
 use Rattle.vx_schemes_runs.specs.declared.integer.sparse.SparseScheme.{SparseScheme}
 
--- of so many rows, nulls and values, one of them so often: the rows to the values where more than nine of ten rows are null; else, where one value is in nine of ten valid rows but not in all, the values to the others
+-- rows / values where more than 9 of 10 rows are null; else values / (values - often), where a value stands in 9 of 10 valid rows but not in all
 abbrev pub sparse_verdict : ℕ → ℕ → ℕ → ℕ → EstimateVerdict
 sparse_verdict rows nulls values often =
     if values == 0 then Skip
@@ -33,7 +33,7 @@ sparse_verdict rows nulls values often =
     else (if (often == values) || nat_lt (10 * often) (9 * values) then Skip
     else ratio_of values (values - often)))
 
--- the verdict on a column, by its own counts and how often its most frequent value occurs
+-- the verdict on a column, by the count of its most frequent value
 abbrev pub sparse_estimate : Column → EstimateVerdict
 sparse_estimate c = sparse_verdict (length c.values) (null_count c.values) (value_count c.values) (most_frequent c.values).1
 
@@ -41,14 +41,14 @@ sparse_estimate c = sparse_verdict (length c.values) (null_count c.values) (valu
 abbrev pub shared_tree : Column → PlainValue → Tree
 shared_tree c v = constant (scalar c.dtype v) (length c.values)
 
--- rows that are all null or all the most frequent value are one scalar; else the patched values and their rows
+-- a constant where all rows are null or all are the most frequent value; else the patched values and their rows
 abbrev pub sparse_split : Column → PlainSplit
 sparse_split c =
     if value_count c.values == 0 then finished (shared_tree c null)
     else (if (most_frequent c.values).1 == length c.values then finished (shared_tree c (int (most_frequent c.values).0))
     else parts (sparse_values c ∷ sparse_indices c ∷ []))
 
--- below the rows of the patches, its child 1, no dictionary, runs or sparse values: no two of them are equal
+-- below the rows of the patches, its child 1, no dictionary, runs or sparse values: the rows ascend strictly, so no two are equal
 abbrev pub not_below_rows : List Rule
 not_below_rows =
     record { scheme = codes "vortex.int.dict"; children = One 1 } ∷ record { scheme = codes "vortex.int.runend"; children = One 1 }

@@ -1,11 +1,18 @@
 //! The delta scheme.
 
-ghost use Rattle.std.specs.Prelude.{◌≡◌};
-ghost use Rattle.vx_base.specs.Answers.{OrMemory};
-ghost use Rattle.vx_scheme.specs.Names.{name_of};
+ghost use Rattle.std.specs.Prelude.{◌≡◌, true};
+ghost use Rattle.vx_base.specs.Answers.{Answers, OrMemory};
+ghost use Rattle.vx_model.specs.Column.{column_of};
+ghost use Rattle.vx_model.specs.TreeType.{tree_type};
+ghost use Rattle.vx_scheme.specs.Asked.{HasPutOff, HasValue, IsSiteTree};
+ghost use Rattle.vx_scheme.specs.Bundle.{SameArray};
+ghost use Rattle.vx_scheme.specs.Contexts.{site_of};
+ghost use Rattle.vx_scheme.specs.Resolved.{IsResolved};
 ghost use Rattle.vx_scheme.specs.Rules.{descendants_of};
-ghost use Rattle.vx_schemes.specs.Produced.{MakesProduced};
+ghost use Rattle.vx_schemes_common.specs.Produced.{MakesProduced};
 ghost use Rattle.vx_schemes_runs.specs.Delta.Meaning.{delta_meaning, least_ratio, not_twice};
+ghost use Rattle.vx_schemes_runs.specs.Thresholds.{above};
+ghost use Rattle.vx_stats.specs.Options.{includes};
 
 mod blocks;
 mod ratio;
@@ -17,18 +24,25 @@ use std::alloc::Global;
 use std::sync::ledger::Ledger;
 use vx_array::{ArrayRef, Arrays};
 use vx_base::{ArrayId, DType, ExecutionCtx, Fraction, IdSet, Steps, VortexResult};
+use vx_blocks::BLOCK_ROWS;
 use vx_scheme::{
     AllowedIds, AncestorRules, ArrayAndStats, ChildSelection, CompressionEstimate,
-    CompressorContext, DeferredEstimate, DescendantExclusion, DescendantRules, EstimateVerdict,
-    GenerateStatsOptions, Scheme, SchemeId, Split,
+    CompressorContext, DeferredEstimate, DescendantRules, EstimateVerdict, GenerateStatsOptions,
+    Scheme, Split,
 };
-use vx_schemes::not_in_codes;
+use vx_schemes_common::{excluded, not_in_codes};
 
-/// Integers as the differences from row to row, in blocks of 1,024 rows, `vortex.int.delta`. It skips a column of fewer
-/// rows, and one below which no scheme may follow. Of any other the differences are made when it is asked again: it
-/// expects 95 of 100 of the bits of the values to those of the differences and a bit more each, and skips what isn't above
-/// a least ratio, 5/4 by default. Child 0: the first value of each block; child 1: the differences, 0 at a block's first
-/// row and in rows that fill the last block. A null has the value before it. Both are of the column's type, without nulls.
+// 5/4 by default: a lower ratio saves at most a fifth of the bytes, for which the prefix sums of decoding are too dear.
+const MIN_RATIO_NUM: u64 = 5;
+
+const MIN_RATIO_DEN: u64 = 4;
+
+/// Delta, `vortex.int.delta`: the differences from row to row, in blocks of 1,024 rows. Skips a column shorter than a
+/// block, and any at budget 0; the estimate of any other is deferred, since it takes a pass over the differences. Its ratio
+/// is `0.95 * rows * bits(type) / (rows in whole blocks * (digits(greatest - least difference) + 1))`: 5 % off for the
+/// prefix sums that decoding takes. Skips where all differences are equal, and where the ratio is at most `min_ratio`, 5/4
+/// by default. Child 0: the base of each block, its first value; child 1: the differences, 0 at a block's first row and in
+/// the padding of the last block. A null has the value before it. Both are of the column's type, without nulls.
 #[derive(Clone, Copy, Debug, PartialEq, Eq)]
 pub struct DeltaScheme {
     min_ratio: Fraction,
@@ -43,7 +57,7 @@ impl DeltaScheme {
         DeltaScheme { min_ratio }
     }
 
-    /// The ratio that isn't worth it.
+    /// The greatest ratio that is skipped.
     pub fn min_ratio(&self) -> Fraction
         ensures { result ≡ least_ratio self.now }
     {
@@ -58,20 +72,15 @@ impl Default for DeltaScheme {
     ghost is_default = { λ scheme. scheme ≡ default_delta };
 
     fn default() -> Self {
-        DeltaScheme::new(Fraction::new(5, 4))
+        DeltaScheme::new(Fraction::new(MIN_RATIO_NUM, MIN_RATIO_DEN))
     }
 }
 
-// No second one below.
+// No delta below a delta: differences of differences would take two prefix sums to decode.
 fn not_twice(alloc: Global) -> VortexResult<DescendantRules>
     ensures { OrMemory result (λ rules. descendants_of rules ≡ not_twice) }
 {
-    let rules = vec![in alloc;
-        DescendantExclusion {
-            excluded: SchemeId::of("vortex.int.delta"),
-            children: ChildSelection::All,
-        },
-    ]?;
+    let rules = vec![in alloc; excluded("vortex.int.delta", ChildSelection::All)]?;
     Ok(DescendantRules::from_vec(rules))
 }
 
@@ -126,19 +135,28 @@ impl Scheme for DeltaScheme {
         site: &CompressorContext,
         _ctx: &mut ExecutionCtx,
     ) -> VortexResult<CompressionEstimate> {
-        if site.finished_cascading() || column.array_len() < 1024 {
+        if site.finished_cascading() || column.array_len() < BLOCK_ROWS as u64 {
             return Ok(CompressionEstimate::Verdict(EstimateVerdict::Skip));
         }
         Ok(CompressionEstimate::Deferred(DeferredEstimate::Callback))
     }
 
+    // `exact` goes beyond the trait: a ratio that is at most the threshold becomes Skip, so its rows needn't be read.
     fn resolve_estimate(
         &self,
         column: &mut ArrayAndStats,
         threshold: Option<Fraction>,
-        _site: &CompressorContext,
+        site: &CompressorContext,
         ctx: &mut ExecutionCtx,
-    ) -> VortexResult<EstimateVerdict> {
+    ) -> VortexResult<EstimateVerdict>
+        requires column { IsSiteTree column.old.array }
+        requires value { HasValue (column_of column.old.array) }
+        requires options { includes column.old.options (delta_meaning self.now).options ≡ true }
+        ensures answer { (delta_meaning self.now).takes (tree_type column.old.array) ≡ true → HasPutOff (delta_meaning self.now) (column_of column.old.array) (site_of site.now) → OrMemory result (IsResolved threshold ((delta_meaning self.now).resolve (column_of column.old.array) (site_of site.now))) }
+        ensures exact { (delta_meaning self.now).takes (tree_type column.old.array) ≡ true → Answers result (above threshold ((delta_meaning self.now).resolve (column_of column.old.array) (site_of site.now))) }
+        ensures column { SameArray column.old column.new }
+        ensures ctx { ctx.new ≡ ctx.old }
+    {
         let array = column.array();
         if !self.matches(array.dtype()) {
             return Ok(EstimateVerdict::Skip);

@@ -1,4 +1,4 @@
-//! The scheme of run ends.
+//! The run-end scheme.
 
 ghost use Rattle.std.specs.Prelude.{◌≡◌, ◌≤◌, [], ◌∷◌, IsTrue, length};
 ghost use Rattle.vx_base.specs.Answers.{Answers, OrMemory};
@@ -8,9 +8,7 @@ ghost use Rattle.vx_model.specs.Plain.{IsPlain, plain};
 ghost use Rattle.vx_model.specs.Rows.{rows};
 ghost use Rattle.vx_model.specs.TreeType.{tree_type};
 ghost use Rattle.vx_scheme.specs.Asked.{most_rows};
-ghost use Rattle.vx_scheme.specs.Names.{name_of};
 ghost use Rattle.vx_scheme.specs.Rules.{descendants_of};
-ghost use Rattle.vx_scheme.specs.declared.selection.ChildSelection.TheVariants.{One};
 ghost use Rattle.vx_scheme.specs.declared.split.Split.TheVariants.{Parts};
 ghost use Rattle.vx_schemes_runs.specs.RunEnd.Meaning.{not_below_ends};
 ghost use Rattle.vx_schemes_runs.specs.RunEnd.Tree.{run_values, narrowed_ends};
@@ -25,39 +23,28 @@ use vx_array::{ArrayRef, Arrays};
 use vx_base::{ArrayId, DType, ExecutionCtx, Fraction, IdSet, Steps, VortexResult};
 use vx_scheme::{
     AllowedIds, AncestorRules, ArrayAndStats, ChildSelection, CompressionEstimate,
-    CompressorContext, DeferredEstimate, DescendantExclusion, DescendantRules, EstimateVerdict,
-    GenerateStatsOptions, Scheme, SchemeId, Split,
+    CompressorContext, DeferredEstimate, DescendantRules, EstimateVerdict, GenerateStatsOptions,
+    Scheme, Split,
 };
-use vx_schemes::{not_in_values, pair_of, two_parts};
+use vx_schemes_common::{excluded, not_in_values, pair_of, two_parts};
 
-/// Integers as runs of equal rows, each with its value and its end, `vortex.int.runend`. It skips a column with fewer
-/// than four values a run, and is tried on a sample of any other. Child 0: the value of each run, null where its rows
-/// are; child 1: the row behind each run's last, in the narrowest unsigned type.
+/// Run end, `vortex.int.runend`: runs of equal rows, each with its value and its end. Skips a column whose average run
+/// length is below 4; any other is tried on a sample. Child 0: the value of each run, null where its rows are; child 1: the
+/// end of each run, exclusive, in the narrowest unsigned type.
 #[derive(Clone, Copy, Debug, Default, PartialEq, Eq)]
 pub struct RunEndScheme;
 
-// No dictionary, runs or sparse values below the ends.
+// No dictionary, runs or sparse values below the ends: they ascend strictly, so no two are equal.
 fn not_below_ends(alloc: Global) -> VortexResult<DescendantRules>
     ensures { OrMemory result (λ rules. descendants_of rules ≡ not_below_ends) }
 {
     let rules = vec![in alloc;
-        excluded("vortex.int.dict"),
-        excluded("vortex.int.runend"),
-        excluded("vortex.int.rle"),
-        excluded("vortex.int.sparse"),
+        excluded("vortex.int.dict", ChildSelection::One(1)),
+        excluded("vortex.int.runend", ChildSelection::One(1)),
+        excluded("vortex.int.rle", ChildSelection::One(1)),
+        excluded("vortex.int.sparse", ChildSelection::One(1)),
     ]?;
     Ok(DescendantRules::from_vec(rules))
-}
-
-// Not below child 1.
-fn excluded(scheme: &'static str) -> DescendantExclusion
-    ensures scheme { name_of result.excluded ≡ scheme.now }
-    ensures children { result.children ≡ One 1 }
-{
-    DescendantExclusion {
-        excluded: SchemeId::of(scheme),
-        children: ChildSelection::One(1),
-    }
 }
 
 // The values as part 0 and the ends as part 1.
@@ -132,7 +119,7 @@ impl Scheme for RunEndScheme {
         }
     }
 
-    // The estimate is never put off to this call.
+    // Not reached: no estimate of this scheme is `Callback`.
     fn resolve_estimate(
         &self,
         _column: &mut ArrayAndStats,

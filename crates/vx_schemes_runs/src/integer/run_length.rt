@@ -1,4 +1,4 @@
-//! The scheme of runs in blocks.
+//! The run-length scheme: runs in blocks.
 
 ghost use Rattle.std.specs.Prelude.{◌≡◌, [], ◌∷◌, IsTrue};
 ghost use Rattle.vx_base.specs.Answers.{Answers, OrMemory};
@@ -6,9 +6,7 @@ ghost use Rattle.vx_base.specs.PlainType.{is_integer};
 ghost use Rattle.vx_model.specs.Column.{column_of};
 ghost use Rattle.vx_model.specs.Plain.{IsPlain, plain};
 ghost use Rattle.vx_model.specs.TreeType.{tree_type};
-ghost use Rattle.vx_scheme.specs.Names.{name_of};
 ghost use Rattle.vx_scheme.specs.Rules.{descendants_of};
-ghost use Rattle.vx_scheme.specs.declared.selection.ChildSelection.TheVariants.{Many};
 ghost use Rattle.vx_scheme.specs.declared.split.Split.TheVariants.{Parts};
 ghost use Rattle.vx_schemes_runs.specs.RunLength.Meaning.{not_below_numbers};
 ghost use Rattle.vx_schemes_runs.specs.RunLength.Tree.{head_values, narrowed_run_numbers, narrowed_offsets};
@@ -19,40 +17,33 @@ use crate::integer::runs::has_short_runs;
 use crate::triples::{three_parts, triple_of};
 use std::alloc::Global;
 use std::sync::ledger::Ledger;
-use tree::{blocks_tree, values_numbers_offsets};
+use tree::{rle_tree, values_numbers_offsets};
 use vx_array::{ArrayRef, Arrays};
 use vx_base::{ArrayId, DType, ExecutionCtx, Fraction, IdSet, Steps, VortexResult};
 use vx_scheme::{
     AllowedIds, AncestorRules, ArrayAndStats, ChildSelection, CompressionEstimate,
-    CompressorContext, DeferredEstimate, DescendantExclusion, DescendantRules, EstimateVerdict,
-    GenerateStatsOptions, Scheme, SchemeId, Split,
+    CompressorContext, DeferredEstimate, DescendantRules, EstimateVerdict, GenerateStatsOptions,
+    Scheme, Split,
 };
-use vx_schemes::not_in_values;
+use vx_schemes_common::{excluded, not_in_values};
 
-/// Integers as runs of equal rows that end with each block of 1,024 rows, `vortex.int.rle`. It skips a column with fewer
-/// than four values a run, and one below which no scheme may follow; it is tried on a sample of any other. Child 0: the
-/// value of each run, null where its rows are; child 1: for each row of whole blocks the number of its run in its block,
-/// 0 behind the last row; child 2: for each block how many runs lie before it. Both in the narrowest unsigned type.
+/// Run length, `vortex.int.rle`: runs of equal rows that end with each block of 1,024 rows. Skips a column whose average
+/// run length is below 4, and any at budget 0, since its gain comes mostly from the schemes of its children; any other is
+/// a sample. Child 0: the value of each run, null where its rows are; child 1: for each row the number of its run within
+/// its block, padded with 0 to whole blocks; child 2: for each block the number of runs before it. Children 1 and 2 are of
+/// the narrowest unsigned type.
 #[derive(Clone, Copy, Debug, Default, PartialEq, Eq)]
 pub struct IntRLEScheme;
 
-// No dictionary and no sparse values below the numbers and the offsets.
+// No dictionary and no sparse values below the numbers and the offsets: both are small numbers that bit packing takes.
 fn not_below_numbers(alloc: Global) -> VortexResult<DescendantRules>
     ensures { OrMemory result (λ rules. descendants_of rules ≡ not_below_numbers) }
 {
-    let rules = vec![in alloc; excluded("vortex.int.dict"), excluded("vortex.int.sparse")]?;
+    let rules = vec![in alloc;
+        excluded("vortex.int.dict", ChildSelection::Many(1, 2)),
+        excluded("vortex.int.sparse", ChildSelection::Many(1, 2)),
+    ]?;
     Ok(DescendantRules::from_vec(rules))
-}
-
-// Not below children 1 and 2.
-fn excluded(scheme: &'static str) -> DescendantExclusion
-    ensures scheme { name_of result.excluded ≡ scheme.now }
-    ensures children { result.children ≡ Many 1 2 }
-{
-    DescendantExclusion {
-        excluded: SchemeId::of(scheme),
-        children: ChildSelection::Many(1, 2),
-    }
 }
 
 // The values as part 0, the numbers as part 1 and the offsets as part 2.
@@ -126,7 +117,7 @@ impl Scheme for IntRLEScheme {
         }
     }
 
-    // The estimate is never put off to this call.
+    // Not reached: no estimate of this scheme is `Callback`.
     fn resolve_estimate(
         &self,
         _column: &mut ArrayAndStats,
@@ -165,7 +156,7 @@ impl Scheme for IntRLEScheme {
         }
         match triple_of(trees) {
             Some((values, numbers, offsets)) => {
-                blocks_tree(ctx.alloc(), values, numbers, offsets, array.len())
+                rle_tree(ctx.alloc(), values, numbers, offsets, array.len())
             }
             None => array.copy(ctx.alloc()),
         }

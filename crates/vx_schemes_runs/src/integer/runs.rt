@@ -1,4 +1,4 @@
-//! What the two schemes of runs share: how long runs are, and rows by their numbers.
+//! What the two schemes of runs share: the average run length, and rows by their numbers.
 
 ghost use Rattle.std.specs.List.{list_all};
 ghost use Rattle.std.specs.Prelude.{◌≡◌, ◌≤◌, IsTrue, false, length, map, nat_lt, slice_index_or};
@@ -17,19 +17,22 @@ use std::alloc::Global;
 use vx_array::ArrayRef;
 use vx_base::{Mask, VortexResult};
 use vx_scheme::ArrayAndStats;
-use vx_schemes::mask_of;
+use vx_schemes_common::mask_of;
 
-/// Whether a column has fewer than four values a run.
+// The least average run length that is tried. Shorter runs cost about as much in values and ends as in plain rows.
+const LEAST_RUN_LENGTH: u32 = 4;
+
+/// Whether the average run length of a column is below 4.
 pub(crate) fn has_short_runs(column: &mut ArrayAndStats) -> VortexResult<bool>
     requires integer { IsTrue (is_integer (tree_type column.old.array)) }
     requires few { length (rows column.old.array) ≤ most_rows }
     ensures answer { Answers result (nat_lt (average_run_length (rows column.old.array)) 4) }
     ensures column { SameArray column.old column.new }
 {
-    Ok(column.integer_summary()?.average_run_length() < 4)
+    Ok(column.integer_summary()?.average_run_length() < LEAST_RUN_LENGTH)
 }
 
-/// A bit for each row of a plain column of integers, true where it isn't null.
+/// The validity of a plain column of integers, a bit for each row.
 #[tactic(auto, using(vx_model::proofs::PrimitiveLemmas::plain_roots))]
 pub(crate) fn bits_of(alloc: Global, array: &ArrayRef) -> VortexResult<Mask>
     requires plain { IsPlain array.now }
@@ -40,7 +43,7 @@ pub(crate) fn bits_of(alloc: Global, array: &ArrayRef) -> VortexResult<Mask>
     mask_of(alloc, valid, values.len())
 }
 
-/// Some rows of a plain column of integers, by their numbers, as a plain tree. `valid` has a bit for each row.
+/// The rows `numbers` of a plain column of integers, as a plain tree. `valid` has a bit for each row of the column.
 #[tactic(auto, using(vx_model::proofs::PrimitiveLemmas::plain_roots))]
 pub(crate) fn rows_at(
     alloc: Global,
@@ -63,7 +66,7 @@ pub(crate) fn rows_at(
     }
 }
 
-// The bits of some rows.
+// The bits of the rows `numbers`.
 fn bits_at(alloc: Global, bits: &Mask, numbers: &[u64]) -> VortexResult<Mask>
     requires { IsTrue (list_all (λ k. nat_lt k (length bits.now)) numbers.now) }
     ensures { OrMemory result (λ some. some ≡ map (λ k. slice_index_or bits.now k false) numbers.now) }

@@ -1,14 +1,20 @@
-//! The scheme of sequences.
+//! The sequence scheme.
 
-ghost use Rattle.std.specs.Prelude.{◌≡◌, IsTrue, length};
+ghost use Rattle.std.specs.Prelude.{◌≡◌, IsTrue, length, true};
+ghost use Rattle.vx_base.specs.Answers.{OrMemory};
 ghost use Rattle.vx_base.specs.PlainType.{is_integer};
 ghost use Rattle.vx_model.specs.Column.{column_of};
 ghost use Rattle.vx_model.specs.Plain.{IsPlain};
 ghost use Rattle.vx_model.specs.Rows.{rows};
 ghost use Rattle.vx_model.specs.TreeType.{tree_type};
+ghost use Rattle.vx_scheme.specs.Asked.{HasPutOff, HasValue, IsSiteTree};
+ghost use Rattle.vx_scheme.specs.Bundle.{SameArray};
+ghost use Rattle.vx_scheme.specs.Contexts.{site_of};
 ghost use Rattle.vx_scheme.specs.Resolved.{IsResolved};
-ghost use Rattle.vx_schemes_runs.specs.Sequence.Meaning.{sequence_verdict};
+ghost use Rattle.vx_schemes_runs.specs.Sequence.Meaning.{sequence_meaning, sequence_verdict};
 ghost use Rattle.vx_schemes_runs.specs.Sequence.Tree.{sequence_in};
+ghost use Rattle.vx_schemes_runs.specs.Thresholds.{above};
+ghost use Rattle.vx_stats.specs.Options.{includes};
 
 mod tree;
 
@@ -22,19 +28,20 @@ use vx_scheme::{
     AllowedIds, AncestorRules, ArrayAndStats, CompressionEstimate, CompressorContext,
     DeferredEstimate, DescendantRules, EstimateVerdict, GenerateStatsOptions, Scheme, Split,
 };
-use vx_schemes::{finished_or_kept, not_in_codes};
+use vx_schemes_common::{finished_or_kept, not_in_codes};
 
-/// Integers as a first one and a step, `vortex.int.sequence`. It skips samples and a column with a null, and looks at the
-/// rows of any other when it is asked again: it expects half the rows of a sequence, and skips the rest. It has no
-/// children: its tree is finished at once.
+/// Sequence, `vortex.int.sequence`: an arithmetic sequence as its first value and its step. Skips samples, which tell
+/// nothing of the other rows, and a column with a null; the estimate of any other is deferred. Its ratio is rows / 2 for an
+/// arithmetic sequence; anything else is skipped. No children: the tree is finished at once.
 #[derive(Clone, Copy, Debug, Default, PartialEq, Eq)]
 pub struct SequenceScheme;
 
-// Half the rows of a sequence. The rows aren't looked at where that isn't above the threshold.
+// Ratio rows / 2 for an arithmetic sequence; Skip for anything else, and where the ratio is at most the threshold, in which
+// case the rows aren't read.
 fn verdict(array: &ArrayRef, threshold: Option<Fraction>) -> EstimateVerdict
     requires plain { IsPlain array.now }
     requires integer { IsTrue (is_integer (tree_type array.now)) }
-    ensures { IsResolved threshold (sequence_verdict (length (rows array.now)) (sequence_in (column_of array.now))) result }
+    ensures { result ≡ above threshold (sequence_verdict (length (rows array.now)) (sequence_in (column_of array.now))) }
 {
     let ratio = Fraction::new(array.len(), 2);
     if is_beaten(ratio, threshold) {
@@ -107,13 +114,22 @@ impl Scheme for SequenceScheme {
         }
     }
 
+    // `exact` goes beyond the trait: a ratio that is at most the threshold becomes Skip, so its rows needn't be read.
     fn resolve_estimate(
         &self,
         column: &mut ArrayAndStats,
         threshold: Option<Fraction>,
-        _site: &CompressorContext,
-        _ctx: &mut ExecutionCtx,
-    ) -> VortexResult<EstimateVerdict> {
+        site: &CompressorContext,
+        ctx: &mut ExecutionCtx,
+    ) -> VortexResult<EstimateVerdict>
+        requires column { IsSiteTree column.old.array }
+        requires value { HasValue (column_of column.old.array) }
+        requires options { includes column.old.options (sequence_meaning self.now).options ≡ true }
+        ensures answer { (sequence_meaning self.now).takes (tree_type column.old.array) ≡ true → HasPutOff (sequence_meaning self.now) (column_of column.old.array) (site_of site.now) → OrMemory result (IsResolved threshold ((sequence_meaning self.now).resolve (column_of column.old.array) (site_of site.now))) }
+        ensures exact { (sequence_meaning self.now).takes (tree_type column.old.array) ≡ true → result ≡ Ok (above threshold ((sequence_meaning self.now).resolve (column_of column.old.array) (site_of site.now))) }
+        ensures column { SameArray column.old column.new }
+        ensures ctx { ctx.new ≡ ctx.old }
+    {
         let array = column.array();
         if !self.matches(array.dtype()) {
             return Ok(EstimateVerdict::Skip);
@@ -136,7 +152,7 @@ impl Scheme for SequenceScheme {
         Ok(finished_or_kept(sequence_made(array)?))
     }
 
-    // It has no parts, so the column stays plain.
+    // No parts, so the column stays plain.
     fn join(
         &self,
         column: &mut ArrayAndStats,

@@ -1,10 +1,8 @@
-//! The scheme of sparse values.
+//! The sparse scheme.
 
 ghost use Rattle.std.specs.Prelude.{◌≡◌};
 ghost use Rattle.vx_base.specs.Answers.{OrMemory};
-ghost use Rattle.vx_scheme.specs.Names.{name_of};
 ghost use Rattle.vx_scheme.specs.Rules.{descendants_of};
-ghost use Rattle.vx_scheme.specs.declared.selection.ChildSelection.TheVariants.{One};
 ghost use Rattle.vx_schemes_runs.specs.Sparse.Meaning.{not_below_rows};
 
 mod counts;
@@ -22,40 +20,29 @@ use vx_array::{ArrayRef, Arrays};
 use vx_base::{ArrayId, DType, ExecutionCtx, Fraction, IdSet, Steps, VortexResult};
 use vx_scheme::{
     AllowedIds, AncestorRules, ArrayAndStats, ChildSelection, CompressionEstimate,
-    CompressorContext, DescendantExclusion, DescendantRules, EstimateVerdict, GenerateStatsOptions,
-    Scheme, SchemeId, Split,
+    CompressorContext, DescendantRules, EstimateVerdict, GenerateStatsOptions, Scheme, Split,
 };
+use vx_schemes_common::excluded;
 
-/// Integers as one value that stands in most rows, with the others as patches, `vortex.int.sparse`. Where more than nine
-/// of ten rows are null that value is null, and the expected ratio is the rows to the values; else it is the most
-/// frequent value, which has to stand in nine of ten valid rows and not in all, and the ratio is the values to the
-/// others. Child 0: the patched values; child 1: their rows, in the narrowest unsigned type. A column of one value, or of
-/// nulls alone, becomes a constant.
+/// Sparse, `vortex.int.sparse`: one fill in most rows, the other rows as patches. Where more than 9 of 10 of n rows are
+/// null, the fill is null and the ratio n / v, with v the number of valid rows. Else the fill is the most frequent value;
+/// where it stands in f of the valid rows the ratio is v / (v - f), Skip at 10 * f < 9 * v and at f = v. Child 0: the
+/// patched values; child 1: their rows, in the narrowest unsigned type. A column of one value, or of nulls alone, becomes a
+/// Constant.
 #[derive(Clone, Copy, Debug, Default, PartialEq, Eq)]
 pub struct SparseScheme;
 
-// No dictionary, runs or sparse values below the rows of the patches.
+// No dictionary, runs or sparse values below the rows of the patches: they ascend strictly, so no two are equal.
 fn not_below_rows(alloc: Global) -> VortexResult<DescendantRules>
     ensures { OrMemory result (λ rules. descendants_of rules ≡ not_below_rows) }
 {
     let rules = vec![in alloc;
-        excluded("vortex.int.dict"),
-        excluded("vortex.int.runend"),
-        excluded("vortex.int.rle"),
-        excluded("vortex.int.sparse"),
+        excluded("vortex.int.dict", ChildSelection::One(1)),
+        excluded("vortex.int.runend", ChildSelection::One(1)),
+        excluded("vortex.int.rle", ChildSelection::One(1)),
+        excluded("vortex.int.sparse", ChildSelection::One(1)),
     ]?;
     Ok(DescendantRules::from_vec(rules))
-}
-
-// Not below child 1.
-fn excluded(scheme: &'static str) -> DescendantExclusion
-    ensures scheme { name_of result.excluded ≡ scheme.now }
-    ensures children { result.children ≡ One 1 }
-{
-    DescendantExclusion {
-        excluded: SchemeId::of(scheme),
-        children: ChildSelection::One(1),
-    }
 }
 
 impl Scheme for SparseScheme {
@@ -117,7 +104,7 @@ impl Scheme for SparseScheme {
         Ok(CompressionEstimate::Verdict(judged(column)?))
     }
 
-    // No estimate is put off.
+    // Not reached: no estimate of this scheme is `Callback`.
     fn resolve_estimate(
         &self,
         _column: &mut ArrayAndStats,

@@ -1,4 +1,4 @@
-//! The parts of statistics, over a list of integers of any type.
+//! The parts of statistics over integers of any type: each call chooses its generic function by the type.
 
 ghost use Rattle.std.specs.Prelude.{◌≡◌, ◌<◌, ◌≤◌, ◌^◌, ◌≤ℤ◌, length, map, true};
 ghost use Rattle.vx_values.specs.IntsOf.{ptype_of, wholes_of};
@@ -14,7 +14,7 @@ ghost use Rattle.vx_stats.specs.Stats as stats;
 use crate::integer::counts::{RowCounts, summary, with_distinct};
 use crate::integer::erased::ErasedStats;
 use crate::integer::rising::rises;
-use crate::integer::slots::distinct_at_least;
+use crate::integer::slots::distinct_lower_bound;
 use crate::options::GenerateStatsOptions;
 use std::alloc::Global;
 use vx_base::{Mask, VortexResult};
@@ -31,7 +31,7 @@ macro_rules! summary_by_type {
     };
 }
 
-/// The counts and the extremes of the valid rows.
+/// The row counts, and the extremes of the valid rows.
 pub(crate) fn summary_of(values: &Ints, valid: &Option<Mask>) -> (RowCounts, ErasedStats)
     requires mask { validity_length valid.now (length (wholes_of values.now)) ≡ true }
     requires few { length (wholes_of values.now) < 2 ^ 32 }
@@ -58,8 +58,8 @@ macro_rules! completed_by_type {
     };
 }
 
-/// The extremes of the valid rows, which are there already, and the distinct values where they are asked for. There are
-/// `run_length` values a run of equal ones.
+/// The extremes of the valid rows, which are given, with the distinct values where they are requested. `run_length` is
+/// the average length of a run of equal values.
 pub(crate) fn completed(
     alloc: Global,
     erased: &ErasedStats,
@@ -78,16 +78,16 @@ pub(crate) fn completed(
     completed_by_type!(alloc, erased, values, valid, opts, run_length; U8, U16, U32, U64, I8, I16, I32, I64)
 }
 
-macro_rules! least_by_type {
+macro_rules! lower_bound_by_type {
     ($alloc:expr, $values:expr, $valid:expr, $enough:expr; $($kind:ident),*) => {
         match $values {
-            $(Ints::$kind(items) => distinct_at_least($alloc, items.as_slice(), $valid, $enough),)*
+            $(Ints::$kind(items) => distinct_lower_bound($alloc, items.as_slice(), $valid, $enough),)*
         }
     };
 }
 
-/// As many as the distinct values of the valid rows, or fewer. It looks no further once there are more than `enough`.
-pub(crate) fn least_distinct(
+/// A lower bound on the distinct count of the valid rows; stops above `enough`.
+pub(crate) fn distinct_lower_bound_of(
     alloc: Global,
     values: &Ints,
     valid: &Option<Mask>,
@@ -97,7 +97,7 @@ pub(crate) fn least_distinct(
     requires few { length (wholes_of values.now) < 2 ^ 32 }
     ensures { OrMemory result (λ count. count ≤ distinct_count (valid_rows valid.now (map int (wholes_of values.now)))) }
 {
-    least_by_type!(alloc, values, valid, enough; U8, U16, U32, U64, I8, I16, I32, I64)
+    lower_bound_by_type!(alloc, values, valid, enough; U8, U16, U32, U64, I8, I16, I32, I64)
 }
 
 macro_rules! rises_by_type {
@@ -108,7 +108,7 @@ macro_rules! rises_by_type {
     };
 }
 
-/// Whether no row is null and each value is above the one before. Then all of them are distinct; false tells nothing.
+/// Whether no row is null and the values ascend strictly, so that all of them are distinct. False says nothing.
 pub(crate) fn is_rising(values: &Ints, valid: &Option<Mask>) -> bool
     ensures { result ≡ true → distinct_count (valid_rows valid.now (map int (wholes_of values.now))) ≡ value_count (valid_rows valid.now (map int (wholes_of values.now))) }
 {

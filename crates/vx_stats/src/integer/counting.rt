@@ -1,6 +1,6 @@
-//! Counting of distinct integers: where they lie far apart, counts of those met are sorted, and equal ones merged;
-//! where hardly one is met again, they are sorted themselves. Where equal ones mostly follow on one another, the counts
-//! are the lengths of their runs.
+//! Counting of distinct integers, in the way that suits the column: by the lengths of runs where runs are long, in a
+//! table where the range is narrow, else in hash slots, whose counts are sorted and merged. Where too few values repeat
+//! for slots to help, the integers themselves are sorted.
 
 ghost use Rattle.std.specs.Prelude.{◌≡◌, ◌<◌, ◌^◌, ℤ, length, map, true};
 ghost use Rattle.std.specs.List.{All};
@@ -23,10 +23,11 @@ use crate::options::GenerateStatsOptions;
 use std::alloc::Global;
 use vx_base::{Integer, Mask, VortexResult};
 
-// From so many values a run on, runs are counted in place of values. They are sorted, so they have to be few.
+// From this average run length on, runs are counted in place of values. Runs are sorted, so they have to be few: at most
+// a thirty-second of the values.
 const LONG_RUNS: u32 = 32;
 
-// The same counts, the integers not falling.
+// The counts, sorted by their integers.
 fn sorted<T: Integer>(mut counts: Vec<(T, u32)>) -> Vec<(T, u32)>
     ensures same { IsPermutation counts.items result.items }
     ensures rising { IsRising (map (λ c. c.0) (whole_counts T.whole result.items)) }
@@ -35,7 +36,7 @@ fn sorted<T: Integer>(mut counts: Vec<(T, u32)>) -> Vec<(T, u32)>
     counts
 }
 
-// The counts of equal integers one after another in one.
+// Sums up the counts of adjacent equal integers.
 fn merged<T: Integer>(alloc: Global, counts: &[(T, u32)]) -> VortexResult<Counts<T>>
     requires { (z : ℤ) → total T.whole counts.now z < 2 ^ 32 }
     ensures { OrMemory result (λ made. whole_counts T.whole made ≡ merged (whole_counts T.whole counts.now)) }
@@ -58,8 +59,9 @@ fn merged<T: Integer>(alloc: Global, counts: &[(T, u32)]) -> VortexResult<Counts
     Ok(Counts::from_vec(merged))
 }
 
-// The distinct integers of the valid rows, ascending, with their counts.
-fn counted<T: Integer>(
+// The distinct integers of the valid rows, ascending, with their counts: in hash slots, or sorted where too many integers
+// share a slot.
+fn counted_by_slots<T: Integer>(
     alloc: Global,
     items: &[T],
     valid: &Option<Mask>,
@@ -75,7 +77,7 @@ fn counted<T: Integer>(
     Ok(DistinctInfo::new(merged(alloc, counts.as_slice())?))
 }
 
-// The same, by runs of equal integers: these are sorted by their integers, and merged.
+// The distinct integers of the valid rows, ascending, with their counts: runs of equal ones, sorted and merged.
 fn counted_by_runs<T: Integer>(
     alloc: Global,
     items: &[T],
@@ -90,9 +92,9 @@ fn counted_by_runs<T: Integer>(
     Ok(DistinctInfo::new(merged(alloc, counts.as_slice())?))
 }
 
-/// The distinct integers of the valid rows, where they are asked for and there is a row. Where runs of equal ones, of
-/// `run_length` values each, are long, they are counted by these. `range` goes from the least valid integer to the
-/// greatest: where it has no more numbers than there are rows, a table counts them.
+/// The distinct integers of the valid rows with their counts, where they are requested and there is a row. `run_length`
+/// is the average length of a run of equal integers, and `range` goes from the least valid integer to the greatest: where
+/// it has no more numbers than there are rows, a table counts them.
 pub(crate) fn distinct_info<T: Integer>(
     alloc: Global,
     items: &[T],
@@ -117,6 +119,6 @@ pub(crate) fn distinct_info<T: Integer>(
         let info = dense_info(alloc, items, valid, range, len)?;
         return Ok(Some(info));
     }
-    let info = counted(alloc, items, valid)?;
+    let info = counted_by_slots(alloc, items, valid)?;
     Ok(Some(info))
 }

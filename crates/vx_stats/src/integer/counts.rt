@@ -1,4 +1,4 @@
-//! The statistics of a list of integers.
+//! The statistics of a slice of integers with its validity.
 
 ghost use Rattle.std.specs.Prelude.{◌≡◌, ◌<◌, ◌/◌, ◌^◌, ◌≤ℤ◌, suc, ℤ, List, length, map, true};
 ghost use Rattle.vx_base.specs.Answers.{Answers};
@@ -16,7 +16,7 @@ use crate::options::GenerateStatsOptions;
 use std::alloc::Global;
 use vx_base::{Integer, Mask, VortexResult};
 
-/// What statistics count of the rows.
+/// The row counts of statistics.
 #[derive(Clone, Copy, Debug)]
 pub(crate) struct RowCounts {
     pub(crate) null_count: u32,
@@ -24,7 +24,7 @@ pub(crate) struct RowCounts {
     pub(crate) average_run_length: u32,
 }
 
-// How many of so many rows are null, and how many aren't.
+// The numbers of null and of valid rows, of `len` rows.
 fn count_rows(len: u32, valid: &Option<Mask>) -> (u32, u32)
     requires { validity_length valid.now len ≡ true }
     ensures { (zs : List ℤ) → length zs ≡ len → (result.0 ≡ null_count (valid_rows valid.now (map int zs))) × (result.1 ≡ value_count (valid_rows valid.now (map int zs))) }
@@ -38,13 +38,14 @@ fn count_rows(len: u32, valid: &Option<Mask>) -> (u32, u32)
     }
 }
 
+// Values per run, rounded down: there is one run more than changes.
 fn average(values: u32, changes: u32) -> u32
     ensures { result ≡ values / suc changes }
 {
     (u64::from(values) / (u64::from(changes) + 1)) as u32
 }
 
-// The average run length and the extremes of so many values.
+// The average run length and the extremes of `count` values.
 fn shown<T: Integer>(count: u32, tally: Option<Tally<T>>) -> (u32, TypedStats<T>)
     ensures { (values : List PlainValue) → IsTallyOf T.whole T.kind (valid_wholes values) tally → count ≡ value_count values → (result.0 ≡ average_run_length values) × (result.1 ≡ extremes_alone (extremes_in T.kind values)) }
 {
@@ -57,7 +58,7 @@ fn shown<T: Integer>(count: u32, tally: Option<Tally<T>>) -> (u32, TypedStats<T>
     }
 }
 
-/// The counts and the extremes of the valid rows.
+/// The row counts, and the extremes of the valid rows.
 pub(crate) fn summary<T: Integer>(items: &[T], valid: &Option<Mask>) -> (RowCounts, TypedStats<T>)
     requires mask { validity_length valid.now (length items.now) ≡ true }
     requires few { length items.now < 2 ^ 32 }
@@ -75,8 +76,8 @@ pub(crate) fn summary<T: Integer>(items: &[T], valid: &Option<Mask>) -> (RowCoun
     (counts, extremes)
 }
 
-/// The extremes of the valid rows, and the distinct values where they are asked for. There are `run_length` values a run
-/// of equal ones.
+/// The extremes of the valid rows, which are given, with the distinct values where they are requested. `run_length` is
+/// the average length of a run of equal values.
 pub(crate) fn with_distinct<T: Integer>(
     alloc: Global,
     items: &[T],

@@ -1,4 +1,4 @@
-//! Counting of distinct integers that lie close together: a table has a count for each number of their range.
+//! Counting of distinct integers in a narrow range: a table has a count for each number of the range.
 
 ghost use Rattle.std.specs.Prelude.{◌≡◌, ◌<◌, ◌≤◌, ◌^◌, ◌+ℤ◌, pos, length, map, true, vec_len};
 ghost use Rattle.std.specs.List.{All};
@@ -16,7 +16,7 @@ use crate::integer::tally::item_or;
 use std::alloc::Global;
 use vx_base::{Integer, Mask, VortexResult};
 
-// How often each number of a range of so many occurs.
+// The count of each of the `len` numbers of a range.
 fn table_of_all<T: Integer>(
     alloc: Global,
     items: &[T],
@@ -36,8 +36,8 @@ fn table_of_all<T: Integer>(
     Ok(table)
 }
 
-// The same of the integers whose bit is true. Where a bit is false, nothing is added to the count of the least number,
-// which takes no branch.
+// The count of each of the `len` numbers of a range, of the integers whose bit is true. Where a bit is false, 0 is added
+// to the count of the least number: that takes no branch, which scattered nulls would make unpredictable.
 fn table_of_valid<T: Integer>(
     alloc: Global,
     items: &[T],
@@ -61,7 +61,7 @@ fn table_of_valid<T: Integer>(
     Ok(table)
 }
 
-// The same of the valid rows.
+// The count of each of the `len` numbers of a range, of the valid rows.
 fn table_of<T: Integer>(
     alloc: Global,
     items: &[T],
@@ -83,7 +83,7 @@ fn table_of<T: Integer>(
     }
 }
 
-// The numbers of a range that occur, with their counts in a table.
+// The numbers of a range whose count in the table is above 0, with that count.
 fn entries<T: Integer>(alloc: Global, table: &[u32], range: Range<T>) -> VortexResult<Counts<T>>
     requires { T.whole range.greatest +ℤ pos 1 ≡ T.whole range.least +ℤ pos (length table.now) }
     ensures entries { OrMemory result (λ counts. whole_counts T.whole counts ≡ entries (T.whole range.least) table.now) }
@@ -99,7 +99,8 @@ fn entries<T: Integer>(alloc: Global, table: &[u32], range: Range<T>) -> VortexR
     Ok(Counts::from_vec(counts))
 }
 
-/// The distinct integers of the valid rows, ascending, with their counts. They lie in a range of so many numbers.
+/// The distinct integers of the valid rows, ascending, with their counts. All of them lie in `range`, which has `len`
+/// numbers.
 pub(crate) fn dense_info<T: Integer>(
     alloc: Global,
     items: &[T],

@@ -1,4 +1,4 @@
-//! The distinct integers of a column.
+//! The distinct integers of a column, and the most frequent one.
 
 ghost use Rattle.std.specs.Prelude.{◌≡◌, ◌<◌, ◌^◌, length, ℤ, List, ◌==◌, if◌then◌else◌};
 ghost use Rattle.std.specs.List.Sorted.{IsStrictlySortedBy};
@@ -9,7 +9,7 @@ ghost use Rattle.vx_stats.specs.Runs.{whole_count, whole_counts, better};
 use std::marker::Model;
 use vx_base::{Integer, Items};
 
-/// Values, each with how often it occurs.
+/// Values with their counts.
 pub type Counts<T> = Items<(T, u32)>;
 
 /// The distinct integers of a column with their counts. Contracts see them as whole numbers.
@@ -31,7 +31,7 @@ impl<T: Integer> Model for DistinctInfo<T> {
     ghost invariant = { λ a. (length a.counts < 2 ^ 32) × (whole_count T.whole a.frequent ≡ most_frequent (whole_counts T.whole a.counts)) };
 }
 
-// The one with the greater count, the first of equal ones.
+// The one with the greater count; the first where they tie.
 #[inline(always)]
 fn better<T: Integer>(best: (T, u32), item: (T, u32)) -> (T, u32)
     ensures { whole_count T.whole result ≡ better (whole_count T.whole best) (whole_count T.whole item) }
@@ -39,7 +39,7 @@ fn better<T: Integer>(best: (T, u32), item: (T, u32)) -> (T, u32)
     if best.1 < item.1 { item } else { best }
 }
 
-// The first of those that have the greatest count.
+// The first entry with the greatest count; (0, 0) without an entry.
 fn first_of_most<T: Integer>(counts: &[(T, u32)]) -> (T, u32)
     ensures { whole_count T.whole result ≡ most_frequent (whole_counts T.whole counts.now) }
 {
@@ -75,7 +75,7 @@ impl<T: Integer> DistinctInfo<T> {
         self.counts.len() as u32
     }
 
-    /// The least of the most frequent values, with its count; 0, which occurs 0 times, without a value.
+    /// The most frequent value with its count, the least one where several tie; (0, 0) without a value.
     pub(crate) fn most_frequent(&self) -> (i128, u32)
         ensures { result ≡ most_frequent self.now }
     {
@@ -84,7 +84,8 @@ impl<T: Integer> DistinctInfo<T> {
     }
 }
 
-/// Does nothing; its contract holds the laws of distinct numbers. They ascend, and each that occurs stands once.
+/// Does nothing; its contract states the laws of distinct numbers: they ascend strictly, and each number that occurs
+/// stands once.
 pub fn laws_of_distinct()
     ensures ascending { (zs : List ℤ) → IsStrictlySortedBy int_cmp (distinct zs) }
     ensures once { (zs : List ℤ) (z : ℤ) → times (distinct zs) z ≡ (if times zs z == 0 then 0 else 1) }

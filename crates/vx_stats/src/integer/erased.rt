@@ -1,4 +1,4 @@
-//! The least, the greatest and the distinct integers of any type.
+//! The extremes and the distinct integers of a column of any integer type.
 
 ghost use Rattle.std.specs.Prelude.{◌≡◌, ◌≤ℤ◌, ◌-ℤ◌, pos, int_lt, length, option_map};
 ghost use Rattle.std.specs.Ordering.{int_eq};
@@ -8,7 +8,7 @@ ghost use Rattle.vx_stats.specs.Frequent.{frequent_value};
 use crate::integer::typed::TypedStats;
 use crate::integer::value::PValue;
 
-/// The least and the greatest of the valid integers of a type, and the distinct ones where they were asked for.
+/// The extremes and the distinct integers of a column, in the type of the column.
 #[derive(Debug)]
 pub enum ErasedStats {
     U8(TypedStats<u8>),
@@ -21,7 +21,7 @@ pub enum ErasedStats {
     I64(TypedStats<i64>),
 }
 
-// The same for each of the eight types.
+// One expression over the statistics of each of the eight types.
 macro_rules! with_typed {
     ($stats:expr, $typed:ident => $answer:expr) => {
         match $stats {
@@ -37,7 +37,7 @@ macro_rules! with_typed {
     };
 }
 
-// Likewise, in place of eight variants at each way out.
+// By hand for the same reason as of `TypedStats`: derived, eight variants would be written out at each drop.
 impl Drop for ErasedStats {
     fn drop(self) {
         with_typed!(self, typed => drop(typed))
@@ -47,14 +47,14 @@ impl Drop for ErasedStats {
 impl ErasedStats {
     ghost use Rattle.vx_stats.specs.Erased.{ptype_in, extremes_of, distinct_of, log2_of};
 
-    /// The least integer; without a valid one the type's greatest.
+    /// The least valid integer; the type's greatest where there is none.
     pub fn least(&self) -> i128
         ensures { result ≡ (extremes_of self.now).least }
     {
         with_typed!(self, typed => typed.least())
     }
 
-    /// The greatest integer; without a valid one the type's least.
+    /// The greatest valid integer; the type's least where there is none.
     pub fn greatest(&self) -> i128
         ensures { result ≡ (extremes_of self.now).greatest }
     {
@@ -73,7 +73,7 @@ impl ErasedStats {
         self.least() < 0
     }
 
-    /// The greatest less the least, where there is a valid integer.
+    /// `greatest - least`. Asks that this isn't negative, which is known where there is a valid integer.
     pub fn max_minus_min(&self) -> u64
         requires { (extremes_of self.now).least ≤ℤ (extremes_of self.now).greatest }
         ensures { pos result ≡ (extremes_of self.now).greatest -ℤ (extremes_of self.now).least }
@@ -81,7 +81,8 @@ impl ErasedStats {
         with_typed!(self, typed => typed.span())
     }
 
-    /// The place of the highest set bit of the greatest, read as unsigned bits. None where no bit is set.
+    /// The position of the highest set bit of the greatest integer, read as unsigned; None where it is 0.
+    #[tactic(auto, using(vx_base::proofs::DigitsLemmas::leading_digits))]
     pub fn max_ilog2(&self) -> Option<u32>
         ensures { result ≡ log2_of (bits_in (ptype_in self.now) (extremes_of self.now).greatest) }
     {
@@ -93,15 +94,15 @@ impl ErasedStats {
         }
     }
 
-    /// How many distinct values there are, where they were asked for and there is a row.
+    /// The number of distinct values; None where they were not requested or there is no row.
     pub fn distinct_count(&self) -> Option<u32>
         ensures { result ≡ option_map length (distinct_of self.now) }
     {
         with_typed!(self, typed => typed.distinct_count())
     }
 
-    /// The least of the most frequent values with its count, where distinct values are told. Without a value it is 0,
-    /// which occurs 0 times.
+    /// The most frequent value with its count, the least one where several tie; (0, 0) where every row is null. None where
+    /// distinct values were not requested or there is no row.
     pub fn most_frequent_value_and_count(&self) -> Option<(PValue, u32)>
         ensures { result ≡ frequent_value (ptype_in self.now) (distinct_of self.now) }
     {

@@ -1,4 +1,5 @@
-//! How the statistics of a column of integers are made: a summary in one pass, then what the options ask for.
+//! How the statistics of a column of integers are made: a summary in one pass, then the distinct values where they are
+//! requested.
 
 ghost use Rattle.std.specs.Prelude.{◌≡◌, ◌<◌, ◌/◌, ◌^◌, length, map, true, IsTrue};
 ghost use Rattle.vx_base.specs.Answers.{Decided, Answers, OrMemory};
@@ -13,7 +14,7 @@ ghost use Rattle.vx_stats.specs.Options.{no_options};
 ghost use Rattle.vx_stats.specs.Stats.{stats_of, stats_refusal, value_count, distinct_count};
 
 use super::IntegerStats;
-use super::by_type::{completed, is_rising, least_distinct, summary_of};
+use super::by_type::{completed, distinct_lower_bound_of, is_rising, summary_of};
 use crate::options::GenerateStatsOptions;
 use std::alloc::Global;
 use vx_array::{ArrayRef, Node};
@@ -21,7 +22,7 @@ use vx_base::{ExecutionCtx, Mask, VortexError, VortexResult};
 use vx_values::Ints;
 
 impl IntegerStats {
-    /// The statistics without distinct values.
+    /// The statistics of a tree of integers without its distinct values. Refuses as `generate_opts` does.
     pub fn generate(input: &ArrayRef, ctx: &mut ExecutionCtx) -> VortexResult<IntegerStats>
         requires { IsTrue (is_integer (tree_type input.now)) }
         ensures answer { Decided (stats_refusal (rows input.now)) (λ stats. stats ≡ stats_of no_options (integer_of (tree_type input.now)) (rows input.now)) result }
@@ -33,9 +34,9 @@ impl IntegerStats {
         IntegerStats::generate_opts(input, opts, ctx)
     }
 
-    /// The statistics of a tree of integers, which is decoded where its root isn't a Primitive, with its distinct values
-    /// where the options ask for them and it has a row. Refuses TooManyRows exactly above 2^32 - 1 rows, before it
-    /// decodes, and NoMemory. The context stays as it was.
+    /// The statistics of a tree of integers, with its distinct values where they are requested and it has a row. A tree
+    /// whose root isn't a Primitive is decoded first. Refuses TooManyRows exactly above 2^32 - 1 rows, before decoding, and
+    /// NoMemory. The context stays as it was.
     pub fn generate_opts(
         input: &ArrayRef,
         opts: GenerateStatsOptions,
@@ -54,7 +55,7 @@ impl IntegerStats {
         }
     }
 
-    /// The statistics of plain integers, without distinct values.
+    /// The summary of plain integers: their statistics without distinct values, in one pass that takes no memory.
     #[tactic(auto, using(vx_model::proofs::PrimitiveLemmas::plain_roots))]
     pub fn summary_of(plain: &ArrayRef) -> IntegerStats
         requires plain { IsPlain plain.now }
@@ -66,7 +67,7 @@ impl IntegerStats {
         summary_of_ints(values, valid)
     }
 
-    /// These statistics, which are those of plain integers without distinct values, with what the options ask for.
+    /// The summary of plain integers, completed by what is requested.
     #[tactic(auto, using(vx_model::proofs::PrimitiveLemmas::plain_roots))]
     pub fn completed(
         &self,
@@ -101,8 +102,8 @@ impl IntegerStats {
         Ok(IntegerStats::new(self.counts, erased))
     }
 
-    /// Whether more than half of the values of plain integers are distinct, shown without sorting them. These are their
-    /// statistics without distinct values. False tells nothing.
+    /// A test by their summary, without counting or sorting, that more than half of the values of plain integers are
+    /// distinct. True is exact; false says nothing.
     #[tactic(auto, using(vx_model::proofs::PrimitiveLemmas::plain_roots))]
     pub fn shows_mostly_distinct(&self, alloc: Global, plain: &ArrayRef) -> VortexResult<bool>
         requires plain { IsPlain plain.now }
@@ -118,13 +119,13 @@ impl IntegerStats {
         if is_rising(values, valid) {
             return Ok(true);
         }
-        // Where they lie close together, a table counts them as fast.
+        // In a narrow range a table counts all of them, and as fast.
         if self.erased().max_minus_min() < plain.len() {
             return Ok(false);
         }
         let half = (self.value_count() / 2) as usize;
-        let least = least_distinct(alloc, values, valid, half)?;
-        Ok(least > half)
+        let lower_bound = distinct_lower_bound_of(alloc, values, valid, half)?;
+        Ok(lower_bound > half)
     }
 }
 

@@ -1,11 +1,11 @@
-//! Ranges of whole numbers, from a least integer to a greatest one.
+//! Closed ranges of integers.
 
 ghost use Rattle.std.specs.Prelude.{◌≡◌, ◌<◌, ◌≤◌, ◌+ℤ◌, ◌≤ℤ◌, ◌<ℤ◌, ◌⊎◌, pos, IfSome, IfNone};
 ghost use Rattle.vx_stats.specs.Tables.{LiesBetween};
 
 use vx_base::Integer;
 
-/// The whole numbers from the least to the greatest; none where the least is above the greatest.
+/// The integers `least..=greatest`; empty where `least` is above `greatest`.
 #[derive(Clone, Copy)]
 pub(crate) struct Range<T: Integer> {
     pub(crate) least: T,
@@ -13,7 +13,7 @@ pub(crate) struct Range<T: Integer> {
 }
 
 impl<T: Integer> Range<T> {
-    /// How many numbers there are, where there is one and they are at most so many.
+    /// The number of integers; None exactly where it is 0 or above `most`.
     pub(crate) fn len_within(self, most: usize) -> Option<usize>
         ensures len { IfSome result (λ len. T.whole self.greatest +ℤ pos 1 ≡ T.whole self.least +ℤ pos len) }
         ensures bounds { IfSome result (λ len. (0 < len) × (len ≤ most)) }
@@ -26,7 +26,7 @@ impl<T: Integer> Range<T> {
         Some(span as usize + 1)
     }
 
-    /// How far an integer lies above the least.
+    /// The offset of an integer: `item - least`.
     #[inline(always)]
     pub(crate) fn place_of(self, item: T) -> usize
         requires { LiesBetween (T.whole self.least) (T.whole self.greatest) (T.whole item) }
@@ -35,13 +35,13 @@ impl<T: Integer> Range<T> {
         (item.to_whole() - self.least.to_whole()) as usize
     }
 
-    /// The integer that lies so far above the least.
+    /// The integer at an offset: `least + place`.
     #[inline(always)]
     pub(crate) fn value_at(self, place: usize) -> T
         requires { (T.whole self.least +ℤ pos place) ≤ℤ T.whole self.greatest }
         ensures { T.whole result ≡ T.whole self.least +ℤ pos place }
     {
-        // The type holds the greatest, and so all below it.
+        // Known of `greatest`: the type holds it, and so all of the range.
         let _greatest = self.greatest.to_whole();
         match T::from_whole(self.least.to_whole() + place as i128) {
             Some(value) => value,

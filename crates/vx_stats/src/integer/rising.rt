@@ -1,4 +1,4 @@
-//! Whether integers rise strictly: then all of them are distinct, and one pass tells it.
+//! Whether integers ascend strictly: then all of them are distinct, which one pass finds without memory.
 
 ghost use Rattle.std.specs.Prelude.{◌≡◌, length, map, true, int_lt};
 ghost use Rattle.vx_base.specs.PlainValue.{int};
@@ -15,7 +15,7 @@ fn is_less<T: Integer>(a: T, b: T) -> bool
     a < b
 }
 
-// Whether each integer is above the one before. It ends at the first that isn't.
+// Whether the integers ascend strictly. Stops at the first that isn't above the one before.
 fn all_rise<T: Integer>(items: &[T]) -> bool
     ensures { result ≡ true → length (distinct (map T.whole items.now)) ≡ length items.now }
 {
@@ -33,7 +33,7 @@ fn all_rise<T: Integer>(items: &[T]) -> bool
     true
 }
 
-/// Whether no row is null and each integer is above the one before. Then all of them are distinct; false tells nothing.
+/// Whether no row is null and the integers ascend strictly, so that all of them are distinct. False says nothing.
 pub(crate) fn rises<T: Integer>(items: &[T], valid: &Option<Mask>) -> bool
     ensures { result ≡ true → distinct_count (valid_rows valid.now (map int (map T.whole items.now))) ≡ value_count (valid_rows valid.now (map int (map T.whole items.now))) }
 {

@@ -1,4 +1,5 @@
-//! How often integers were seen: each counts in the slot that its bits give it, and leaves that to another one.
+//! Counting of integers in hash slots. A slot counts one integer and evicts it, with its count, when another one falls
+//! into the slot; the entries of one integer are merged later.
 
 ghost use Rattle.std.specs.Prelude.{◌≡◌, ◌<◌, ◌+◌, ◌-◌, ◌/◌, ◌^◌, nat_lt, vec_len, ℤ, [], length, map, true, IfSome};
 ghost use Rattle.std.specs.Ordering.{int_eq};
@@ -13,14 +14,21 @@ use crate::integer::slots::slot_of;
 use std::alloc::Global;
 use vx_base::{Integer, Mask, VortexResult};
 
-// There are at most 2 to this number of slots, which the processor keeps near.
+// At most 2^17 slots of 8 or 16 bytes, so that they stay in the processor's cache.
 const MOST_SLOT_BITS: u32 = 17;
 
-/// Integers with counts: the one in each slot, 0 times where the slot is free, and those that left theirs.
+// Slots pay while at most one integer is evicted per 8 rows; above that hardly any value repeats, and sorting all of them
+// is faster.
+const ROWS_PER_EVICTION: usize = 8;
+
+// Evictions to spare, so that the first rows alone don't decide.
+const SPARE_EVICTIONS: usize = 1024;
+
+/// Integers with counts: the one in each slot, with count 0 where the slot is free, and the evicted ones.
 #[derive(Drop)]
 pub(crate) struct Seen<T: Integer> {
     pub(crate) slots: Vec<(T, u32)>,
-    pub(crate) gone: Vec<(T, u32)>,
+    pub(crate) evicted: Vec<(T, u32)>,
     pub(crate) shift: u32,
 }
 
@@ -31,7 +39,7 @@ pub(crate) fn is_same<T: Integer>(a: T, b: T) -> bool
     a == b
 }
 
-// Adds a count last, unless it is 0.
+// Appends an entry unless its count is 0.
 #[inline(always)]
 fn push_some<T: Integer>(counts: &mut Vec<(T, u32)>, count: (T, u32)) -> VortexResult<()>
     ensures totals { OrMemory result (λ _. (z : ℤ) → total T.whole counts.new.items z ≡ total T.whole counts.old.items z + share z (T.whole count.0, count.1)) }
@@ -44,7 +52,7 @@ fn push_some<T: Integer>(counts: &mut Vec<(T, u32)>, count: (T, u32)) -> VortexR
 }
 
 impl<T: Integer> Seen<T> {
-    // None seen, with a slot for every four to eight of so many integers.
+    // Nothing counted yet, with a slot for every four to eight of `items` integers.
     fn none(alloc: Global, items: u32) -> VortexResult<Self>
         ensures { OrMemory result (λ seen. AreSeen T.whole [] seen) }
     {
@@ -52,48 +60,48 @@ impl<T: Integer> Seen<T> {
         let slots = vec![in alloc; (T::zero(), 0u32); 1usize << bits]?;
         Ok(Seen {
             slots,
-            gone: Vec::new(alloc),
+            evicted: Vec::new(alloc),
             shift: 64 - bits,
         })
     }
 
-    // One more is seen.
+    // Counts one more integer.
     #[inline(always)]
     fn see(&mut self, item: T) -> VortexResult<()>
         requires { times_seen T.whole self.old (T.whole item) < 2 ^ 32 - 1 }
         ensures totals { OrMemory result (λ _. (z : ℤ) → times_seen T.whole self.new z ≡ times_seen T.whole self.old z + share z (T.whole item, 1)) }
-        ensures some { OrMemory result (λ _. empties self.new.gone.items ≡ empties self.old.gone.items) }
+        ensures some { OrMemory result (λ _. empties self.new.evicted.items ≡ empties self.old.evicted.items) }
     {
         let slot = slot_of(item, self.shift);
         if slot >= self.slots.len() {
-            return push_some(&mut self.gone, (item, 1));
+            return push_some(&mut self.evicted, (item, 1));
         }
         let there = self.slots[slot];
         if is_same(there.0, item) {
             self.slots[slot] = (there.0, there.1 + 1);
         } else {
-            push_some(&mut self.gone, there)?;
+            push_some(&mut self.evicted, there)?;
             self.slots[slot] = (item, 1);
         }
         Ok(())
     }
 
-    // Whether more than 1024 and an eighth of so many rows left their slots.
+    // Whether more integers of the first `rows` rows were evicted than slots pay for.
     #[inline(always)]
     fn is_crowded(&self, rows: usize) -> bool
-        ensures { result ≡ nat_lt (rows / 8 + 1024) (vec_len self.now.gone) }
+        ensures { result ≡ nat_lt (rows / ROWS_PER_EVICTION + SPARE_EVICTIONS) (vec_len self.now.evicted) }
     {
-        self.gone.len() > rows / 8 + 1024
+        self.evicted.len() > rows / ROWS_PER_EVICTION + SPARE_EVICTIONS
     }
 
-    /// Those in slots after those that left theirs.
+    /// All entries: the evicted ones, then those in slots.
     pub(crate) fn into_counts(self) -> VortexResult<Vec<(T, u32)>>
         ensures totals { OrMemory result (λ counts. (z : ℤ) → total T.whole counts.items z ≡ times_seen T.whole self z) }
-        ensures some { OrMemory result (λ counts. empties counts.items ≡ empties self.gone.items) }
+        ensures some { OrMemory result (λ counts. empties counts.items ≡ empties self.evicted.items) }
     {
         let Seen {
             slots,
-            gone: mut counts,
+            evicted: mut counts,
             shift: _,
         } = self;
         for place in 0..slots.len() {
@@ -103,7 +111,7 @@ impl<T: Integer> Seen<T> {
     }
 }
 
-// None where too many left their slots.
+// Counts all integers; None where too many were evicted.
 fn seen_of_all<T: Integer>(alloc: Global, items: &[T]) -> VortexResult<Option<Seen<T>>>
     requires { length items.now < 2 ^ 32 }
     ensures { OrMemory result (λ seen. IfSome seen (AreSeen T.whole (map T.whole items.now))) }
@@ -118,7 +126,7 @@ fn seen_of_all<T: Integer>(alloc: Global, items: &[T]) -> VortexResult<Option<Se
     Ok(Some(seen))
 }
 
-// The integers whose bit is true.
+// Counts the integers whose bit is true; None where too many were evicted.
 fn seen_of_masked<T: Integer>(
     alloc: Global,
     items: &[T],
@@ -141,7 +149,7 @@ fn seen_of_masked<T: Integer>(
     Ok(Some(seen))
 }
 
-/// How often each integer of the valid rows is seen; None where so many left their slots that sorting all is faster.
+/// Counts the integers of the valid rows; None where so many were evicted that sorting all is faster.
 pub(crate) fn seen_of<T: Integer>(
     alloc: Global,
     items: &[T],

@@ -1,4 +1,4 @@
-//! How many integers are distinct at least: no two of those that fall into different slots are one.
+//! A lower bound on the number of distinct integers: integers in different hash slots are distinct.
 
 ghost use Rattle.std.specs.Prelude.{◌≡◌, ◌<◌, ◌≤◌, ◌^◌, ◌/◌, ℤ, List, [], ◌∷◌, length, map, true};
 ghost use Rattle.vx_base.specs.Answers.{OrMemory};
@@ -14,10 +14,10 @@ ghost use Rattle.vx_stats.specs.Stats.{valid_wholes, distinct_count};
 use std::alloc::Global;
 use vx_base::{Integer, Mask, VortexResult};
 
-// 2^64 over the golden ratio: its products with numbers near one another differ in their highest bits.
+// 2^64 / phi, the factor of Fibonacci hashing: it spreads neighbouring integers over the highest bits of the product.
 const SPREAD: u64 = 0x9E37_79B9_7F4A_7C15;
 
-/// Which slots are taken, and how many of them were free when they were.
+/// Which slots are taken, and how many.
 #[derive(Drop)]
 pub(crate) struct Slots {
     pub(crate) taken: Vec<bool>,
@@ -25,7 +25,7 @@ pub(crate) struct Slots {
     pub(crate) count: usize,
 }
 
-// The slot of an item: the highest bits of a product.
+// The slot of an item: the bits of its product above the lowest `shift`.
 #[inline(always)]
 pub(crate) fn slot_of<T: Integer>(item: T, shift: u32) -> usize
     ensures { result ≡ slot_of shift (bits_in T.kind (T.whole item)) }
@@ -34,7 +34,7 @@ pub(crate) fn slot_of<T: Integer>(item: T, shift: u32) -> usize
 }
 
 impl Slots {
-    // One to two slots for each of so many items, all of them free.
+    // One to two free slots for each of `items` integers.
     fn free(alloc: Global, items: u32) -> VortexResult<Self>
         ensures { OrMemory result (λ slots. (p : PType) → TakenBy p [] slots) }
     {
@@ -47,7 +47,7 @@ impl Slots {
         })
     }
 
-    // The slot of an item is taken, and counts where it was free.
+    // Takes the slot of an item, and counts it where it was free.
     #[inline(always)]
     fn take<T: Integer>(&mut self, item: T)
         ensures { (zs : List ℤ) → TakenBy T.kind zs self.old → TakenBy T.kind (T.whole item ∷ zs) self.new }
@@ -61,7 +61,7 @@ impl Slots {
     }
 }
 
-// How many slots integers take, as far as to the first number above `enough`.
+// The number of slots that integers take; stops above `enough`.
 fn taken_by_all<T: Integer>(alloc: Global, items: &[T], enough: usize) -> VortexResult<usize>
     requires { length items.now < 2 ^ 32 }
     ensures { OrMemory result (λ count. count ≤ length (distinct (map T.whole items.now))) }
@@ -76,7 +76,7 @@ fn taken_by_all<T: Integer>(alloc: Global, items: &[T], enough: usize) -> Vortex
     Ok(slots.count)
 }
 
-// The same of the integers whose bit is true.
+// The number of slots that the integers whose bit is true take; stops above `enough`.
 fn taken_by_valid<T: Integer>(
     alloc: Global,
     items: &[T],
@@ -100,9 +100,9 @@ fn taken_by_valid<T: Integer>(
     Ok(slots.count)
 }
 
-/// As many as the distinct integers of the valid rows, or fewer: where nearly all are distinct, more than half of them.
-/// It looks no further once there are more than `enough`.
-pub(crate) fn distinct_at_least<T: Integer>(
+/// A lower bound on the distinct count of the valid rows; stops above `enough`. With one to two slots an integer it is
+/// more than half of the rows where nearly all are distinct.
+pub(crate) fn distinct_lower_bound<T: Integer>(
     alloc: Global,
     items: &[T],
     valid: &Option<Mask>,

@@ -1,4 +1,4 @@
-//! Counting of distinct integers of which most occur seldom: they are sorted, and runs of equal ones are counted.
+//! Counting of distinct integers by sorting, where most of them are rare: the counts are the lengths of the sorted runs.
 
 ghost use Rattle.std.specs.Prelude.{◌≡◌, ◌<◌, ◌≤◌, ◌^◌, length, map, true, vec_len};
 ghost use Rattle.std.specs.List.Sorted.{IsPermutation};
@@ -6,7 +6,7 @@ ghost use Rattle.vx_base.specs.Answers.{OrMemory, Answers};
 ghost use Rattle.vx_base.specs.PlainValue.{int};
 ghost use Rattle.vx_model.specs.Refusals.{validity_length};
 ghost use Rattle.vx_model.specs.Rows.{masked_rows, valid_rows};
-ghost use Rattle.vx_stats.specs.Distinct.{counted};
+ghost use Rattle.vx_stats.specs.Distinct.{value_counts};
 ghost use Rattle.vx_stats.specs.Runs.{IsRising, runs, whole_counts};
 ghost use Rattle.vx_stats.specs.Stats.{valid_wholes, distinct_counts};
 
@@ -43,7 +43,7 @@ fn valid_items<T: Integer>(alloc: Global, items: &[T], valid: &Option<Mask>) -> 
     }
 }
 
-// The same integers, none below the one before.
+// Sorts the integers.
 fn sorted<T: Integer>(mut items: Vec<T>) -> Vec<T>
     ensures same { IsPermutation items.items result.items }
     ensures len { vec_len result ≡ vec_len items }
@@ -97,9 +97,9 @@ pub(crate) fn valid_runs<T: Integer>(
 }
 
 // The distinct integers, ascending, with their counts.
-fn counted<T: Integer>(alloc: Global, items: Vec<T>) -> VortexResult<DistinctInfo<T>>
+fn value_counts<T: Integer>(alloc: Global, items: Vec<T>) -> VortexResult<DistinctInfo<T>>
     requires { vec_len items < 2 ^ 32 }
-    ensures { Answers result (counted (map T.whole items.items)) }
+    ensures { Answers result (value_counts (map T.whole items.items)) }
 {
     let sorted = sorted(items);
     Ok(DistinctInfo::new(run_lengths(alloc, sorted.as_slice())?))
@@ -115,5 +115,5 @@ pub(crate) fn sorted_info<T: Integer>(
     requires few { length items.now < 2 ^ 32 }
     ensures { Answers result (distinct_counts (valid_rows valid.now (map int (map T.whole items.now)))) }
 {
-    counted(alloc, valid_items(alloc, items, valid)?)
+    value_counts(alloc, valid_items(alloc, items, valid)?)
 }

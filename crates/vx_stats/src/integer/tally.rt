@@ -1,4 +1,4 @@
-//! One pass over integers.
+//! One pass over integers: how often they change, the least and the greatest.
 
 ghost use Rattle.std.specs.Prelude.{◌≡◌, ◌<◌, ◌≤◌, ◌^◌, length, map, true, if◌then◌else◌};
 ghost use Rattle.std.specs.Ordering.{int_eq};
@@ -11,7 +11,7 @@ ghost use Rattle.vx_stats.specs.Tally.{IsTallyAfter, IsTallyOf};
 use vx_base::{Integer, Mask};
 use vx_blocks::{greater, lesser};
 
-/// What is seen of integers, one after another: how often one differs from the one before, the least and the greatest.
+/// How often an integer differs from the one before, the least and the greatest.
 #[derive(Drop)]
 pub(crate) struct Tally<T: Integer> {
     pub(crate) changes: u32,
@@ -19,7 +19,7 @@ pub(crate) struct Tally<T: Integer> {
     pub(crate) max: T,
 }
 
-// 1 where an integer isn't the one before.
+// 1 where an integer differs from the one before, else 0.
 #[inline(always)]
 fn change<T: Integer>(last: T, item: T) -> u32
     ensures value { result ≡ (if int_eq (T.whole last) (T.whole item) then 0 else 1) }
@@ -28,8 +28,8 @@ fn change<T: Integer>(last: T, item: T) -> u32
     if last == item { 0 } else { 1 }
 }
 
-/// The item where a bit is true, else the other one. A mask picks it: a choice would become a branch in a loop that
-/// carries the other one, and of nulls here and there the processor foresees none.
+/// The item where a bit is true, else the other one. Picked by a mask: an `if` becomes a branch in a loop that carries
+/// the other one, and scattered nulls make that unpredictable.
 #[inline(always)]
 pub(crate) fn item_or<T: Integer>(bit: bool, item: T, other: T) -> T
     ensures { T.whole result ≡ (if bit then T.whole item else T.whole other) }
@@ -40,7 +40,7 @@ pub(crate) fn item_or<T: Integer>(bit: bool, item: T, other: T) -> T
     T::from_low_bits(bits ^ ((bits ^ item.to_bits()) & mask))
 }
 
-/// Sees each integer, after a first one.
+/// The tally of integers after a first one.
 pub(crate) fn tally_all<T: Integer>(items: &[T], first: T) -> Tally<T>
     requires { length items.now < 2 ^ 32 }
     ensures { IsTallyAfter T.whole (T.whole first) (map T.whole items.now) result }
@@ -56,8 +56,8 @@ pub(crate) fn tally_all<T: Integer>(items: &[T], first: T) -> Tally<T>
     Tally { changes, min, max }
 }
 
-/// Sees each integer whose bit is true, after a first one. Where a bit is false, the last one is seen again, which
-/// changes nothing and takes no branch.
+/// The tally of the integers whose bit is true, after a first one. Where a bit is false, the last one is taken again,
+/// which changes nothing and needs no branch.
 pub(crate) fn tally_valid<T: Integer>(items: &[T], bits: &[bool], first: T) -> Tally<T>
     requires few { length items.now < 2 ^ 32 }
     requires bits { length bits.now ≡ length items.now }
@@ -74,7 +74,7 @@ pub(crate) fn tally_valid<T: Integer>(items: &[T], bits: &[bool], first: T) -> T
     Tally { changes, min, max }
 }
 
-// Sees the integers whose bit is true. None where there is none.
+// The tally of the integers whose bit is true; None where there is none.
 fn tally_masked<T: Integer>(items: &[T], mask: &Mask) -> Option<Tally<T>>
     requires few { length items.now < 2 ^ 32 }
     requires bits { length mask.now ≡ length items.now }
@@ -90,7 +90,7 @@ fn tally_masked<T: Integer>(items: &[T], mask: &Mask) -> Option<Tally<T>>
     }
 }
 
-// Sees each integer. None where there is none.
+// The tally of all integers; None where there is none.
 fn tally_unmasked<T: Integer>(items: &[T]) -> Option<Tally<T>>
     requires { length items.now < 2 ^ 32 }
     ensures { IsTallyOf T.whole T.kind (map T.whole items.now) result }
@@ -103,7 +103,7 @@ fn tally_unmasked<T: Integer>(items: &[T]) -> Option<Tally<T>>
     Some(tally_all(items, first))
 }
 
-/// Sees the valid rows. None where there is none.
+/// The tally of the valid rows; None where there is none.
 pub(crate) fn tally_rows<T: Integer>(items: &[T], valid: &Option<Mask>) -> Option<Tally<T>>
     requires mask { validity_length valid.now (length items.now) ≡ true }
     requires few { length items.now < 2 ^ 32 }

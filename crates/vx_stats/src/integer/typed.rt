@@ -1,4 +1,4 @@
-//! The least, the greatest and the distinct integers of one type.
+//! The extremes and the distinct integers of a column of one type.
 
 ghost use Rattle.std.specs.Prelude.{◌≡◌, ◌<◌, ◌^◌, ◌≤ℤ◌, ◌-ℤ◌, pos, IsTrue, length, option_map, option_copied};
 ghost use Rattle.vx_base.specs.Integers.{lies_in, bits_of, bits_in};
@@ -12,8 +12,8 @@ use crate::integer::value::PValue;
 use std::marker::Model;
 use vx_base::Integer;
 
-/// The least and the greatest of the valid integers, and the distinct ones where they were asked for. Without a valid
-/// integer the least is the type's greatest, and the greatest its least.
+/// The extremes of the valid integers, and the distinct ones where they were requested. Without a valid integer the least
+/// is the type's greatest, and the greatest its least.
 #[derive(Debug)]
 pub struct TypedStats<T: Integer> {
     min: T,
@@ -29,7 +29,8 @@ impl<T: Integer> Model for TypedStats<T> {
     ghost view = { λ a. record { extremes = record { least = T.whole a.min; greatest = T.whole a.max }; distinct = a.distinct } };
 }
 
-// Letting go of them is one call. Derived, it would be written out at each way out of each function that owns some.
+// By hand, so that a drop is one call: derived, it is written out and proved at each way out of each function that owns
+// some.
 impl<T: Integer> Drop for TypedStats<T> {
     fn drop(self) {
         let TypedStats {
@@ -40,7 +41,7 @@ impl<T: Integer> Drop for TypedStats<T> {
     }
 }
 
-// The value of a whole number of the type.
+// The value of the type with this whole number.
 fn value_of<T: Integer>(whole: i128) -> T
     requires { IsTrue (lies_in T.kind whole) }
     ensures { T.whole result ≡ whole }
@@ -69,7 +70,7 @@ impl<T: Integer> TypedStats<T> {
         TypedStats::new(value_of(ptype.greatest()), value_of(ptype.least()))
     }
 
-    /// The same extremes with these distinct values.
+    /// These extremes, with distinct values.
     pub(crate) fn with_distinct(&self, distinct: Option<DistinctInfo<T>>) -> Self
         ensures { result ≡ record { extremes = self.now.extremes; distinct = distinct } }
     {
@@ -80,7 +81,7 @@ impl<T: Integer> TypedStats<T> {
         }
     }
 
-    /// The distinct values, where they were asked for and there is a row.
+    /// The distinct values; None where they were not requested or there is no row.
     pub fn distinct(&self) -> Option<&DistinctInfo<T>>
         ensures { option_copied result ≡ self.now.distinct }
     {
@@ -109,7 +110,7 @@ impl<T: Integer> TypedStats<T> {
         }
     }
 
-    /// The numbers from the least to the greatest.
+    /// The range from the least to the greatest.
     pub(crate) fn range(&self) -> Range<T>
         ensures least { T.whole result.least ≡ self.now.extremes.least }
         ensures greatest { T.whole result.greatest ≡ self.now.extremes.greatest }
@@ -132,7 +133,7 @@ impl<T: Integer> TypedStats<T> {
         self.max.to_whole()
     }
 
-    /// The greatest less the least.
+    /// `greatest - least`.
     pub(crate) fn span(&self) -> u64
         requires { self.now.extremes.least ≤ℤ self.now.extremes.greatest }
         ensures { pos result ≡ self.now.extremes.greatest -ℤ self.now.extremes.least }
@@ -140,7 +141,7 @@ impl<T: Integer> TypedStats<T> {
         (self.max.to_whole() - self.min.to_whole()) as u64
     }
 
-    /// The greatest as bits, in two's complement.
+    /// The bits of the greatest in two's complement.
     pub(crate) fn greatest_bits(&self) -> u64
         ensures { result ≡ bits_in T.kind self.now.extremes.greatest }
     {

@@ -1,8 +1,8 @@
-//! A single integer with its type.
+//! An integer with its type.
 
 use vx_base::PType;
 
-/// An integer and its type.
+/// An integer with its type.
 #[derive(Clone, Copy, Debug, PartialEq, Eq)]
 pub struct PValue {
     pub ptype: PType,

@@ -1,16 +1,16 @@
-//! Rows of bytes, one after the other, and the offsets between them.
+//! Rows of bytes concatenated, and the offsets between them.
 
 ghost use Rattle.std.specs.Prelude.{◌≡◌, ◌-◌, ◌^◌, length, min};
 ghost use Rattle.vx_base.specs.Answers.{Answers};
-ghost use Rattle.vx_model.specs.Nested.{joined};
+ghost use Rattle.vx_model.specs.Nested.{concatenated};
 ghost use Rattle.vx_model.specs.Offsets.{offsets_of};
 
 use std::alloc::Global;
 use vx_base::{ByteRows, Bytes, IntList, VortexError, VortexResult};
 
-/// The rows one after the other. Room is taken once.
-pub fn joined(alloc: Global, rows: &ByteRows) -> VortexResult<Bytes>
-    ensures { Answers result (joined rows.now) }
+/// The bytes of all rows, one row after another. They are allocated at once.
+pub fn concatenated(alloc: Global, rows: &ByteRows) -> VortexResult<Bytes>
+    ensures { Answers result (concatenated rows.now) }
 {
     let mut bytes = Vec::with_capacity(alloc, byte_count(rows.as_slice()))?;
     for row in rows.as_slice() {
@@ -19,9 +19,9 @@ pub fn joined(alloc: Global, rows: &ByteRows) -> VortexResult<Bytes>
     Ok(Bytes::from_vec(bytes))
 }
 
-// The bytes of all rows together.
+// The number of bytes of all rows, 2^64 - 1 where there are more.
 fn byte_count(rows: &[Bytes]) -> usize
-    ensures { result ≡ min (length (joined rows.now)) (2 ^ 64 - 1) }
+    ensures { result ≡ min (length (concatenated rows.now)) (2 ^ 64 - 1) }
 {
     let mut count: usize = 0;
     for row in rows {
@@ -30,8 +30,8 @@ fn byte_count(rows: &[Bytes]) -> usize
     count
 }
 
-/// Where each row begins in the joined bytes, and where the last one ends. Memory is wanting where the bytes are 2^64 or
-/// more, which no memory holds.
+/// The offset of each row in the concatenated bytes, and the end of the last one. Answers NoMemory where there are 2^64 bytes
+/// or more, which no memory holds.
 pub fn offsets(alloc: Global, rows: &ByteRows) -> VortexResult<IntList<u64>>
     ensures { Answers result (offsets_of rows.now) }
 {

@@ -1,4 +1,4 @@
-//! The same integers in another type, and integers written over others.
+//! Integers in another type, and single rows overwritten.
 
 ghost use Rattle.std.specs.List.{list_all, list_any};
 ghost use Rattle.std.specs.Prelude.{◌≡◌, ◌<◌, length, pos, IsTrue, map, slice_set, int_lt};
@@ -10,6 +10,7 @@ ghost use Rattle.vx_values.specs.IntsOf.{ptype_of, wholes_of};
 use super::Ints;
 use std::alloc::Global;
 use vx_base::{IntList, Integer, PType, VortexResult};
+use vx_blocks::GROUP_ROWS;
 
 impl Ints {
     /// Whether some integer is negative.
@@ -19,7 +20,7 @@ impl Ints {
         with_ints!(self, items => has_negative(items.as_slice()))
     }
 
-    /// The same integers in an unsigned type that holds each.
+    /// The integers in an unsigned type with all of them in range.
     #[tactic(auto, using(vx_model::proofs::FrameOfReferenceLemmas::unsigned_wholes))]
     pub fn in_unsigned(&self, alloc: Global, ptype: PType) -> VortexResult<Ints>
         requires unsigned { unsigned_of ptype ≡ ptype }
@@ -37,7 +38,7 @@ impl Ints {
         }
     }
 
-    // The same integers as words.
+    // The integers as words of 64 bits.
     fn words(&self, alloc: Global) -> VortexResult<IntList<u64>>
         requires { IsTrue (list_all (lies_in U64) (wholes_of self.now)) }
         ensures { OrMemory result (λ words. map pos words ≡ wholes_of self.now) }
@@ -45,31 +46,22 @@ impl Ints {
         with_ints!(self, items => converted(alloc, items.as_slice()))
     }
 
-    /// The list with a whole number in a row.
+    /// The list with one row overwritten.
     pub fn with_whole(self, row: u64, whole: i128) -> Ints
         requires held { IsTrue (lies_in (ptype_of self) whole) }
         requires in_range { row < length (wholes_of self) }
         ensures ptype { ptype_of result ≡ ptype_of self }
         ensures wholes { wholes_of result ≡ slice_set (wholes_of self) row whole }
     {
-        match self {
-            Ints::U8(items) => Ints::U8(with_whole(items, row, whole)),
-            Ints::U16(items) => Ints::U16(with_whole(items, row, whole)),
-            Ints::U32(items) => Ints::U32(with_whole(items, row, whole)),
-            Ints::U64(items) => Ints::U64(with_whole(items, row, whole)),
-            Ints::I8(items) => Ints::I8(with_whole(items, row, whole)),
-            Ints::I16(items) => Ints::I16(with_whole(items, row, whole)),
-            Ints::I32(items) => Ints::I32(with_whole(items, row, whole)),
-            Ints::I64(items) => Ints::I64(with_whole(items, row, whole)),
-        }
+        map_ints_surely!(self, items => with_whole(items, row, whole))
     }
 }
 
-// Whether some item is negative: one test for 64 rows.
+// Whether some item is negative. There is one branch for each group of rows.
 fn has_negative<T: Integer>(items: &[T]) -> bool
     ensures { result ≡ list_any (λ z. int_lt z (pos 0)) (map T.whole items.now) }
 {
-    for rows in items.chunks(64) {
+    for rows in items.chunks(GROUP_ROWS) {
         if some_negative(rows) {
             return true;
         }
@@ -77,7 +69,7 @@ fn has_negative<T: Integer>(items: &[T]) -> bool
     false
 }
 
-// The same of a few items, all of which are looked at.
+// Whether some item of a group is negative, by `|` over all of them: no branch per row.
 fn some_negative<T: Integer>(items: &[T]) -> bool
     ensures { result ≡ list_any (λ z. int_lt z (pos 0)) (map T.whole items.now) }
 {
@@ -111,7 +103,7 @@ fn converted<T: Integer, U: Integer>(alloc: Global, items: &[T]) -> VortexResult
     Ok(IntList::from_vec(converted))
 }
 
-// The list with a whole number in a row.
+// The list with one row overwritten.
 fn with_whole<T: Integer>(items: IntList<T>, row: u64, whole: i128) -> IntList<T>
     requires held { IsTrue (lies_in T.kind whole) }
     requires in_range { row < length items }

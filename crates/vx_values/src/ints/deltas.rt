@@ -1,4 +1,4 @@
-//! Integers by the differences between them, in blocks of 1,024 rows.
+//! Delta encoding of integers, in blocks of 1,024 rows.
 
 ghost use Rattle.std.specs.Prelude.{◌≡◌, ◌≤◌, ◌*◌, length, map, take};
 ghost use Rattle.vx_base.specs.Answers.{OrMemory};
@@ -12,54 +12,32 @@ use std::alloc::Global;
 use vx_base::{IntList, Integer, Mask, VortexResult};
 use vx_blocks::{delta_blocks, undelta};
 
+// `Ok` of two lists of the same type, from each of the eight lists.
+macro_rules! map_pair {
+    ($ints:expr, $items:ident => $answer:expr; $($kind:ident),*) => {
+        match $ints {
+            $(Ints::$kind($items) => {
+                let (bases, deltas) = $answer;
+                Ok((Ints::$kind(bases), Ints::$kind(deltas)))
+            })*
+        }
+    };
+}
+
 impl Ints {
-    /// The bases and the differences of blocks of 1,024 rows, of the same type. Each null takes the last valid row before
-    /// it, and 0 before the first. A base is its block's first row. A difference is from the row before, wrapped into the
-    /// type; it is 0 at a block's first row, and for the rows that fill the last block. `valid` has a truth value for each
-    /// row.
+    /// The bases and the deltas of blocks of 1,024 rows, in the same type. A null counts as the last valid row before it, and
+    /// as 0 before the first. A base is the first row of its block. A delta is the difference from the row before, wrapping;
+    /// it is 0 at the first row of a block, and in the padding of the last one. `valid` has a truth value per row.
     pub fn delta_blocks(&self, alloc: Global, valid: &Mask) -> VortexResult<(Ints, Ints)>
         requires { length valid.now ≡ length (wholes_of self.now) }
         ensures bases { OrMemory result (λ made. (ptype_of made.0 ≡ ptype_of self.now) × (wholes_of made.0 ≡ bases (filled (optional_rows (wholes_of self.now) valid.now)))) }
         ensures deltas { OrMemory result (λ made. (ptype_of made.1 ≡ ptype_of self.now) × (wholes_of made.1 ≡ deltas (ptype_of self.now) (filled (optional_rows (wholes_of self.now) valid.now)))) }
     {
-        match self {
-            Ints::U8(items) => {
-                let (bases, deltas) = blocks_of(alloc, items.as_slice(), valid)?;
-                Ok((Ints::U8(bases), Ints::U8(deltas)))
-            }
-            Ints::U16(items) => {
-                let (bases, deltas) = blocks_of(alloc, items.as_slice(), valid)?;
-                Ok((Ints::U16(bases), Ints::U16(deltas)))
-            }
-            Ints::U32(items) => {
-                let (bases, deltas) = blocks_of(alloc, items.as_slice(), valid)?;
-                Ok((Ints::U32(bases), Ints::U32(deltas)))
-            }
-            Ints::U64(items) => {
-                let (bases, deltas) = blocks_of(alloc, items.as_slice(), valid)?;
-                Ok((Ints::U64(bases), Ints::U64(deltas)))
-            }
-            Ints::I8(items) => {
-                let (bases, deltas) = blocks_of(alloc, items.as_slice(), valid)?;
-                Ok((Ints::I8(bases), Ints::I8(deltas)))
-            }
-            Ints::I16(items) => {
-                let (bases, deltas) = blocks_of(alloc, items.as_slice(), valid)?;
-                Ok((Ints::I16(bases), Ints::I16(deltas)))
-            }
-            Ints::I32(items) => {
-                let (bases, deltas) = blocks_of(alloc, items.as_slice(), valid)?;
-                Ok((Ints::I32(bases), Ints::I32(deltas)))
-            }
-            Ints::I64(items) => {
-                let (bases, deltas) = blocks_of(alloc, items.as_slice(), valid)?;
-                Ok((Ints::I64(bases), Ints::I64(deltas)))
-            }
-        }
+        map_pair!(self, items => blocks_of(alloc, items.as_slice(), valid)?; U8, U16, U32, U64, I8, I16, I32, I64)
     }
 
-    /// The rows of blocks whose bases these are: each is its block's base and the block's differences up to its own,
-    /// wrapped into the type. There are 1,024 differences, of the same type, for each base.
+    /// The rows from these bases and from deltas of the same type, 1,024 for each base: row r of a block is its base plus the
+    /// sum of the block's deltas 0 to r, wrapping.
     pub fn undelta(&self, alloc: Global, deltas: &Ints) -> VortexResult<Ints>
         requires kinds { ptype_of deltas.now ≡ ptype_of self.now }
         requires lengths { length (wholes_of deltas.now) ≡ 1024 * length (wholes_of self.now) }
@@ -84,20 +62,11 @@ impl Ints {
         ensures ptype { ptype_of result ≡ ptype_of self }
         ensures wholes { wholes_of result ≡ take len (wholes_of self) }
     {
-        match self {
-            Ints::U8(items) => Ints::U8(first_items(items, len)),
-            Ints::U16(items) => Ints::U16(first_items(items, len)),
-            Ints::U32(items) => Ints::U32(first_items(items, len)),
-            Ints::U64(items) => Ints::U64(first_items(items, len)),
-            Ints::I8(items) => Ints::I8(first_items(items, len)),
-            Ints::I16(items) => Ints::I16(first_items(items, len)),
-            Ints::I32(items) => Ints::I32(first_items(items, len)),
-            Ints::I64(items) => Ints::I64(first_items(items, len)),
-        }
+        map_ints_surely!(self, items => first_items(items, len))
     }
 }
 
-// Bases and differences as two lists.
+// Bases and deltas as two lists.
 fn blocks_of<T: Integer>(
     alloc: Global,
     items: &[T],

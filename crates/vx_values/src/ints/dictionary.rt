@@ -1,4 +1,4 @@
-//! Integers by their places.
+//! Integers picked by codes.
 
 ghost use Rattle.std.specs.List.{list_any, range_with_len};
 ghost use Rattle.std.specs.Prelude.{◌≡◌, ◌<◌, length, pos, map, not};
@@ -13,16 +13,17 @@ use super::Ints;
 use crate::validity::{is_valid, keep};
 use std::alloc::Global;
 use vx_base::{IntList, Integer, Mask, VortexResult};
+use vx_blocks::GROUP_ROWS;
 
 impl Ints {
-    /// The integer whose place each code has, 0 where there is none.
+    /// For each code the integer with that index, 0 out of bounds.
     pub fn picked(&self, alloc: Global, codes: &Ints) -> VortexResult<Ints>
         ensures { OrMemory result (λ ints. (ptype_of ints ≡ ptype_of self.now) × (wholes_of ints ≡ map (λ code. picked (ptype_of codes.now) (wholes_of self.now) (pos 0) code) (wholes_of codes.now))) }
     {
         map_ints!(self, items => picked_by(alloc, items.as_slice(), codes)?)
     }
 
-    /// Of codes, whether each is valid and has the place of a true bit.
+    /// For each code, whether its row is valid and the bit with that index is true.
     pub fn picks_valid(
         &self,
         alloc: Global,
@@ -34,7 +35,7 @@ impl Ints {
         with_ints!(self, codes => picks_valid(alloc, codes.as_slice(), valid, bits))
     }
 
-    /// Whether some code is no place among so many items.
+    /// Whether some code is out of bounds of `items` items.
     pub fn has_outside(&self, items: u64) -> bool
         ensures { result ≡ list_any (λ z. not (is_place items (int z))) (wholes_of self.now) }
     {
@@ -42,14 +43,14 @@ impl Ints {
     }
 }
 
-// The item whose place each code has.
+// The item at each code.
 fn picked_by<T: Integer>(alloc: Global, items: &[T], codes: &Ints) -> VortexResult<IntList<T>>
     ensures { OrMemory result (λ list. map T.whole list ≡ map (λ code. picked (ptype_of codes.now) (map T.whole items.now) (pos 0) code) (wholes_of codes.now)) }
 {
     with_ints!(codes, codes => picked(alloc, items, codes.as_slice()))
 }
 
-// The item whose place the code has, 0 where there is none.
+// The item at a code, 0 out of bounds.
 #[inline(always)]
 fn pick<C: Integer, T: Integer>(items: &[T], code: C) -> T
     ensures { T.whole result ≡ picked C.kind (map T.whole items.now) (pos 0) (C.whole code) }
@@ -60,7 +61,7 @@ fn pick<C: Integer, T: Integer>(items: &[T], code: C) -> T
     }
 }
 
-// The same of each code.
+// The item at each code, of one type of codes.
 fn picked<C: Integer, T: Integer>(
     alloc: Global,
     items: &[T],
@@ -75,7 +76,7 @@ fn picked<C: Integer, T: Integer>(
     Ok(IntList::from_vec(picked))
 }
 
-// Whether the row's code is valid and has the place of a true bit.
+// Whether a row of codes is valid and the bit at its code is true.
 #[inline(always)]
 fn picks_valid_at<C: Integer>(codes: &[C], valid: &Option<Mask>, bits: &Mask, row: usize) -> bool
     requires { row < length codes.now }
@@ -84,7 +85,7 @@ fn picks_valid_at<C: Integer>(codes: &[C], valid: &Option<Mask>, bits: &Mask, ro
     is_valid(valid, row as u64) && bits.is_set(codes[row].to_bits())
 }
 
-// The same of each row.
+// Whether that holds, for each row.
 fn picks_valid<C: Integer>(
     alloc: Global,
     codes: &[C],
@@ -100,7 +101,7 @@ fn picks_valid<C: Integer>(
     Ok(Mask::from_bits(picked))
 }
 
-// Whether a code is no place among so many items.
+// Whether a code is out of bounds of `items` items.
 #[inline(always)]
 fn is_outside(code: i128, items: u64) -> bool
     ensures { result ≡ not (is_place items (int code)) }
@@ -108,11 +109,11 @@ fn is_outside(code: i128, items: u64) -> bool
     code < 0 || code >= i128::from(items)
 }
 
-// The same of some code: one test for 64 rows.
+// Whether some code is out of bounds. There is one branch for each group of rows.
 fn has_outside<C: Integer>(codes: &[C], items: u64) -> bool
     ensures { result ≡ list_any (λ z. not (is_place items (int z))) (map C.whole codes.now) }
 {
-    for rows in codes.chunks(64) {
+    for rows in codes.chunks(GROUP_ROWS) {
         if some_outside(rows, items) {
             return true;
         }
@@ -120,7 +121,7 @@ fn has_outside<C: Integer>(codes: &[C], items: u64) -> bool
     false
 }
 
-// The same of a few codes, all of which are looked at.
+// Whether some code of a group is out of bounds, by `|` over all of them: no branch per row.
 fn some_outside<C: Integer>(codes: &[C], items: u64) -> bool
     ensures { result ≡ list_any (λ z. not (is_place items (int z))) (map C.whole codes.now) }
 {
@@ -131,7 +132,7 @@ fn some_outside<C: Integer>(codes: &[C], items: u64) -> bool
     some
 }
 
-/// The validity of rows by their codes, of the codes' validity and the values'.
+/// The validity of a dictionary's rows, from those of its codes and of its values.
 pub fn valid_codes(
     alloc: Global,
     codes: &Ints,

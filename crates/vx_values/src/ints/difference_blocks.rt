@@ -1,4 +1,4 @@
-//! Differences from a reference that are counted or packed at once, by blocks of 1,024 rows, so that no column of them is made.
+//! Differences from a reference, counted or packed block by block: only one block of them is in memory at a time.
 
 ghost use Rattle.std.specs.Prelude.{◌≡◌, ◌<◌, ◌≤◌, ◌+◌, ◌-◌, ◌^◌, ◌++◌, ℕ, List, IfSome, IsTrue, length, map, replicate, sum, true, unwrap_or};
 ghost use Rattle.vx_base.specs.Answers.{Answers, OrMemory};
@@ -15,11 +15,11 @@ use super::bit_packing::known_bytes;
 use super::frame_of_reference::write_differences;
 use std::alloc::Global;
 use vx_base::{Bytes, Integer, Mask, VortexError, VortexResult};
-use vx_blocks::{bit_width_histogram, bit_widths_of_all, pack};
+use vx_blocks::{BLOCK_ROWS, bit_width_histogram, bit_widths_of_all, pack};
 
 impl Ints {
-    /// The histogram of the differences from a reference by their binary digits, from 0 to the type's bits: that of the
-    /// list that `differences` makes. A null has no digit. Bits that are given are one for each row.
+    /// The number of rows whose difference from the reference has exactly w binary digits, as entry w, for w from 0 to the type's
+    /// bits: `bit_width_histogram` of the list of `differences`. A null has 0 digits.
     pub fn difference_widths(
         &self,
         alloc: Global,
@@ -42,8 +42,8 @@ impl Ints {
         }
     }
 
-    /// The differences from a reference packed at a width, in whole blocks of 1,024 rows; a null and a difference that is
-    /// wider are 0. These are the bytes that `pack` makes of the list of `differences`.
+    /// The differences from the reference packed at `width` bits, in blocks of 1,024 rows; 0 for a null and for a difference that
+    /// doesn't fit: `pack` of the list of `differences`.
     pub fn pack_differences(
         &self,
         alloc: Global,
@@ -105,7 +105,7 @@ impl Ints {
     }
 }
 
-// The bits of the rows from `start` to `end - 1`, true where there are none.
+// The validity of the rows `start` to `end - 1` as a mask, all true without one.
 fn bits_between(
     alloc: Global,
     valid: &Option<Mask>,
@@ -127,7 +127,7 @@ fn bits_between(
     }
 }
 
-// The validity of the rows from `start` to `end - 1`, of so many.
+// The validity of the rows `start` to `end - 1`.
 fn validity_between(
     alloc: Global,
     valid: &Option<Mask>,
@@ -150,7 +150,7 @@ fn validity_between(
     }
 }
 
-// The histogram of a block's differences, which are written over the front of a buffer.
+// The histogram of a block's differences, which are written to a buffer.
 fn block_widths<T: Integer, D: Integer>(
     alloc: Global,
     reference: T,
@@ -171,7 +171,7 @@ fn block_widths<T: Integer, D: Integer>(
     }
 }
 
-// The same differences packed.
+// A block's differences packed; they are written to a buffer.
 fn block_packed<T: Integer, D: Integer>(
     alloc: Global,
     reference: T,
@@ -191,7 +191,7 @@ fn block_packed<T: Integer, D: Integer>(
     pack(alloc, differences, bits, width)
 }
 
-// Adds a block's counts to those before.
+// Adds the counts of a block.
 fn add_counts(counts: &mut [u64], more: &[u64])
     requires same { length more.now ≡ length counts.old }
     requires room { sum counts.old + sum more.now < 2 ^ 64 }
@@ -215,11 +215,11 @@ fn widths_by_blocks<T: Integer, D: Integer>(
 {
     let width = D::ptype().bit_width() as usize;
     let mut counts = vec![in alloc; 0u64; width + 1]?;
-    let mut buffer = vec![in alloc; D::zero(); 1024]?;
-    let blocks = items.len().div_ceil(1024);
+    let mut buffer = vec![in alloc; D::zero(); BLOCK_ROWS]?;
+    let blocks = items.len().div_ceil(BLOCK_ROWS);
     for block in 0..blocks {
-        let start = 1024 * block;
-        let count = (items.len() - start).min(1024);
+        let start = BLOCK_ROWS * block;
+        let count = (items.len() - start).min(BLOCK_ROWS);
         let end = start + count;
         let part = validity_between(alloc, valid, items.len(), start, end)?;
         let rows = &items[start..end];
@@ -242,15 +242,15 @@ fn packed_by_blocks<T: Integer, D: Integer>(
     requires within { width ≤ bits_of D.kind }
     ensures { OrMemory result (λ bytes. IsPacked width (kept_rows width (difference_bits T.kind (T.whole reference) (map T.whole items.now)) (unwrap_or valid.now (replicate (length (map T.whole items.now)) true))) bytes.items) }
 {
-    let blocks = items.len().div_ceil(1024);
-    let Some(size) = blocks.checked_mul(128 * width as usize) else {
+    let blocks = items.len().div_ceil(BLOCK_ROWS);
+    let Some(size) = blocks.checked_mul(BLOCK_ROWS / 8 * width as usize) else {
         return Err(VortexError::NoMemory);
     };
     let mut packed = Vec::with_capacity(alloc, size)?;
-    let mut buffer = vec![in alloc; D::zero(); 1024]?;
+    let mut buffer = vec![in alloc; D::zero(); BLOCK_ROWS]?;
     for block in 0..blocks {
-        let start = 1024 * block;
-        let count = (items.len() - start).min(1024);
+        let start = BLOCK_ROWS * block;
+        let count = (items.len() - start).min(BLOCK_ROWS);
         let end = start + count;
         let bits = bits_between(alloc, valid, items.len(), start, end)?;
         let rows = &items[start..end];
@@ -260,7 +260,7 @@ fn packed_by_blocks<T: Integer, D: Integer>(
     Ok(packed)
 }
 
-// The histogram of the differences from a whole number.
+// The histogram, from the reference as a whole number.
 fn widths<T: Integer, D: Integer>(
     alloc: Global,
     reference: i128,
@@ -278,7 +278,7 @@ fn widths<T: Integer, D: Integer>(
     widths_by_blocks::<T, D>(alloc, reference, items, valid)
 }
 
-// The bytes of the differences from a whole number.
+// The bytes, from the reference as a whole number.
 fn packed<T: Integer, D: Integer>(
     alloc: Global,
     reference: i128,

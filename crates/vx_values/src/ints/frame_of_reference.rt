@@ -12,7 +12,7 @@ use std::alloc::Global;
 use vx_base::{IntList, Integer, PType, VortexResult};
 
 impl Ints {
-    /// Each integer less a reference, wrapping in the unsigned type of the same width.
+    /// Each integer less the reference, wrapping, in the unsigned type of the same width.
     pub fn differences(&self, alloc: Global, reference: i128) -> VortexResult<Ints>
         requires { IsTrue (lies_in (ptype_of self.now) reference) }
         ensures { OrMemory result (λ ints. (ptype_of ints ≡ unsigned_of (ptype_of self.now)) × (wholes_of ints ≡ map (λ z. wrap (unsigned_of (ptype_of self.now)) (z -ℤ reference)) (wholes_of self.now))) }
@@ -29,7 +29,7 @@ impl Ints {
         }
     }
 
-    /// The sums of a reference and each integer, in the reference's type, whose width is the integers'.
+    /// The reference plus each integer, wrapping, in the reference's type, which has the width of the integers'.
     pub fn moved(&self, alloc: Global, ptype: PType, reference: i128) -> VortexResult<Ints>
         requires held { IsTrue (lies_in ptype reference) }
         requires unsigned { ptype_of self.now ≡ unsigned_of ptype }
@@ -49,7 +49,7 @@ impl Ints {
     }
 }
 
-// The item less the reference, in the unsigned type of their width.
+// `item - reference`, wrapping, in the unsigned type of their width.
 #[inline(always)]
 #[tactic(auto, using(vx_base::proofs::WrapBitsLemmas::wrap_differences))]
 fn difference<T: Integer, D: Integer>(reference: T, item: T) -> D
@@ -61,7 +61,7 @@ fn difference<T: Integer, D: Integer>(reference: T, item: T) -> D
     D::from_low_bits(item.to_bits().wrapping_sub(reference.to_bits()))
 }
 
-// The same of each item, written over others.
+// The difference of each item, written to a slice.
 pub(super) fn write_differences<T: Integer, D: Integer>(
     reference: T,
     items: &[T],
@@ -76,7 +76,7 @@ pub(super) fn write_differences<T: Integer, D: Integer>(
     }
 }
 
-// The same in a list.
+// The difference of each item, as a list.
 fn differences_from<T: Integer, D: Integer>(
     alloc: Global,
     reference: T,
@@ -90,7 +90,7 @@ fn differences_from<T: Integer, D: Integer>(
     Ok(IntList::from_vec(differences))
 }
 
-// The same of a reference as a whole number.
+// The differences, from the reference as a whole number.
 fn differences<T: Integer, D: Integer>(
     alloc: Global,
     reference: i128,
@@ -106,7 +106,7 @@ fn differences<T: Integer, D: Integer>(
     differences_from(alloc, reference, items)
 }
 
-// The sum of a reference and a difference, in the reference's type.
+// `reference + difference`, wrapping, in the reference's type.
 #[inline(always)]
 #[tactic(auto, using(vx_base::proofs::WrapBitsLemmas::wrap_words))]
 fn summed<T: Integer>(reference: T, difference: u64) -> T
@@ -116,7 +116,7 @@ fn summed<T: Integer>(reference: T, difference: u64) -> T
     T::from_low_bits(reference.to_bits().wrapping_add(difference))
 }
 
-// The sum of a reference and a difference of the unsigned type of its width.
+// `reference + difference` of a difference in the unsigned type of the width.
 #[inline(always)]
 fn summed_with<T: Integer, D: Integer>(reference: T, difference: D) -> T
     requires { D.kind ≡ unsigned_of T.kind }
@@ -126,7 +126,7 @@ fn summed_with<T: Integer, D: Integer>(reference: T, difference: D) -> T
     summed(reference, difference.to_bits())
 }
 
-// The sums of a reference and each difference, written over others.
+// The sum with each difference, written to a slice.
 fn write_sums<T: Integer, D: Integer>(reference: T, differences: &[D], items: &mut [T])
     requires kind { D.kind ≡ unsigned_of T.kind }
     requires length { length items.old ≡ length differences.now }
@@ -137,7 +137,7 @@ fn write_sums<T: Integer, D: Integer>(reference: T, differences: &[D], items: &m
     }
 }
 
-// The same in a list.
+// The sum with each difference, as a list.
 fn sums<T: Integer, D: Integer>(
     alloc: Global,
     reference: T,
@@ -151,7 +151,7 @@ fn sums<T: Integer, D: Integer>(
     Ok(IntList::from_vec(items))
 }
 
-// The same of a reference as a whole number.
+// The sums, from the reference as a whole number.
 fn moved<T: Integer, D: Integer>(
     alloc: Global,
     reference: i128,
@@ -167,7 +167,7 @@ fn moved<T: Integer, D: Integer>(
     sums(alloc, reference, differences)
 }
 
-// A reference and a difference as whole numbers, summed in an integer type.
+// `reference + difference` of whole numbers, wrapping, in an integer type.
 fn summed_wholes<T: Integer>(reference: i128, difference: i128) -> i128
     requires reference { IsTrue (lies_in T.kind reference) }
     requires difference { IsTrue (lies_in U64 difference) }
@@ -182,7 +182,7 @@ fn summed_wholes<T: Integer>(reference: i128, difference: i128) -> i128
     summed(reference, difference).to_whole()
 }
 
-/// A reference and a difference, summed in an integer type.
+/// `reference + difference`, wrapping, in an integer type.
 pub fn summed_in(ptype: PType, reference: i128, difference: i128) -> i128
     requires reference { IsTrue (lies_in ptype reference) }
     requires difference { IsTrue (lies_in U64 difference) }

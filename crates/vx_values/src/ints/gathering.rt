@@ -1,4 +1,4 @@
-//! Some rows, by their ranges or one by one.
+//! Rows gathered by ranges, or one by one.
 
 ghost use Rattle.std.specs.List.{list_all};
 ghost use Rattle.std.specs.Prelude.{◌≡◌, length, slice_index_or, pos, IsTrue, map, nat_lt};
@@ -12,7 +12,7 @@ use std::alloc::Global;
 use vx_base::{IntList, Integer, VortexResult};
 
 impl Ints {
-    /// The integers of the ranges, one range after the other.
+    /// The rows of half-open ranges, in the order of the ranges.
     pub fn gather(&self, alloc: Global, ranges: &[(u64, u64)]) -> VortexResult<Ints>
         requires { IsTrue (are_parts (length (wholes_of self.now)) ranges.now) }
         ensures { OrMemory result (λ ints. (ptype_of ints ≡ ptype_of self.now) × (wholes_of ints ≡ gathered ranges.now (wholes_of self.now))) }
@@ -20,7 +20,7 @@ impl Ints {
         map_ints!(self, items => gathered_parts(alloc, items, ranges)?)
     }
 
-    /// The integers of some rows, in the order that these are given.
+    /// The rows with these numbers, in the order in which they are given.
     pub fn gathered(&self, alloc: Global, rows: &[u64]) -> VortexResult<Ints>
         requires { IsTrue (list_all (λ row. nat_lt row (length (wholes_of self.now))) rows.now) }
         ensures { OrMemory result (λ ints. (ptype_of ints ≡ ptype_of self.now) × (wholes_of ints ≡ map (λ row. slice_index_or (wholes_of self.now) row (pos 0)) rows.now)) }
@@ -29,7 +29,7 @@ impl Ints {
     }
 }
 
-// The integers of the ranges.
+// The rows of the ranges.
 fn gathered_parts<T: Integer>(
     alloc: Global,
     items: &IntList<T>,
@@ -41,7 +41,7 @@ fn gathered_parts<T: Integer>(
     items.gather(alloc, ranges)
 }
 
-// The items of some rows, in the order that these are given.
+// The items with these numbers, in the order in which they are given.
 fn gathered_rows<T: Integer>(alloc: Global, items: &[T], rows: &[u64]) -> VortexResult<IntList<T>>
     requires { IsTrue (list_all (λ row. nat_lt row (length items.now)) rows.now) }
     ensures { OrMemory result (λ list. map T.whole list ≡ map (λ row. slice_index_or (map T.whole items.now) row (pos 0)) rows.now) }

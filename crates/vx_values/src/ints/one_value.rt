@@ -1,4 +1,4 @@
-//! One integer in every row, or in every row that is valid.
+//! One integer in all rows, or in all valid rows.
 
 ghost use Rattle.std.specs.Prelude.{◌≡◌, ◌<◌, length, IsTrue, replicate, true, map, option_map};
 ghost use Rattle.vx_base.specs.Answers.{OrMemory};
@@ -15,24 +15,15 @@ use std::alloc::Global;
 use vx_base::{IntList, Integer, Mask, PType, VortexResult};
 
 impl Ints {
-    /// One integer in every row.
+    /// `len` rows of one integer.
     pub fn filled(alloc: Global, whole: i128, ptype: PType, len: u64) -> VortexResult<Ints>
         requires { IsTrue (lies_in ptype whole) }
         ensures { OrMemory result (λ ints. (ptype_of ints ≡ ptype) × (wholes_of ints ≡ replicate len whole)) }
     {
-        match ptype {
-            PType::U8 => Ok(Ints::U8(filled(alloc, whole, len)?)),
-            PType::U16 => Ok(Ints::U16(filled(alloc, whole, len)?)),
-            PType::U32 => Ok(Ints::U32(filled(alloc, whole, len)?)),
-            PType::U64 => Ok(Ints::U64(filled(alloc, whole, len)?)),
-            PType::I8 => Ok(Ints::I8(filled(alloc, whole, len)?)),
-            PType::I16 => Ok(Ints::I16(filled(alloc, whole, len)?)),
-            PType::I32 => Ok(Ints::I32(filled(alloc, whole, len)?)),
-            PType::I64 => Ok(Ints::I64(filled(alloc, whole, len)?)),
-        }
+        ints_of!(ptype => filled(alloc, whole, len)?)
     }
 
-    /// The integer of the first row that is valid.
+    /// The first valid row, None where all are null.
     pub fn first_valid(&self, valid: &Option<Mask>) -> Option<i128>
         requires { validity_length valid.now (length (wholes_of self.now)) ≡ true }
         ensures { option_map int result ≡ first_valid (valid_rows valid.now (map int (wholes_of self.now))) }
@@ -49,7 +40,7 @@ impl Ints {
     }
 }
 
-// One integer in every row.
+// `len` rows of one integer.
 fn filled<T: Integer>(alloc: Global, whole: i128, len: u64) -> VortexResult<IntList<T>>
     requires { IsTrue (lies_in T.kind whole) }
     ensures { OrMemory result (λ list. map T.whole list ≡ replicate len whole) }
@@ -64,7 +55,7 @@ fn filled<T: Integer>(alloc: Global, whole: i128, len: u64) -> VortexResult<IntL
     Ok(IntList::from_vec(items))
 }
 
-// The integer in a row, none where the row isn't valid.
+// A row, None where it is null.
 #[inline(always)]
 fn cell_at<T: Integer>(items: &[T], valid: &Option<Mask>, row: usize) -> Option<i128>
     requires in_items { row < length items.now }
@@ -78,7 +69,7 @@ fn cell_at<T: Integer>(items: &[T], valid: &Option<Mask>, row: usize) -> Option<
     }
 }
 
-// The integer of the first valid row.
+// The first valid row.
 fn first_valid<T: Integer>(items: &[T], valid: &Option<Mask>) -> Option<i128>
     requires { validity_length valid.now (length items.now) ≡ true }
     ensures { option_map int result ≡ first_valid (valid_rows valid.now (map int (map T.whole items.now))) }

@@ -1,4 +1,4 @@
-//! Runs of equal rows.
+//! Runs of equal integers.
 
 ghost use Rattle.std.specs.Prelude.{◌≡◌, length, map};
 ghost use Rattle.vx_base.specs.Answers.{OrMemory};
@@ -12,8 +12,7 @@ use vx_base::{Integer, Mask, VortexResult, Words};
 use vx_blocks::{BlockRuns, block_runs, runs};
 
 impl Ints {
-    /// The end of each run of equal rows, which is the row after its last. A null equals a null. `valid` has a truth value
-    /// for each row.
+    /// The exclusive end of each run of equal rows, ascending. A null equals a null. `valid` has a truth value per row.
     pub fn runs(&self, alloc: Global, valid: &Mask) -> VortexResult<Words>
         requires { length valid.now ≡ length (wholes_of self.now) }
         ensures { OrMemory result (λ ends. ends ≡ run_ends (optional_rows (wholes_of self.now) valid.now)) }
@@ -21,8 +20,7 @@ impl Ints {
         with_ints!(self, items => ends_of(alloc, items.as_slice(), valid))
     }
 
-    /// The runs of equal rows, which also end with each block of 1,024 rows. A null equals a null. `valid` has a truth
-    /// value for each row.
+    /// The runs of equal rows within blocks of 1,024 rows. A null equals a null. `valid` has a truth value per row.
     pub fn block_runs(&self, alloc: Global, valid: &Mask) -> VortexResult<BlockRuns>
         requires { length valid.now ≡ length (wholes_of self.now) }
         ensures heads { OrMemory result (λ made. made.heads ≡ heads (optional_rows (wholes_of self.now) valid.now)) }

@@ -1,4 +1,4 @@
-//! Sequences: integers with the same step from each row to the next.
+//! Arithmetic sequences of integers.
 
 ghost use Rattle.std.specs.List.{range_with_len};
 ghost use Rattle.std.specs.Prelude.{◌≡◌, ◌-◌, ◌&&◌, ◌||◌, ◌==◌, ◌+ℤ◌, ◌*ℤ◌, IsTrue, length, map, pos};
@@ -15,16 +15,16 @@ use vx_base::{IntList, Integer, PType, VortexResult};
 use vx_blocks::sequence_of;
 
 impl Ints {
-    /// First and step of a sequence: row i is first + i * step. None where there are fewer than two rows, where some row
-    /// isn't the sequence's, and where the type doesn't hold the step.
+    /// First and step of an arithmetic sequence: row i is first + i * step. None of fewer than two rows, of rows that are no
+    /// sequence, and of a step out of the range of the type.
     pub fn sequence(&self) -> Option<(i128, i128)>
         ensures { result ≡ sequence_of (ptype_of self.now) (wholes_of self.now) }
     {
         with_ints!(self, items => sequence_of(items.as_slice()))
     }
 
-    /// The sequence of `len` rows of a type whose row i is first + i * step. Where there are rows, the type holds the
-    /// first and the last; the step itself it need not hold.
+    /// The arithmetic sequence of `len` rows, row i of which is first + i * step. The first and the last row are in range of the
+    /// type, if there are rows; the step need not be.
     pub fn stepped(
         alloc: Global,
         ptype: PType,
@@ -35,20 +35,11 @@ impl Ints {
         requires { IsTrue (len == 0 || lies_in ptype first && lies_in ptype (first +ℤ pos (len - 1) *ℤ step)) }
         ensures { OrMemory result (λ ints. (ptype_of ints ≡ ptype) × (wholes_of ints ≡ map (sequence_row first step) (range_with_len 0 len))) }
     {
-        match ptype {
-            PType::U8 => Ok(Ints::U8(stepped(alloc, first, step, len)?)),
-            PType::U16 => Ok(Ints::U16(stepped(alloc, first, step, len)?)),
-            PType::U32 => Ok(Ints::U32(stepped(alloc, first, step, len)?)),
-            PType::U64 => Ok(Ints::U64(stepped(alloc, first, step, len)?)),
-            PType::I8 => Ok(Ints::I8(stepped(alloc, first, step, len)?)),
-            PType::I16 => Ok(Ints::I16(stepped(alloc, first, step, len)?)),
-            PType::I32 => Ok(Ints::I32(stepped(alloc, first, step, len)?)),
-            PType::I64 => Ok(Ints::I64(stepped(alloc, first, step, len)?)),
-        }
+        ints_of!(ptype => stepped(alloc, first, step, len)?)
     }
 }
 
-// The same as a list of one type: each item is the one before and the step, wrapped.
+// The sequence as a list of one type.
 fn stepped<T: Integer>(alloc: Global, first: i128, step: i128, len: u64) -> VortexResult<IntList<T>>
     requires { IsTrue (len == 0 || lies_in T.kind first && lies_in T.kind (first +ℤ pos (len - 1) *ℤ step)) }
     ensures { OrMemory result (λ list. map T.whole list ≡ map (sequence_row first step) (range_with_len 0 len)) }
@@ -58,7 +49,8 @@ fn stepped<T: Integer>(alloc: Global, first: i128, step: i128, len: u64) -> Vort
     Ok(IntList::from_vec(items))
 }
 
-// The rows written over others, by their low bits.
+// The sequence written to a slice: each row by adding the step to the row before, wrapping in 64 bits, of which the low ones
+// are the value.
 fn write_steps<T: Integer>(first: i128, step: i128, items: &mut [T])
     requires { IsTrue (length items.old == 0 || lies_in T.kind first && lies_in T.kind (first +ℤ pos (length items.old - 1) *ℤ step)) }
     ensures { map T.whole items.new ≡ map (sequence_row first step) (range_with_len 0 (length items.old)) }

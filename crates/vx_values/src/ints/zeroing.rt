@@ -11,7 +11,7 @@ use std::alloc::Global;
 use vx_base::{IntList, Integer, Mask, VortexResult};
 
 impl Ints {
-    /// A copy with 0 where a row isn't valid.
+    /// A copy, with 0 where a row is null.
     pub fn decoded(&self, alloc: Global, valid: &Option<Mask>) -> VortexResult<Ints>
         requires { validity_length valid.now (length (wholes_of self.now)) ≡ true }
         ensures { OrMemory result (λ ints. (ptype_of ints ≡ ptype_of self.now) × (wholes_of ints ≡ zeroed_by (pos 0) valid.now (wholes_of self.now))) }
@@ -19,25 +19,16 @@ impl Ints {
         map_ints!(self, items => decoded(alloc, items.as_slice(), valid)?)
     }
 
-    /// The list with 0 where the mask is false.
+    /// The rows, with 0 where the mask is false.
     pub fn zeroed(self, mask: &Mask) -> Ints
         requires { length mask.now ≡ length (wholes_of self) }
         ensures ptype { ptype_of result ≡ ptype_of self }
         ensures wholes { wholes_of result ≡ zeroed (pos 0) mask.now (wholes_of self) }
     {
-        match self {
-            Ints::U8(items) => Ints::U8(zeroed(items, mask.as_slice())),
-            Ints::U16(items) => Ints::U16(zeroed(items, mask.as_slice())),
-            Ints::U32(items) => Ints::U32(zeroed(items, mask.as_slice())),
-            Ints::U64(items) => Ints::U64(zeroed(items, mask.as_slice())),
-            Ints::I8(items) => Ints::I8(zeroed(items, mask.as_slice())),
-            Ints::I16(items) => Ints::I16(zeroed(items, mask.as_slice())),
-            Ints::I32(items) => Ints::I32(zeroed(items, mask.as_slice())),
-            Ints::I64(items) => Ints::I64(zeroed(items, mask.as_slice())),
-        }
+        map_ints_surely!(self, items => zeroed(items, mask.as_slice()))
     }
 
-    /// The list with 0 where a row isn't valid.
+    /// The rows, with 0 where a row is null.
     pub fn zeroed_by(self, valid: &Option<Mask>) -> Ints
         requires { validity_length valid.now (length (wholes_of self)) ≡ true }
         ensures ptype { ptype_of result ≡ ptype_of self }
@@ -49,7 +40,7 @@ impl Ints {
         }
     }
 
-    /// Whether each integer whose bit is false is 0.
+    /// Whether each row is 0 where the mask is false.
     pub fn is_zero_beneath(&self, mask: &Mask) -> bool
         requires { length mask.now ≡ length (wholes_of self.now) }
         ensures { result ≡ zero_beneath is_zero mask.now (wholes_of self.now) }
@@ -65,7 +56,7 @@ fn kept_or_zero<T: Integer>(item: T, bit: bool) -> T
     if bit { item } else { T::zero() }
 }
 
-// Leaves the item where the bit is true, else writes 0.
+// Writes 0 unless the bit is true.
 #[inline(always)]
 fn zero_at<T: Integer>(items: &mut [T], row: usize, bit: bool)
     requires { row < length items.old }
@@ -94,7 +85,7 @@ fn zeroed<T: Integer>(items: IntList<T>, bits: &[bool]) -> IntList<T>
     IntList::from_vec(items)
 }
 
-// A copy with 0 where a row isn't valid.
+// A copy, with 0 where a row is null.
 fn decoded<T: Integer>(alloc: Global, items: &[T], valid: &Option<Mask>) -> VortexResult<IntList<T>>
     requires { validity_length valid.now (length items.now) ≡ true }
     ensures { OrMemory result (λ copy. map T.whole copy ≡ zeroed_by (pos 0) valid.now (map T.whole items.now)) }
@@ -106,7 +97,7 @@ fn decoded<T: Integer>(alloc: Global, items: &[T], valid: &Option<Mask>) -> Vort
     }
 }
 
-// Whether the item is 0 where its bit is false.
+// Whether the item is 0, or its bit is true.
 #[inline(always)]
 fn is_zero_at<T: Integer>(items: &[T], bits: &[bool], row: usize) -> bool
     requires in_items { row < length items.now }

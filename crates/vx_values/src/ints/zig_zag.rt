@@ -1,4 +1,4 @@
-//! Integers as their zigzag, and back.
+//! Zigzag encoding of integers, and decoding.
 
 ghost use Rattle.std.specs.Prelude.{◌≡◌, length, pos, IsTrue, true, map, not, unsigned_abs};
 ghost use Rattle.vx_base.specs.Answers.{OrMemory};
@@ -13,8 +13,8 @@ use vx_base::{IntList, Integer, VortexResult};
 use vx_blocks::{unzigzag, zigzag};
 
 impl Ints {
-    /// The zigzags of integers of a signed type, in the unsigned type of its width. That of 0 is 0, so what lies beneath
-    /// nulls stays.
+    /// The zigzag of each integer of a signed type, in the unsigned type of its width. That of 0 is 0, so defaults beneath nulls
+    /// stay defaults.
     pub fn zigzagged(&self, alloc: Global) -> VortexResult<Ints>
         requires { is_signed (ptype_of self.now) ≡ true }
         ensures { OrMemory result (λ words. (ptype_of words ≡ unsigned_of (ptype_of self.now)) × (wholes_of words ≡ map (λ z. pos (zigzag z)) (wholes_of self.now))) }
@@ -28,7 +28,7 @@ impl Ints {
         }
     }
 
-    /// The integers whose zigzag these are, in the signed type of the width.
+    /// The inverse of `zigzagged`, in the signed type of the width.
     pub fn unzigzagged(&self, alloc: Global) -> VortexResult<Ints>
         requires { not (is_signed (ptype_of self.now)) ≡ true }
         ensures { OrMemory result (λ ints. (ptype_of ints ≡ signed_of (ptype_of self.now)) × (wholes_of ints ≡ map (λ z. unzigzag (unsigned_abs z)) (wholes_of self.now))) }
@@ -43,7 +43,7 @@ impl Ints {
     }
 }
 
-// The zigzag of a number of 64 bits.
+// The zigzag of a number in the range of i64.
 #[inline(always)]
 fn zigzag_of(whole: i128) -> u64
     requires { IsTrue (lies_in I64 whole) }
@@ -63,7 +63,7 @@ fn zigzagged_item<T: Integer, W: Integer>(item: T) -> W
     W::from_low_bits(zigzag_of(item.to_whole()))
 }
 
-// The same of each item, written over others.
+// The zigzag of each item, written to a slice.
 fn write_zigzags<T: Integer, W: Integer>(items: &[T], words: &mut [W])
     requires kinds { W.kind ≡ unsigned_of T.kind }
     requires signed { is_signed T.kind ≡ true }
@@ -75,7 +75,7 @@ fn write_zigzags<T: Integer, W: Integer>(items: &[T], words: &mut [W])
     }
 }
 
-// The same in a list.
+// The zigzag of each item, as a list.
 fn zigzagged<T: Integer, W: Integer>(alloc: Global, items: &[T]) -> VortexResult<IntList<W>>
     requires kinds { W.kind ≡ unsigned_of T.kind }
     requires signed { is_signed T.kind ≡ true }
@@ -86,7 +86,7 @@ fn zigzagged<T: Integer, W: Integer>(alloc: Global, items: &[T]) -> VortexResult
     Ok(IntList::from_vec(words))
 }
 
-// The integer whose zigzag a word is, in the signed type of its width.
+// The integer with this zigzag, in the signed type of its width.
 #[inline(always)]
 #[tactic(auto, using(vx_base::proofs::ZigZagLemmas::unzigzags))]
 fn unzigzagged_item<W: Integer, T: Integer>(word: W) -> T
@@ -98,7 +98,7 @@ fn unzigzagged_item<W: Integer, T: Integer>(word: W) -> T
     T::from_low_bits(unzigzag(word.to_bits()).to_bits())
 }
 
-// The same of each word, written over others.
+// The integer of each zigzag, written to a slice.
 fn write_integers<W: Integer, T: Integer>(words: &[W], items: &mut [T])
     requires kinds { T.kind ≡ signed_of W.kind }
     requires unsigned { not (is_signed W.kind) ≡ true }
@@ -110,7 +110,7 @@ fn write_integers<W: Integer, T: Integer>(words: &[W], items: &mut [T])
     }
 }
 
-// The same in a list.
+// The integer of each zigzag, as a list.
 fn unzigzagged<W: Integer, T: Integer>(alloc: Global, words: &[W]) -> VortexResult<IntList<T>>
     requires kinds { T.kind ≡ signed_of W.kind }
     requires unsigned { not (is_signed W.kind) ≡ true }

@@ -2,8 +2,8 @@ use Rattle.std.proofs.Common.{◌≡◌, ◌*◌, ◌/◌, ◌%◌, ◌^◌, ◌
 use Rattle.std.specs.Int.RustNames.{bit_or}
 use Rattle.std.proofs.Math.Nat as nat
 use Rattle.std.proofs.lemmas.Nat.{or_lt, pow_pos}
-use Rattle.vx_base.specs.Packed.{joined}
-use Rattle.vx_blocks.proofs.Joins.{Holds-stay, Holds-word, joined-bytes, rest_none}
+use Rattle.vx_base.specs.Packed.{packed_number}
+use Rattle.vx_blocks.proofs.Joins.{Holds-stay, Holds-word, packed_number-bytes, rest_none}
 use Rattle.vx_blocks.proofs.filling.put.Goals as goal
 use Rattle.vx_blocks.proofs.filling.put.Goals.{then-fill-eq0, else-fill-eq0}
 
@@ -15,7 +15,7 @@ returns c number place h =
     let rest : c.if-fill-eq0.rest ≡ c.args.bits / 2 ^ (64 - c.args.fill) =
     elim c.if-fill-eq0.branch [ then-fill-eq0 w ↦ rest_none c.args.fill c.args.bits c.args.width _ w.if-fill-eq0.true w.rest-is c.requires.bits c.requires.width | else-fill-eq0 w ↦ w.rest-is ]
     in
-    let is : joined 8 c.to_le_bytes.result ≡ bit_or c.args.acc (c.args.bits * 2 ^ c.args.fill % 2 ^ 64) =
-    ap (joined 8) c.to_le_bytes.ensures ∙ joined-bytes _ (or_lt 64 c.args.acc (c.args.bits * 2 ^ c.args.fill % 2 ^ 64) c.ranges.acc.fits (nat.mod-lt _ (pow_pos 64)))
+    let is : packed_number 8 c.to_le_bytes.result ≡ bit_or c.args.acc (c.args.bits * 2 ^ c.args.fill % 2 ^ 64) =
+    ap (packed_number 8) c.to_le_bytes.ensures ∙ packed_number-bytes _ (or_lt 64 c.args.acc (c.args.bits * 2 ^ c.args.fill % 2 ^ 64) c.ranges.acc.fits (nat.mod-lt _ (pow_pos 64)))
     in
     rw (rest, c.in_ok-extend_from_slice.ensures.items) (Holds-word number place _ _ _ _ _ c.to_le_bytes.result h c.requires.bits c.requires.width c.if-fill-width-lt64.false is (ap length c.to_le_bytes.ensures))

@@ -4,8 +4,8 @@ use Rattle.std.proofs.Math.Nat as nat
 use Rattle.std.proofs.lemmas.Nat.{or_lt, pow_pos}
 use Rattle.std.proofs.lemmas.Slice.{take-put_mid}
 use borrow.Rule.Slice.PartMut.{put_mid}
-use Rattle.vx_base.specs.Packed.{joined}
-use Rattle.vx_blocks.proofs.Joins.{Holds-stay, Holds-word, joined-bytes, rest_none}
+use Rattle.vx_base.specs.Packed.{packed_number}
+use Rattle.vx_blocks.proofs.Joins.{Holds-stay, Holds-word, packed_number-bytes, rest_none}
 use Rattle.vx_blocks.proofs.filling.put_in.Goals as goal
 use Rattle.vx_blocks.proofs.filling.put_in.Goals.{then-fill-eq0, else-fill-eq0}
 
@@ -17,8 +17,8 @@ returns-clause-holds c before number place h =
     let rest : c.if-fill-eq0.rest ≡ c.args.bits / 2 ^ (64 - c.args.fill) =
     elim c.if-fill-eq0.branch [ then-fill-eq0 w ↦ rest_none c.args.fill c.args.bits c.args.width _ w.if-fill-eq0.true w.rest-is c.requires.bits c.requires.width | else-fill-eq0 w ↦ w.rest-is ]
     in
-    let is : joined 8 c.to_le_bytes.result ≡ bit_or c.args.acc (c.args.bits * 2 ^ c.args.fill % 2 ^ 64) =
-    ap (joined 8) c.to_le_bytes.ensures ∙ joined-bytes _ (or_lt 64 c.args.acc (c.args.bits * 2 ^ c.args.fill % 2 ^ 64) c.ranges.acc.fits (nat.mod-lt _ (pow_pos 64)))
+    let is : packed_number 8 c.to_le_bytes.result ≡ bit_or c.args.acc (c.args.bits * 2 ^ c.args.fill % 2 ^ 64) =
+    ap (packed_number 8) c.to_le_bytes.ensures ∙ packed_number-bytes _ (or_lt 64 c.args.acc (c.args.bits * 2 ^ c.args.fill % 2 ^ 64) c.ranges.acc.fits (nat.mod-lt _ (pow_pos 64)))
     in
     let long : length c.to_le_bytes.result ≡ 8 = ap length c.to_le_bytes.ensures in
     let front : take (c.args.len + 8) (put_mid c.args.len (c.args.len + 8 - c.args.len) c.args.buffer.now c.copy_from_slice.new.self) ≡ take c.args.len c.args.buffer.now ++ c.to_le_bytes.result =

@@ -1,8 +1,8 @@
 use Rattle.std.proofs.Common.{arith, ◌≡◌, [], length, map, ap, ◌∙◌}
-use Rattle.vx_base.specs.Packed.{kept_rows, joined}
+use Rattle.vx_base.specs.Packed.{kept_rows, packed_number}
 use Rattle.vx_base.specs.Integers.{bits_in}
 use Rattle.vx_blocks.proofs.Eights.{taken-so-far, next-row-behind, eight-end}
-use Rattle.vx_blocks.proofs.Joins.{joined-bytes}
+use Rattle.vx_blocks.proofs.Joins.{packed_number-bytes}
 use Rattle.std.proofs.lemmas.Nat.{pow_below}
 use Rattle.vx_blocks.proofs.Rows.{kept_rows-length}
 use Rattle.vx_blocks.proofs.groups.write_eight.Goals as goal
@@ -21,6 +21,6 @@ loop-k-preserved g c =
 
 pub returns : goal.returns
 returns g c =
-    let is : joined 8 c.to_le_bytes.result ≡ c.loop-k.acc = ap (joined 8) c.to_le_bytes.ensures ∙ joined-bytes c.loop-k.acc (omega (arith, c.loop-k.invariant.holds.small, pow_below c.loop-k.fill 64 c.loop-k.invariant.holds.room)) in
+    let is : packed_number 8 c.to_le_bytes.result ≡ c.loop-k.acc = ap (packed_number 8) c.to_le_bytes.ensures ∙ packed_number-bytes c.loop-k.acc (omega (arith, c.loop-k.invariant.holds.small, pow_below c.loop-k.fill 64 c.loop-k.invariant.holds.room)) in
     let all : c.loop-k.k ≡ 8 = omega arith in
     rw c.copy_from_slice.ensures.after (eight-end _ g.row.W c.loop-k.len c.loop-k.out c.to_le_bytes.result c.loop-k.acc c.loop-k.fill _ (rw all at c.loop-k.invariant.holds) c.loop-k.invariant.within is (ap length c.to_le_bytes.ensures))

@@ -6,7 +6,7 @@ use Rattle.vx_blocks.proofs.Counts.{by_zeros-none}
 use Rattle.vx_blocks.proofs.Rows.{kept_rows-at, kept_rows-length}
 use Rattle.vx_blocks.proofs.widths.count_all_widths.Goals as goal
 
--- a row among so many of which each is valid
+-- a row is valid where all are
 set-at : (count i bits : ℕ) → i < count → kept_row 64 bits true ≡ kept_row 64 bits (get_or (replicate count true) i false)
 set-at count i bits l = ap (kept_row 64 bits) (sym (get_or-replicate count i true false l))
 

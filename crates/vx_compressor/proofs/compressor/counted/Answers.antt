@@ -18,7 +18,7 @@ plain_counted-requires-clause-flat g c =
     let fits = rows_fit c.args.array.now c.known.ensures in
     let made : c.if-is_plain.plain ≡ plain here = elim c.if-is_plain.branch [
       | then-is_plain+in_ok-tree+in_default+in_ok-plain w ↦ let own : IsPlain c.args.array.now = search rules in w.plain-is ∙ w.in_ok-plain.ensures ∙ own
-      | else-is_plain+in_ok-plain-2 w ↦ w.plain-is ∙ w.in_ok-plain-2.ensures
+      | else-is_plain+in_ok-plain-2 w ↦ w.plain-is ∙ w.in_ok-plain-2.ensures.tree
     ] in
     ap (λ col. is_flat col.dtype) (column_of-is c.if-is_plain.plain here fits made) ∙ c.requires.flat
 
@@ -28,7 +28,7 @@ plain_counted-requires-clause-reach g c =
     let fits = rows_fit c.args.array.now c.known.ensures in
     let made : c.if-is_plain.plain ≡ plain here = elim c.if-is_plain.branch [
       | then-is_plain+in_ok-tree+in_default+in_ok-plain w ↦ let own : IsPlain c.args.array.now = search rules in w.plain-is ∙ w.in_ok-plain.ensures ∙ own
-      | else-is_plain+in_ok-plain-2 w ↦ w.plain-is ∙ w.in_ok-plain-2.ensures
+      | else-is_plain+in_ok-plain-2 w ↦ w.plain-is ∙ w.in_ok-plain-2.ensures.tree
     ] in
     subst (λ col. IsInReach col (site_of c.args.site.now).budget) (sym (column_of-is c.if-is_plain.plain here fits made)) c.requires.reach
 
@@ -38,7 +38,7 @@ plain_counted-requires-clause-plain g c =
     let fits = rows_fit c.args.array.now c.known.ensures in
     let made : c.if-is_plain.plain ≡ plain here = elim c.if-is_plain.branch [
       | then-is_plain+in_ok-tree+in_default+in_ok-plain w ↦ let own : IsPlain c.args.array.now = search rules in w.plain-is ∙ w.in_ok-plain.ensures ∙ own
-      | else-is_plain+in_ok-plain-2 w ↦ w.plain-is ∙ w.in_ok-plain-2.ensures
+      | else-is_plain+in_ok-plain-2 w ↦ w.plain-is ∙ w.in_ok-plain-2.ensures.tree
     ] in
     plain-is c.if-is_plain.plain here fits made
 
@@ -54,7 +54,7 @@ returns-clause-answer g c =
     let fits = rows_fit c.args.array.now c.known.ensures in
     let made : c.if-is_plain.plain ≡ plain here = elim c.if-is_plain.branch [
       | then-is_plain+in_ok-tree+in_default+in_ok-plain w ↦ let own : IsPlain c.args.array.now = search rules in w.plain-is ∙ w.in_ok-plain.ensures ∙ own
-      | else-is_plain+in_ok-plain-2 w ↦ w.plain-is ∙ w.in_ok-plain-2.ensures
+      | else-is_plain+in_ok-plain-2 w ↦ w.plain-is ∙ w.in_ok-plain-2.ensures.tree
     ] in
     let same = column_of-is c.if-is_plain.plain here fits made in
     answers_along c.plain_counted.result _ _ (λ i. leaf_tree (setting g.S.Scheme.meaning c.args.compressor.now c.args.ctx.now) (same i) (site_of c.args.site.now)) c.plain_counted.ensures.answer

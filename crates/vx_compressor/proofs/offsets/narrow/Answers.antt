@@ -15,8 +15,8 @@ narrow_type-requires c =
     let fits : FitsSigned w128 c.from.result = search rules in
     rw (to_z-of_z w128 c.from.result fits, c.from.ensures) (narrow-some c.args.end low)
 
-pub in_type-requires-clause-words : goal.in_type-requires-clause-words
-in_type-requires-clause-words c = (plain_offsets-wholes c.args.offsets.now c.args.end c.requires _ _ _ _ c.as_primitive.ensures.tree).0
+pub in_type-requires-clause-wide : goal.in_type-requires-clause-wide
+in_type-requires-clause-wide c = (plain_offsets-wholes c.args.offsets.now c.args.end c.requires _ _ _ _ c.as_primitive.ensures.tree).0
 
 pub in_type-requires-clause-unsigned : goal.in_type-requires-clause-unsigned
 in_type-requires-clause-unsigned c =

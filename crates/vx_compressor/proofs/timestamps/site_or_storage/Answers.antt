@@ -56,22 +56,22 @@ returns-then-is_plain-clause-answer g c =
 pub storage_tree-requires-2-clause-flat : goal.storage_tree-requires-2-clause-flat
 storage_tree-requires-2-clause-flat g c =
     let parts = c.into_storage-storage-2 in
-    (own_storage (column_of c.args.made) (site_of c.args.site.now) parts.result.0 parts.result.1 c.requires.stamps (rows_fit c.args.made c.known.ensures) c.requires.reach (parts.ensures ∙ c.in_ok-canonical.ensures)).flat
+    (own_storage (column_of c.args.made) (site_of c.args.site.now) parts.result.0 parts.result.1 c.requires.stamps (rows_fit c.args.made c.known.ensures) c.requires.reach (parts.ensures ∙ c.in_ok-canonical.ensures.tree)).flat
 
 pub storage_tree-requires-2-clause-plain : goal.storage_tree-requires-2-clause-plain
 storage_tree-requires-2-clause-plain g c =
     let parts = c.into_storage-storage-2 in
-    (own_storage (column_of c.args.made) (site_of c.args.site.now) parts.result.0 parts.result.1 c.requires.stamps (rows_fit c.args.made c.known.ensures) c.requires.reach (parts.ensures ∙ c.in_ok-canonical.ensures)).plain
+    (own_storage (column_of c.args.made) (site_of c.args.site.now) parts.result.0 parts.result.1 c.requires.stamps (rows_fit c.args.made c.known.ensures) c.requires.reach (parts.ensures ∙ c.in_ok-canonical.ensures.tree)).plain
 
 pub storage_tree-requires-2-clause-whole : goal.storage_tree-requires-2-clause-whole
 storage_tree-requires-2-clause-whole g c =
     let parts = c.into_storage-storage-2 in
-    (own_storage (column_of c.args.made) (site_of c.args.site.now) parts.result.0 parts.result.1 c.requires.stamps (rows_fit c.args.made c.known.ensures) c.requires.reach (parts.ensures ∙ c.in_ok-canonical.ensures)).whole
+    (own_storage (column_of c.args.made) (site_of c.args.site.now) parts.result.0 parts.result.1 c.requires.stamps (rows_fit c.args.made c.known.ensures) c.requires.reach (parts.ensures ∙ c.in_ok-canonical.ensures.tree)).whole
 
 pub storage_tree-requires-2-clause-reach : goal.storage_tree-requires-2-clause-reach
 storage_tree-requires-2-clause-reach g c =
     let parts = c.into_storage-storage-2 in
-    (own_storage (column_of c.args.made) (site_of c.args.site.now) parts.result.0 parts.result.1 c.requires.stamps (rows_fit c.args.made c.known.ensures) c.requires.reach (parts.ensures ∙ c.in_ok-canonical.ensures)).reach
+    (own_storage (column_of c.args.made) (site_of c.args.site.now) parts.result.0 parts.result.1 c.requires.stamps (rows_fit c.args.made c.known.ensures) c.requires.reach (parts.ensures ∙ c.in_ok-canonical.ensures.tree)).reach
 
 pub smaller_of-requires : goal.smaller_of-requires
 smaller_of-requires g c =
@@ -79,7 +79,7 @@ smaller_of-requires g c =
     let here = column_of c.args.made in
     let site = site_of c.args.site.now in
     let parts = c.into_storage-storage-2 in
-    let storage = own_storage here site parts.result.0 parts.result.1 c.requires.stamps (rows_fit c.args.made c.known.ensures) c.requires.reach (parts.ensures ∙ c.in_ok-canonical.ensures) in
+    let storage = own_storage here site parts.result.0 parts.result.1 c.requires.stamps (rows_fit c.args.made c.known.ensures) c.requires.reach (parts.ensures ∙ c.in_ok-canonical.ensures.tree) in
     small_stamps set (column_of parts.result.0) site parts.result.1 c.in_ok-other.other storage.flat storage.fits storage.reach c.in_ok-other.ensures.answer
 
 pub returns-clause-answer : goal.returns-clause-answer
@@ -88,7 +88,7 @@ returns-clause-answer g c =
     let here = column_of c.args.made in
     let site = site_of c.args.site.now in
     let parts = c.into_storage-storage-2 in
-    let beneath : timestamp parts.result.0 parts.result.1 ≡ plain here = parts.ensures ∙ c.in_ok-canonical.ensures in
+    let beneath : timestamp parts.result.0 parts.result.1 ≡ plain here = parts.ensures ∙ c.in_ok-canonical.ensures.tree in
     let fit = rows_fit c.args.made c.known.ensures in
     let storage = own_storage here site parts.result.0 parts.result.1 c.requires.stamps fit c.requires.reach beneath in
     c.smaller_of.ensures

@@ -4,21 +4,21 @@ use Rattle.vx_program.proofs.Replies.{reply_usage, reply_whole, reply_long, is_n
 use Rattle.vx_program.proofs.StatusCauses.{not_too_long}
 use Rattle.vx_program.proofs.answer.reply_to.Goals as goal
 
-pub returns-then-not-is_built-clause-answer : goal.returns-then-not-is_built-clause-answer
-returns-then-not-is_built-clause-answer g c =
-    let other = sym c.is_built.ensures ∙ c.if-not-is_built.true in
+pub returns-then-not-is_supported-clause-answer : goal.returns-then-not-is_supported-clause-answer
+returns-then-not-is_supported-clause-answer g c =
+    let other = sym c.is_supported.ensures ∙ c.if-not-is_supported.true in
     reply_usage _ _ _ (g.I.Source.left c.args.source.now) _ _ other refl (λ i. (c.refusal.ensures.status i, c.refusal.ensures.text i))
 
 pub returns-in-TooLong-clause-answer : goal.returns-in-TooLong-clause-answer
 returns-in-TooLong-clause-answer g c =
-    let built = sym c.is_built.ensures ∙ c.if-not-is_built.false in
+    let built = sym c.is_supported.ensures ∙ c.if-not-is_supported.false in
     let came = rw c.in-TooLong.is at c.in_ok-read_all.ensures.bytes in
     let same = rw c.in-TooLong.is at c.in_ok-read_all.ensures.cause in
     reply_long _ _ _ _ _ _ came.0 built came.1 came.2 same (λ i. (c.refusal-in-TooLong.ensures.status i, c.refusal-in-TooLong.ensures.text i))
 
 pub returns-in-Whole-clause-answer : goal.returns-in-Whole-clause-answer
 returns-in-Whole-clause-answer g c =
-    let built = sym c.is_built.ensures ∙ c.if-not-is_built.false in
+    let built = sym c.is_supported.ensures ∙ c.if-not-is_supported.false in
     let came = rw c.in-Whole.is at c.in_ok-read_all.ensures.bytes in
     let same = rw c.in-Whole.is at c.in_ok-read_all.ensures.cause in
     IfOk-weaker c.reply_to_bytes.result _ _ (λ r e. reply_whole _ _ _ _ _ _ _ built came.0 came.1 came.2 same e) c.reply_to_bytes.ensures

@@ -1,7 +1,7 @@
 use Rattle.std.proofs.Common.{◌≡◌, Err, codes, ap, ◌∙◌}
-use Rattle.vx_program.specs.Answer.{refusal}
+use Rattle.vx_program.specs.Answer.{refusal, read_fault}
 use Rattle.vx_program.specs.declared.writing.Stop.TheVariants.{NoMemory}
-use Rattle.vx_program.proofs.StatusCauses.{reply_written, reply_is_usage, reply_usage_causes, reply_bad_document, reply_too_many_rows, reply_done, reply_rose, reply_complete}
+use Rattle.vx_program.proofs.StatusCauses.{reply_written, reply_is_usage, reply_usage_causes, reply_bad_document, reply_too_many_rows, reply_done, reply_rose, reply_faultless, reply_complete}
 use Rattle.vx_program.proofs.running.run.Goals as goal
 
 pub returns-in-Ok-deliver-clause-write_fault : goal.returns-in-Ok-deliver-clause-write_fault
@@ -39,3 +39,13 @@ returns-in-Err-NoMemory-clause-usage_surely g c = λ usage room.
     let text : c.as_str.result.now ≡ (refusal 2 (codes "Usage")).1 = c.as_str.ensures.value ∙ ap (λ r. r.1) (reply_is_usage _ _ _ _ _ c.in-Ok.ensures.answer usage) in
     let is : c.deliver.result ≡ Err NoMemory = cc in
     absurd (c.deliver.ensures.sure (rw text room) is)
+
+pub returns-in-Ok-deliver-clause-source_kept : goal.returns-in-Ok-deliver-clause-source_kept
+returns-in-Ok-deliver-clause-source_kept g c = λ e. absurd ((reply_written _ _ _ _ _ c.in-Ok.ensures.answer).0 e)
+
+pub returns-in-Err-NoMemory-clause-source_kept : goal.returns-in-Err-NoMemory-clause-source_kept
+returns-in-Err-NoMemory-clause-source_kept g c = λ e room.
+    reply_faultless _ _ _ _ _ c.in-Ok.ensures.answer (λ fault.
+    let text : c.as_str.result.now ≡ read_fault.1 = c.as_str.ensures.value ∙ ap (λ r. r.1) fault in
+    let is : c.deliver.result ≡ Err NoMemory = cc in
+    absurd (c.deliver.ensures.sure (rw text room) is))

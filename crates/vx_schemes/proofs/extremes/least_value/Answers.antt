@@ -11,7 +11,7 @@ use Rattle.vx_model.specs.WellFormed.{WellFormed}
 use Rattle.vx_model.proofs.MadeLemmas.{rows_fit}
 use Rattle.vx_stats.specs.Stats.{PlainStats}
 use Rattle.vx_schemes.specs.FrameOfReference.Laws.{least_in-held}
-use Rattle.vx_schemes.proofs.KeptLemmas.{no_refusal, surely_decided}
+use Rattle.vx_schemes_common.proofs.KeptLemmas.{no_refusal, surely_decided}
 use Rattle.vx_schemes.proofs.extremes.least_value.Goals as goal
 
 pub returns-clause-answer : goal.returns-clause-answer

@@ -10,7 +10,7 @@ use Rattle.vx_model.specs.Rows.{rows, row_at}
 use Rattle.vx_model.specs.Tree.{Tree}
 use Rattle.vx_model.specs.TreeType.{tree_type}
 use Rattle.vx_array.proofs.DefaultLemmas.{between-next, between-stop}
-use Rattle.vx_schemes.proofs.KeptLemmas.{decided}
+use Rattle.vx_schemes_common.proofs.KeptLemmas.{decided}
 use Rattle.vx_schemes.proofs.PatchLemmas.{shared-other}
 use Rattle.vx_schemes.proofs.patches.shared_row.Goals as goal
 

@@ -1,4 +1,4 @@
-//! Bit packing.
+//! The bit-packed tree of a plain column of integers.
 
 ghost use Rattle.std.specs.Prelude.{◌≡◌, ◌<◌, ◌≤◌, ◌+◌, ◌^◌, ◌==◌, not, [], Some, pos, length, map, replicate, drop, sum, true, false, nat_le, unwrap_or, IsTrue};
 ghost use Rattle.std.specs.List.{list_all, list_any};
@@ -20,15 +20,15 @@ ghost use Rattle.vx_schemes.specs.BitPacking.Tree.{is_negative, has_negative, bi
 ghost use Rattle.vx_schemes.specs.Widths.{best_width_of};
 
 use crate::patches::compress_patches;
-use crate::whole::whole_tree;
 use std::alloc::Global;
 use vx_array::{ArrayRef, Patches};
 use vx_base::{ExecutionCtx, IntList, Mask, Nullability, VortexResult};
 use vx_blocks::best_width;
+use vx_schemes_common::{mask_of, whole_tree};
 use vx_values::Ints;
 
-/// A plain column of integers of which none is negative, packed at the width of least cost, with the values that are
-/// wider as patches. None where that width is the type's.
+/// A plain column of integers, none negative, packed at the width of least cost, wider values as patches. None where
+/// that width is the type's, since packing gains nothing then.
 #[tactic(auto, using(vx_model::proofs::PrimitiveLemmas::plain_roots))]
 pub(crate) fn bit_packing_tree(
     plain: &ArrayRef,
@@ -47,17 +47,7 @@ pub(crate) fn bit_packing_tree(
     packing(values, valid, has_null, nullability, ctx)
 }
 
-/// The validity with a bit for each row.
-pub fn mask_of(alloc: Global, valid: &Option<Mask>, len: u64) -> VortexResult<Mask>
-    ensures { Answers result (unwrap_or valid.now (replicate len true)) }
-{
-    match valid {
-        Some(valid) => valid.copy(alloc),
-        None => Ok(Mask::from_bits(vec![in alloc; true; len as usize]?)),
-    }
-}
-
-// The same of integers and their validity, which has a false only where some row is null.
+// The packed tree of integers and their validity bitmap. `has_null` is false only where every bit is true.
 fn packing(
     values: &Ints,
     valid: Mask,
@@ -82,7 +72,7 @@ fn packing(
     Ok(Some(tree))
 }
 
-// The width of least cost, and whether some row is wider.
+// The width of least cost, and whether some value is wider.
 fn best_width_of(
     alloc: Global,
     values: &Ints,
@@ -103,7 +93,7 @@ fn best_width_of(
     Ok((width, wider))
 }
 
-// How many rows have each number of digits, without a look at the bits where no row is null.
+// The histogram of bit widths. Without nulls the validity bitmap isn't read.
 fn widths(alloc: Global, values: &Ints, valid: &Mask, has_null: bool) -> VortexResult<Vec<u64>>
     requires same { length valid.now ≡ length (wholes_of values.now) }
     requires no_null { has_null ≡ false → valid.now ≡ replicate (length (wholes_of values.now)) true }
@@ -117,7 +107,7 @@ fn widths(alloc: Global, values: &Ints, valid: &Mask, has_null: bool) -> VortexR
     }
 }
 
-/// Whether a histogram counts some row above a width.
+/// Whether the histogram counts a row wider than `width`.
 pub(crate) fn counts_above(counts: &[u64], width: u32) -> bool
     requires { width < length counts.now }
     ensures { result ≡ list_any (λ count. not (count == 0)) (drop (width + 1) counts.now) }
@@ -131,7 +121,7 @@ fn some_counted(counts: &[u64]) -> bool
     counts.iter().any(|count| *count != 0)
 }
 
-// The rows packed at a width, and those that are wider as patches.
+// The rows packed at `width`, and the wider ones as patches.
 fn packed_tree(
     values: &Ints,
     valid: Mask,
@@ -168,7 +158,7 @@ fn packed_tree(
     }
 }
 
-// The bits, or none where each is true: a tree without nulls needn't look at them.
+// The validity bitmap; None without nulls, so that the constructor needn't scan it.
 fn validity(valid: Mask, has_null: bool) -> Option<Mask>
     requires { has_null ≡ false → list_all (λ bit. bit) valid ≡ true }
     ensures kept { kept result ≡ kept (Some valid) }
@@ -178,7 +168,7 @@ fn validity(valid: Mask, has_null: bool) -> Option<Mask>
     if has_null { Some(valid) } else { None }
 }
 
-// The rows that are wider than a width as patches in their short form, where there are such rows.
+// The rows wider than `width` as compressed patches; None where there are none.
 fn wide_patches(
     values: &Ints,
     valid: &Mask,
@@ -199,7 +189,7 @@ fn wide_patches(
     patches_of(values, wide, ctx)
 }
 
-// The values of some rows as patches in their short form, where there are such rows.
+// The values of `rows` as compressed patches; None where there are no rows.
 fn patches_of(
     values: &Ints,
     rows: IntList<u64>,
@@ -216,7 +206,7 @@ fn patches_of(
     Ok(Some(compress_patches(&patches, ctx)?))
 }
 
-// The values of some rows, as patches.
+// The values of `rows` as patches.
 fn patches_at(alloc: Global, values: &Ints, rows: IntList<u64>) -> VortexResult<Patches>
     requires { ascend 0 (length (wholes_of values.now)) (map int (map pos rows)) ≡ true }
     ensures { Answers result (patches_at (ptype_of values.now) (wholes_of values.now) rows) }

@@ -1,4 +1,4 @@
-//! The codes of a dictionary of integers: for each row the place of its value among the distinct ones.
+//! The codes of a dictionary of integers: for each row the place of its value among the distinct values.
 
 ghost use Rattle.std.specs.Prelude.{◌≡◌, ◌<◌, ◌≤◌, ◌^◌, length, map, true, pos, if◌then◌else◌};
 ghost use Rattle.std.specs.List.Sorted.{IsStrictlySortedBy};

@@ -11,7 +11,7 @@ use vx_base::{IntList, Integer, VortexResult};
 use vx_scheme::{ErasedStats, IntegerStats, TypedStats};
 use vx_values::Ints;
 
-// Values without their counts.
+// The values without their counts.
 fn uncounted<T: Integer>(alloc: Global, counts: &[(T, u32)]) -> VortexResult<IntList<T>>
     ensures { OrMemory result (λ values. map T.whole values ≡ map (λ c. c.0) (whole_counts T.whole counts.now)) }
 {
@@ -23,7 +23,7 @@ fn uncounted<T: Integer>(alloc: Global, counts: &[(T, u32)]) -> VortexResult<Int
     Ok(IntList::from_vec(values))
 }
 
-// The distinct values, where they are told.
+// The distinct values; an empty list where the statistics don't have them.
 fn distinct_list<T: Integer>(alloc: Global, stats: &TypedStats<T>) -> VortexResult<IntList<T>>
     ensures { OrMemory result (λ values. IfSome stats.now.distinct (λ counts. map T.whole values ≡ map (λ c. c.0) counts)) }
 {
@@ -41,7 +41,7 @@ macro_rules! distinct_by_type {
     };
 }
 
-// The same of statistics of any type.
+// The distinct values of statistics of any integer type.
 fn erased_ints(alloc: Global, stats: &ErasedStats) -> VortexResult<Ints>
     ensures ptype { OrMemory result (λ ints. ptype_of ints ≡ ptype_in stats.now) }
     ensures values { OrMemory result (λ ints. IfSome (distinct_of stats.now) (λ counts. wholes_of ints ≡ map (λ c. c.0) counts)) }
@@ -49,7 +49,7 @@ fn erased_ints(alloc: Global, stats: &ErasedStats) -> VortexResult<Ints>
     distinct_by_type!(alloc, stats; U8, U16, U32, U64, I8, I16, I32, I64)
 }
 
-/// The distinct values, ascending, where they are told: fewer than 2^32.
+/// The distinct values, ascending, fewer than 2^32; an empty list where the statistics don't have them.
 pub(crate) fn distinct_ints(alloc: Global, stats: &IntegerStats) -> VortexResult<Ints>
     ensures ptype { OrMemory result (λ ints. ptype_of ints ≡ stats.now.ptype) }
     ensures values { OrMemory result (λ ints. IfSome stats.now.distinct (λ counts. wholes_of ints ≡ map (λ c. c.0) counts)) }

@@ -1,4 +1,4 @@
-//! Dictionaries of integers, made of a column and its statistics.
+//! Dictionary encoding of a column of integers.
 
 ghost use Rattle.std.specs.Prelude.{◌≡◌, ◌<◌, ◌^◌, length, IsTrue};
 ghost use Rattle.vx_values.specs.IntsOf.{ptype_of, wholes_of};
@@ -19,10 +19,9 @@ use vx_base::{ExecutionCtx, VortexResult};
 use vx_scheme::IntegerStats;
 use vx_values::Ints;
 
-/// A column of integers as places among its distinct values: a Dict over the values, ascending and of the column's
-/// type, with a code for each row in the narrowest unsigned type, null where the row is. The statistics are the
-/// column's, with its distinct values. A tree that isn't plain is decoded first. Refuses NoMemory alone. The context
-/// stays as it was.
+/// Dictionary-encodes a column of integers: a Dict over the distinct values, ascending and of the column's type, with a
+/// code for each row in the narrowest unsigned type, null where the row is. `stats` are the column's, with distinct
+/// values. A tree that isn't plain is decoded first. The only error is NoMemory.
 pub fn integer_dictionary_encode(
     array: &ArrayRef,
     stats: &IntegerStats,
@@ -40,7 +39,7 @@ pub fn integer_dictionary_encode(
     encoded(ctx.alloc(), array, values)
 }
 
-// A column over its distinct values.
+// The dictionary of a column, given its distinct values.
 fn encoded(alloc: Global, array: &ArrayRef, values: Ints) -> VortexResult<ArrayRef>
     requires integer { IsTrue (is_integer (tree_type array.now)) }
     requires ptype { ptype_of values ≡ integer_of (tree_type array.now) }
@@ -56,7 +55,7 @@ fn encoded(alloc: Global, array: &ArrayRef, values: Ints) -> VortexResult<ArrayR
     }
 }
 
-// The same of a plain tree.
+// The dictionary of a plain column, given its distinct values.
 fn plain_encoded(alloc: Global, array: &ArrayRef, values: Ints) -> VortexResult<ArrayRef>
     requires plain { IsPlain array.now }
     requires integer { IsTrue (is_integer (tree_type array.now)) }

@@ -1,13 +1,14 @@
-//! What a dictionary of integers is expected to gain.
+//! The estimate of a dictionary of integers.
 
 ghost use Rattle.std.specs.Prelude.{◌≡◌, ◌<◌, ◌≤◌, ◌^◌, IfSome, length};
 ghost use Rattle.vx_schemes.specs.Dictionary.Meaning.{code_bits, dictionary_verdict};
 
-use crate::widths::digits;
 use vx_base::Fraction;
 use vx_scheme::{EstimateVerdict, IntegerStats};
+use vx_schemes_common::digits;
 
-// The bits of codes of so many digits: one for each value, or with 32 bits more one for each run.
+// The bits of the codes, `width` bits each: a code a value, or a code and an end of 32 bits a run, whichever is less. The
+// codes are compressed in turn, by runs too.
 fn code_bits(width: u32, values: u32, run_length: u32) -> u64
     requires width { width ≤ 64 }
     requires run_length { 0 < run_length }
@@ -20,7 +21,7 @@ fn code_bits(width: u32, values: u32, run_length: u32) -> u64
     each_value.min(each_run)
 }
 
-// The bits of the values to those of the distinct ones and of the codes.
+// bits(values) / (bits(distinct values) + bits(codes)); Skip where more than half of the values are distinct.
 fn verdict(bits: u32, values: u32, distinct: u32, run_length: u32) -> EstimateVerdict
     requires bits { bits ≤ 64 }
     requires run_length { 0 < values → 0 < run_length }
@@ -38,7 +39,7 @@ fn verdict(bits: u32, values: u32, distinct: u32, run_length: u32) -> EstimateVe
     EstimateVerdict::Ratio(Fraction::new(plain, coded))
 }
 
-/// The verdict by the statistics, which have distinct values.
+/// The verdict from statistics with distinct values.
 pub(crate) fn verdict_by(stats: &IntegerStats, bits: u32) -> EstimateVerdict
     requires bits { bits ≤ 64 }
     requires run_length { 0 < stats.now.value_count → 0 < stats.now.average_run_length }

@@ -15,13 +15,13 @@ ghost use Rattle.vx_stats.specs.Stats.{distinct_values};
 ghost use Rattle.vx_schemes.specs.Dictionary.Tree.{code_in, code_type, dictionary_values, dictionary_codes};
 
 use super::codes::narrowed_codes;
-use crate::whole::whole_tree;
 use std::alloc::Global;
 use vx_array::ArrayRef;
 use vx_base::{Mask, VortexResult};
+use vx_schemes_common::whole_tree;
 use vx_values::Ints;
 
-// The arm of one type; the values are of the same.
+// The arm of one type; items and values are of the same type.
 macro_rules! codes_of_type {
     ($alloc:expr, $items:expr, $valid:expr, $values:expr, $kind:ident) => {
         match $values {
@@ -41,7 +41,7 @@ macro_rules! codes_by_type {
     };
 }
 
-// The code of each valid row among the distinct values, 0 where a row isn't valid, in the narrowest unsigned type.
+// The code of each valid row among the distinct values, 0 beneath nulls, in the narrowest unsigned type.
 fn codes_of_ints(
     alloc: Global,
     items: &Ints,
@@ -100,7 +100,7 @@ pub(crate) fn values_and_codes(
     Ok((values, codes))
 }
 
-/// The codes over the values, each code null or a place of a value.
+/// The Dict of the codes over the values. Each code is null or in bounds of the values.
 pub fn dictionary_tree(alloc: Global, codes: ArrayRef, values: ArrayRef) -> VortexResult<ArrayRef>
     requires { dict_refusal codes values ≡ None }
     ensures { Answers result (dict codes values) }

@@ -1,4 +1,4 @@
-//! Differences packed as they are made, by blocks of 1,024 rows.
+//! Differences packed block by block as they are made, without a column of them.
 
 ghost use Rattle.std.specs.Prelude.{◌≡◌, ◌≤◌, ◌+◌, ◌^◌, ◌==◌, IfSome, IsTrue, drop, false, length, sum};
 ghost use Rattle.vx_base.specs.Answers.{OrMemory};
@@ -19,7 +19,7 @@ use vx_blocks::best_width;
 use vx_values::copy_validity;
 
 /// The differences of a plain column from a reference, packed at the width of least cost. None where that width is the
-/// type's, or where some difference is wider: then they are needed as a column.
+/// type's, or where some difference is wider: both need the differences as a column.
 #[tactic(auto, using(vx_model::proofs::PrimitiveLemmas::plain_roots))]
 pub(super) fn packed_at_once(
     alloc: Global,
@@ -39,7 +39,7 @@ pub(super) fn packed_at_once(
         return Ok(None);
     };
     let packed = values.pack_differences(alloc, reference, valid, width)?;
-    let valid = copy_validity(valid, alloc)?;
+    let valid = copy_validity(alloc, valid)?;
     let len = values.len();
     match ArrayRef::bit_packed(alloc, ptype, width, packed, len, valid, None, nullability) {
         Ok(tree) => Ok(Some(tree)),

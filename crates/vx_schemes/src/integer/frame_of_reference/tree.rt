@@ -1,4 +1,4 @@
-//! Integers as differences from a reference.
+//! The frame-of-reference tree of a plain column of integers.
 
 ghost use Rattle.std.specs.Prelude.{◌≡◌, ◌≤◌, ◌^◌, false, length, IsTrue};
 ghost use Rattle.vx_base.specs.Answers.{Answers};
@@ -23,8 +23,8 @@ use std::alloc::Global;
 use vx_array::ArrayRef;
 use vx_base::{ExecutionCtx, Nullability, PType, Scalar, VortexResult};
 
-/// A plain column of integers as differences from its least value, bit packed, or plain where bit packing makes nothing
-/// of them. None where there is no least value, since every row is null.
+/// A plain column of integers as differences from its least value, bit packed, or plain where bit packing keeps them.
+/// None where every row is null, so that there is no least value.
 pub(crate) fn frame_of_reference_tree(
     array: &ArrayRef,
     least: Option<i128>,
@@ -45,8 +45,8 @@ pub(crate) fn frame_of_reference_tree(
     Ok(Some(framed(ctx.alloc(), encoded, array.dtype().ptype(), reference)?))
 }
 
-// The differences from a reference bit packed, or plain where bit packing makes nothing of them. Most are packed as they
-// are made; the others are a column first.
+// The differences from a reference, bit packed, or plain where bit packing keeps them. Most are packed as they are made;
+// those with patches become a column first.
 fn encoded_differences(
     array: &ArrayRef,
     reference: i128,
@@ -67,7 +67,7 @@ fn encoded_differences(
     packed_or_plain(differences, ctx)
 }
 
-// The differences bit packed, or as they are where bit packing makes nothing of them.
+// The differences bit packed, or plain where bit packing keeps them.
 fn packed_or_plain(array: ArrayRef, ctx: &mut ExecutionCtx) -> VortexResult<ArrayRef>
     requires plain { IsPlain array }
     requires integer { IsTrue (is_integer (tree_type array)) }
@@ -82,7 +82,7 @@ fn packed_or_plain(array: ArrayRef, ctx: &mut ExecutionCtx) -> VortexResult<Arra
     }
 }
 
-/// A tree of differences under their reference, which is of the type that the rows get.
+/// The FoR over a tree of differences. The reference is of the type of the rows, `ptype`.
 pub fn framed(
     alloc: Global,
     encoded: ArrayRef,
@@ -100,8 +100,8 @@ pub fn framed(
     }
 }
 
-/// A plain column of integers less a reference of its type, row by row, as a plain tree of the unsigned type of its width.
-/// A null stays, and the differences wrap.
+/// Row - reference, wrapping, for each row of a plain column of integers, as a plain tree of the unsigned type of the same
+/// width. Nulls stay. The reference is of the column's type.
 #[tactic(auto, using(vx_model::proofs::PrimitiveLemmas::plain_roots))]
 pub fn differences(alloc: Global, array: &ArrayRef, reference: i128) -> VortexResult<ArrayRef>
     requires plain { IsPlain array.now }

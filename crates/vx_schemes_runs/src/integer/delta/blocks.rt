@@ -1,4 +1,4 @@
-//! The bases and the differences of a plain column of integers, and the tree over theirs.
+//! The bases and the differences of a plain column of integers, and the Delta over the trees of both.
 
 ghost use Rattle.std.specs.Prelude.{◌≡◌, [], ◌∷◌, length, IsTrue, None};
 ghost use Rattle.vx_base.specs.Answers.{Answers, OrMemory};
@@ -13,17 +13,17 @@ ghost use Rattle.vx_model.specs.TreeType.{tree_type};
 ghost use Rattle.vx_scheme.specs.Asked.{FitParts};
 ghost use Rattle.vx_scheme.specs.Meaning.{parts, split_of};
 ghost use Rattle.vx_values.specs.IntsOf.{ptype_of, wholes_of};
-ghost use Rattle.vx_schemes.specs.Pairs.{pair_of};
+ghost use Rattle.vx_schemes_common.specs.Pairs.{pair_of};
 ghost use Rattle.vx_schemes_runs.specs.Delta.Tree.{filled_rows, differences_of, delta_bases, delta_differences, delta_or_plain};
 
 use std::alloc::Global;
 use vx_array::{ArrayRef, Arrays};
 use vx_base::{Nullability, VortexResult};
 use vx_scheme::Split;
-use vx_schemes::{mask_of, pair_of, two_parts, whole_tree};
+use vx_schemes_common::{mask_of, pair_of, two_parts, whole_tree};
 use vx_values::{Ints, copy_validity};
 
-// The bases and the differences of the rows of a plain column of integers.
+// The bases and the differences of a plain column of integers, where a null has the value before it.
 #[tactic(auto, using(vx_model::proofs::PrimitiveLemmas::plain_roots))]
 fn delta_blocks(alloc: Global, array: &ArrayRef) -> VortexResult<(Ints, Ints)>
     requires plain { IsPlain array.now }
@@ -48,7 +48,7 @@ pub(crate) fn delta_parts(alloc: Global, array: &ArrayRef) -> VortexResult<Split
     two_parts(alloc, bases, differences)
 }
 
-/// The sums over the two parts' trees, null where the column is; without two the column stays plain.
+/// The Delta over the trees of the two parts, null where the column is; the column stays plain unless there are two.
 pub(crate) fn delta_joined(alloc: Global, array: &ArrayRef, trees: Arrays) -> VortexResult<ArrayRef>
     requires plain { IsPlain array.now }
     requires integer { IsTrue (is_integer (tree_type array.now)) }
@@ -62,7 +62,7 @@ pub(crate) fn delta_joined(alloc: Global, array: &ArrayRef, trees: Arrays) -> Vo
     }
 }
 
-// The same of the two.
+// The Delta over bases and differences, null where the column is.
 #[tactic(auto, using(vx_model::proofs::PrimitiveLemmas::plain_roots))]
 fn summed(
     alloc: Global,
@@ -76,7 +76,7 @@ fn summed(
     ensures { Answers result (delta bases differences (length (rows array.now)) (validity (rows array.now)) (nullability_of (tree_type array.now))) }
 {
     let (_, valid, nullability) = array.as_primitive();
-    let valid = copy_validity(valid, alloc)?;
+    let valid = copy_validity(alloc, valid)?;
     match ArrayRef::delta(alloc, bases, differences, array.len(), valid, nullability) {
         Ok(tree) => Ok(tree),
         Err(refused) => Err(refused.error),

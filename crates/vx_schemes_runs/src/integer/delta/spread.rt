@@ -1,4 +1,4 @@
-//! How far the differences from row to row lie apart.
+//! The spread of the differences from row to row: the greatest less the least.
 
 ghost use Rattle.std.specs.Prelude.{◌≡◌, ◌≤ℤ◌, ◌-ℤ◌, IsTrue, length, map, pos};
 ghost use Rattle.vx_base.specs.Answers.{Answers};
@@ -15,12 +15,12 @@ ghost use Rattle.vx_schemes_runs.specs.Delta.Tree.{differences_of};
 use std::alloc::Global;
 use vx_array::ArrayRef;
 use vx_base::{Integer, Mask, VortexResult};
-use vx_blocks::{difference, greater, item_or, lesser};
-use vx_schemes::mask_of;
+use vx_blocks::{BLOCK_ROWS, difference, greater, item_or, lesser};
+use vx_schemes_common::mask_of;
 use vx_values::Ints;
 
-/// The greatest of the differences of a plain column of integers less the least, in one pass that makes none of them; None
-/// where that is more than so much. A block isn't looked at where the differences before it lie so far apart already.
+/// The spread of the differences of a plain column of integers, in one pass that stores none of them; None where it is
+/// above `most`, which is tested before each block, so that a column of wide differences is soon given up.
 #[tactic(auto, using(vx_model::proofs::PrimitiveLemmas::plain_roots))]
 pub(crate) fn spread_of_differences(
     alloc: Global,
@@ -44,7 +44,7 @@ macro_rules! spread_by_type {
     };
 }
 
-// The same of integers and a truth value for each.
+// The spread of the differences of integers and a validity bit for each.
 fn spread_of_ints(ints: &Ints, valid: &Mask, most: u64) -> Option<u64>
     requires { length valid.now ≡ length (wholes_of ints.now) }
     ensures { result ≡ spread_within most (deltas (ptype_of ints.now) (filled (optional_rows (wholes_of ints.now) valid.now))) }
@@ -53,8 +53,8 @@ fn spread_of_ints(ints: &Ints, valid: &Mask, most: u64) -> Option<u64>
     spread_by_type!(ints, bits, most; U8, U16, U32, U64, I8, I16, I32, I64)
 }
 
-// The same of a list of one type. At a block's first row the difference is 0, which changes neither the least nor the
-// greatest.
+// The spread of the differences of a list of one type. At a block's first row the difference is 0, which is where the
+// least and the greatest start.
 fn spread_of<T: Integer>(items: &[T], bits: &[bool], most: u64) -> Option<u64>
     requires { length bits.now ≡ length items.now }
     ensures { result ≡ spread_within most (deltas T.kind (filled (optional_rows (map T.whole items.now) bits.now))) }
@@ -63,7 +63,7 @@ fn spread_of<T: Integer>(items: &[T], bits: &[bool], most: u64) -> Option<u64>
     let (mut last, mut least, mut greatest) = (zero, zero, zero);
     for row in 0..items.len() {
         let item = item_or(bits[row], items[row], last);
-        if row % 1024 != 0 {
+        if row % BLOCK_ROWS != 0 {
             let step = difference(item, last);
             least = lesser(least, step);
             greatest = greater(greatest, step);
@@ -76,7 +76,7 @@ fn spread_of<T: Integer>(items: &[T], bits: &[bool], most: u64) -> Option<u64>
     if span > most { None } else { Some(span) }
 }
 
-// A number less another that is no greater.
+// greatest - least.
 fn apart<T: Integer>(least: T, greatest: T) -> u64
     requires { T.whole least ≤ℤ T.whole greatest }
     ensures { pos result ≡ T.whole greatest -ℤ T.whole least }

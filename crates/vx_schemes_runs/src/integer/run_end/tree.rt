@@ -1,4 +1,4 @@
-//! The parts of a column by the ends of its runs, and the tree over them.
+//! The parts of a column by the ends of its runs, and the RunEnd over their trees.
 
 ghost use Rattle.std.specs.Prelude.{◌≡◌, ◌≤◌, ◌-◌, IsTrue, None, length, map};
 ghost use Rattle.vx_base.specs.Answers.{Answers, OrMemory};
@@ -16,7 +16,7 @@ use crate::integer::runs::{bits_of, rows_at};
 use std::alloc::Global;
 use vx_array::ArrayRef;
 use vx_base::{Mask, VortexResult, Words};
-use vx_schemes::narrowed_rising;
+use vx_schemes_common::narrowed_rising;
 
 /// The values of the runs of a plain column of integers, and their ends.
 pub(crate) fn values_and_ends(alloc: Global, array: &ArrayRef) -> VortexResult<(ArrayRef, ArrayRef)>
@@ -33,7 +33,7 @@ pub(crate) fn values_and_ends(alloc: Global, array: &ArrayRef) -> VortexResult<(
     Ok((values, narrowed_rising(alloc, ends)?))
 }
 
-// Where the runs end.
+// The end of each run, exclusive.
 #[tactic(auto, using(vx_model::proofs::PrimitiveLemmas::plain_roots))]
 fn ends_of(alloc: Global, array: &ArrayRef, valid: &Mask) -> VortexResult<Words>
     requires plain { IsPlain array.now }
@@ -45,7 +45,7 @@ fn ends_of(alloc: Global, array: &ArrayRef, valid: &Mask) -> VortexResult<Words>
     values.runs(alloc, valid)
 }
 
-// The row before each end.
+// The last row of each run.
 fn lasts(alloc: Global, ends: &[u64]) -> VortexResult<Words>
     ensures { OrMemory result (λ lasts. lasts ≡ map (λ end. end - 1) ends.now) }
 {
@@ -56,7 +56,7 @@ fn lasts(alloc: Global, ends: &[u64]) -> VortexResult<Words>
     Ok(Words::from_vec(lasts))
 }
 
-/// Runs of values that end where the ends tell.
+/// The RunEnd of values over ends.
 pub(crate) fn runs_tree(alloc: Global, ends: ArrayRef, values: ArrayRef) -> VortexResult<ArrayRef>
     requires { run_end_refusal ends values ≡ None }
     ensures { Answers result (run_end ends values) }

@@ -1,4 +1,4 @@
-//! The parts of a column by its runs in blocks, and the tree over them.
+//! The parts of a column by its runs in blocks, and the Rle over their trees.
 
 ghost use Rattle.std.specs.Prelude.{◌≡◌, IsTrue, None};
 ghost use Rattle.vx_base.specs.Answers.{Answers, OrMemory};
@@ -18,9 +18,9 @@ use std::alloc::Global;
 use vx_array::ArrayRef;
 use vx_base::{Mask, VortexResult};
 use vx_blocks::BlockRuns;
-use vx_schemes::narrowed_numbers;
+use vx_schemes_common::narrowed_numbers;
 
-/// The values of the runs of a plain column of integers, the numbers of its rows and the offsets of its blocks.
+/// The value of each run of a plain column of integers, the run number of each row and the offset of each block.
 pub(crate) fn values_numbers_offsets(
     alloc: Global,
     array: &ArrayRef,
@@ -43,7 +43,7 @@ pub(crate) fn values_numbers_offsets(
     Ok((values, numbers, offsets))
 }
 
-// The runs.
+// The runs of the column by blocks.
 #[tactic(auto, using(vx_model::proofs::PrimitiveLemmas::plain_roots))]
 fn runs_of(alloc: Global, array: &ArrayRef, valid: &Mask) -> VortexResult<BlockRuns>
     requires plain { IsPlain array.now }
@@ -57,8 +57,8 @@ fn runs_of(alloc: Global, array: &ArrayRef, valid: &Mask) -> VortexResult<BlockR
     values.block_runs(alloc, valid)
 }
 
-/// So many rows, each the value of its block's offset and its own number.
-pub(crate) fn blocks_tree(
+/// The Rle of `len` rows: row i is the value at offsets[i / 1024] + numbers[i].
+pub(crate) fn rle_tree(
     alloc: Global,
     values: ArrayRef,
     numbers: ArrayRef,

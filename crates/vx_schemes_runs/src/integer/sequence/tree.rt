@@ -1,4 +1,4 @@
-//! The sequence that a plain column of integers is.
+//! The arithmetic sequence in a plain column of integers.
 
 ghost use Rattle.std.specs.Prelude.{◌≡◌, IsTrue};
 ghost use Rattle.std.specs.List.{list_any};
@@ -25,7 +25,8 @@ pub(crate) fn has_null(array: &ArrayRef) -> bool
     valid.is_some()
 }
 
-/// First and step of a plain column of integers that is a sequence; None of one with a null and of any other.
+/// The first value and the step of a plain column of integers that is an arithmetic sequence; None of one with a null, and
+/// of any other.
 #[tactic(auto, using(vx_model::proofs::PrimitiveLemmas::plain_roots))]
 pub(crate) fn sequence_in(array: &ArrayRef) -> Option<(i128, i128)>
     requires plain { IsPlain array.now }
@@ -39,7 +40,7 @@ pub(crate) fn sequence_in(array: &ArrayRef) -> Option<(i128, i128)>
     values.sequence()
 }
 
-/// The sequence that a plain column of integers is, or nothing.
+/// The Sequence of a plain column of integers; None where it is no arithmetic sequence.
 pub(crate) fn sequence_made(array: &ArrayRef) -> VortexResult<Option<ArrayRef>>
     requires plain { IsPlain array.now }
     requires integer { IsTrue (is_integer (tree_type array.now)) }

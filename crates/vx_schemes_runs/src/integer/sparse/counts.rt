@@ -1,4 +1,4 @@
-//! How many rows of a column are null, how many aren't, and which value most of them have.
+//! Counts of a column's nulls and values, and its most frequent value.
 
 ghost use Rattle.std.specs.Prelude.{◌≡◌, ◌<◌, ◌≤◌, ◌==◌, ◌*◌, ◌&&◌, ◌||◌, IsTrue, None, Some, if◌then◌else◌, length, nat_le, nat_lt, true};
 ghost use Rattle.vx_base.specs.Answers.{Answers};
@@ -12,7 +12,7 @@ ghost use Rattle.vx_stats.specs.Stats.{null_count, value_count, average_run_leng
 use vx_base::{ExecutionCtx, VortexResult};
 use vx_scheme::ArrayAndStats;
 
-/// How many rows of a column are null, how many aren't, and how many of these a run has on average.
+/// The nulls and the values of a column, and its average run length.
 #[derive(Clone, Copy)]
 pub(crate) struct Counts {
     pub(crate) nulls: u64,
@@ -20,7 +20,7 @@ pub(crate) struct Counts {
     run_length: u32,
 }
 
-/// Those of a column.
+/// The counts of a column.
 pub(crate) fn counts_of(column: &mut ArrayAndStats) -> VortexResult<Counts>
     requires integer { IsTrue (is_integer (tree_type column.old.array)) }
     requires few { length (rows column.old.array) ≤ most_rows }
@@ -36,9 +36,9 @@ pub(crate) fn counts_of(column: &mut ArrayAndStats) -> VortexResult<Counts>
 }
 
 impl Counts {
-    /// Whether the verdict on so many rows needs no vote: more than nine of ten are null, or the runs are too short for
-    /// a value in nine of ten valid rows. Such a value stands between the others, one of ten, and so leaves at most two
-    /// runs for each of them and one more: four values a run, where there are twenty.
+    /// Whether the verdict on `rows` rows needs no vote: more than 9 of 10 are null, or the runs are too short for a value
+    /// in 9 of 10 of v valid rows. The v / 10 others cut it into runs: at most 2 * (v / 10) + 1 of them together, so the
+    /// average run has 4 values or more where v >= 20.
     pub(crate) fn need_no_vote(self, rows: u64) -> bool
         requires rows { rows ≤ most_rows }
         requires nulls { self.nulls ≤ rows }
@@ -48,16 +48,20 @@ impl Counts {
     }
 }
 
-/// Whether more than nine of ten rows are null.
+/// A fill stands in 9 tenths of the rows at least: below that its patches, a value and a row number each, eat up what it
+/// saves.
+pub(crate) const FILL_TENTHS: u64 = 9;
+
+/// Whether more than 9 of 10 rows are null.
 pub(crate) fn is_mostly_null(rows: u64, nulls: u64) -> bool
     requires rows { rows ≤ most_rows }
     requires nulls { nulls ≤ rows }
     ensures { result ≡ nat_lt (9 * rows) (10 * nulls) }
 {
-    9 * rows < 10 * nulls
+    FILL_TENTHS * rows < 10 * nulls
 }
 
-/// How many rows of a column are null and how many aren't, its most frequent value and how often that occurs.
+/// The nulls and the values of a column, its most frequent value and how often that occurs.
 #[derive(Clone, Copy)]
 pub(crate) struct Frequent {
     nulls: u64,
@@ -66,7 +70,7 @@ pub(crate) struct Frequent {
     often: u64,
 }
 
-/// Those of a column with rows.
+/// The counts of a column with rows.
 pub(crate) fn frequent_of(
     column: &mut ArrayAndStats,
     ctx: &mut ExecutionCtx,
@@ -92,7 +96,7 @@ pub(crate) fn frequent_of(
 }
 
 impl Frequent {
-    /// What stands in most of so many rows: null, where there is no integer, or the most frequent value.
+    /// The fill of a column of `rows` rows: null (None) where more than 9 of 10 are null, else the most frequent value.
     pub(crate) fn fill(self, rows: u64) -> Option<i128>
         requires rows { rows ≤ most_rows }
         requires nulls { self.nulls ≤ rows }
@@ -105,7 +109,8 @@ impl Frequent {
         }
     }
 
-    /// The one value in all of so many rows, if they share one: null, where there is no integer, or the most frequent.
+    /// The value that all of `rows` rows share: null (`Some(None)`) where there is no value, or the most frequent value
+    /// where it stands in every row; None where rows differ.
     pub(crate) fn shared(self, rows: u64) -> Option<Option<i128>>
         ensures { result ≡ (if self.values == 0 then Some None else (if self.often == rows then Some (Some self.value) else None)) }
     {

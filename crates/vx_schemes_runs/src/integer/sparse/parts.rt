@@ -1,4 +1,4 @@
-//! What the scheme of sparse values splits a column into, and what it joins.
+//! The parts of a column as a fill with patches, and the Sparse over their trees.
 
 ghost use Rattle.std.specs.Prelude.{◌≡◌, ◌<◌, ◌≤◌, [], ◌∷◌, IsTrue, length, true};
 ghost use Rattle.vx_base.specs.Answers.{Answers};
@@ -14,7 +14,7 @@ ghost use Rattle.vx_scheme.specs.Asked.{most_rows, FitParts};
 ghost use Rattle.vx_scheme.specs.Meaning.{split_of};
 ghost use Rattle.vx_scheme.specs.declared.split.Split.TheVariants.{Finished, Parts};
 ghost use Rattle.vx_stats.specs.Stats.{null_count, value_count, most_frequent};
-ghost use Rattle.vx_schemes.specs.Pairs.{pair_of};
+ghost use Rattle.vx_schemes_common.specs.Pairs.{pair_of};
 ghost use Rattle.vx_schemes_runs.specs.Sparse.Meaning.{sparse_split};
 ghost use Rattle.vx_schemes_runs.specs.Sparse.Tree.{sparse_fill, sparse_indices, sparse_or_plain, sparse_values};
 
@@ -24,9 +24,9 @@ use std::alloc::Global;
 use vx_array::{ArrayRef, Arrays};
 use vx_base::VortexResult;
 use vx_scheme::Split;
-use vx_schemes::{pair_of, two_parts};
+use vx_schemes_common::{pair_of, two_parts};
 
-/// One value in every row, or the patched values as part 0 and their rows as part 1.
+/// A Constant where all rows share a value; else the patched values as part 0 and their rows as part 1.
 pub(crate) fn split_by(alloc: Global, array: &ArrayRef, frequent: Frequent) -> VortexResult<Split>
     requires plain { IsPlain array.now }
     requires integer { IsTrue (is_integer (tree_type array.now)) }
@@ -64,7 +64,7 @@ fn parts_by(alloc: Global, array: &ArrayRef, fill: Option<i128>) -> VortexResult
     two_parts(alloc, values, rows)
 }
 
-/// The trees of the parts over the fill.
+/// The Sparse over the trees of the parts, with the column's fill; the column stays plain unless there are two.
 pub(crate) fn joined_by(
     alloc: Global,
     array: &ArrayRef,

@@ -1,4 +1,4 @@
-//! What the scheme of sparse values expects of a column.
+//! The estimate of the sparse scheme.
 
 ghost use Rattle.std.specs.Prelude.{◌≡◌, ◌≤◌, IsTrue, length};
 ghost use Rattle.vx_base.specs.Answers.{Answers};
@@ -10,12 +10,13 @@ ghost use Rattle.vx_scheme.specs.Asked.{most_rows};
 ghost use Rattle.vx_scheme.specs.Bundle.{SameArray};
 ghost use Rattle.vx_schemes_runs.specs.Sparse.Meaning.{sparse_estimate, sparse_verdict};
 
-use super::counts::{counts_of, is_mostly_null};
+use super::counts::{FILL_TENTHS, counts_of, is_mostly_null};
 use super::vote::winner_count;
 use vx_base::{Fraction, VortexResult};
 use vx_scheme::{ArrayAndStats, EstimateVerdict};
 
-// The verdict by the counts.
+// rows / values where more than 9 of 10 rows are null; else values / (values - often), Skip below 9 of 10 values and where
+// all values are equal: a Constant is better.
 fn verdict(rows: u64, nulls: u64, values: u64, often: u64) -> EstimateVerdict
     requires rows { rows ≤ most_rows }
     requires nulls { nulls ≤ rows }
@@ -29,14 +30,15 @@ fn verdict(rows: u64, nulls: u64, values: u64, often: u64) -> EstimateVerdict
     if is_mostly_null(rows, nulls) {
         return EstimateVerdict::Ratio(Fraction::new(rows, values));
     }
-    if often == values || 10 * often < 9 * values {
+    if often == values || 10 * often < FILL_TENTHS * values {
         return EstimateVerdict::Skip;
     }
     EstimateVerdict::Ratio(Fraction::new(values, values - often))
 }
 
-/// The verdict on a column. It counts no distinct values: one that stands in nine of ten valid rows wins a vote among
-/// them, and where the winner stands in fewer, none does. Nor do they vote where the nulls or the runs decide.
+/// The verdict on a column, without counting its distinct values: a value in 9 of 10 valid rows has the majority and so
+/// wins a majority vote, and where the winner stands in fewer no value has as many. There is no vote where the nulls or the
+/// run lengths decide.
 pub(crate) fn judged(column: &mut ArrayAndStats) -> VortexResult<EstimateVerdict>
     requires integer { IsTrue (is_integer (tree_type column.old.array)) }
     requires few { length (rows column.old.array) ≤ most_rows }

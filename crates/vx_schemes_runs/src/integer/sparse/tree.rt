@@ -1,4 +1,4 @@
-//! The parts of a column as a fill with patches, and the trees over one value.
+//! The patched values of a column and their rows, and the trees with one value in most rows or in all.
 
 ghost use Rattle.std.specs.Prelude.{◌≡◌, ◌≤◌, IsTrue, length, true, ℤ, Some};
 ghost use Rattle.vx_base.specs.Answers.{Answers};
@@ -7,8 +7,8 @@ ghost use Rattle.vx_base.specs.PlainScalar.{fits, scalar};
 ghost use Rattle.vx_base.specs.PlainType.{is_integer, integer_of};
 ghost use Rattle.vx_base.specs.PlainValue.{cell};
 ghost use Rattle.vx_base.specs.TypeOf.{type_of};
-ghost use Rattle.vx_encode.specs.Filling.{filling_of, filled_over};
-ghost use Rattle.vx_encode.proofs.FillingLemmas.{ArePatches};
+ghost use Rattle.vx_sparse_array.specs.Filling.{filling_of, filled_over};
+ghost use Rattle.vx_sparse_array.proofs.FillingLemmas.{ArePatches};
 ghost use Rattle.vx_model.specs.Column.{column_of};
 ghost use Rattle.vx_model.specs.Plain.{IsPlain, plain};
 ghost use Rattle.vx_model.specs.Rows.{rows};
@@ -20,10 +20,10 @@ ghost use Rattle.vx_schemes_runs.specs.Sparse.Tree.{sparse_fill, sparse_values, 
 use std::alloc::Global;
 use vx_array::{ArrayRef, Patches};
 use vx_base::{Cell, DType, Scalar, VortexResult};
-use vx_encode::{patched_rows, rows_at};
-use vx_schemes::narrowed_rising;
+use vx_schemes_common::narrowed_rising;
+use vx_sparse_array::{patched_rows, rows_at};
 
-/// The values of a plain column that are patched, and their rows in the narrowest type, as plain trees.
+/// The rows of a plain column that differ from the fill: their values, and their numbers in the narrowest unsigned type.
 pub(crate) fn values_and_rows(
     alloc: Global,
     array: &ArrayRef,
@@ -42,7 +42,7 @@ pub(crate) fn values_and_rows(
     Ok((values, indices))
 }
 
-// An integer, or null, as one of a type that it fits.
+// An integer, or null, as a scalar of a type that it fits.
 fn scalar_of(alloc: Global, dtype: &DType, value: Option<i128>) -> VortexResult<Scalar>
     requires { fits (type_of dtype.now) (cell value) ≡ true }
     ensures { Answers result (scalar (type_of dtype.now) (cell value)) }
@@ -53,7 +53,7 @@ fn scalar_of(alloc: Global, dtype: &DType, value: Option<i128>) -> VortexResult<
     }
 }
 
-/// An integer, or null, in every row of a column.
+/// A Constant of an integer, or null, with the type and the rows of a column.
 pub(crate) fn one_value_tree(
     alloc: Global,
     array: &ArrayRef,
@@ -66,7 +66,7 @@ pub(crate) fn one_value_tree(
     Ok(ArrayRef::constant(value, array.len()))
 }
 
-/// An integer, or null, in every row of a column but the patched ones.
+/// A Sparse of an integer, or null, in every row of a column but the patched ones.
 pub(crate) fn sparse_tree(
     alloc: Global,
     array: &ArrayRef,

@@ -1,5 +1,5 @@
-//! How often the value stands in a column that more than half of its valid rows have: one vote finds it, and one pass
-//! counts it.
+//! How often the majority value of a column occurs, by the majority vote of Boyer and Moore: one pass finds the only
+//! candidate for a majority, and a second counts it.
 
 ghost use Rattle.std.specs.Prelude.{◌≡◌, ◌<◌, ◌≤◌, ◌+◌, ◌-◌, ◌^◌, length, map, true, IsTrue, if◌then◌else◌};
 ghost use Rattle.std.specs.Ordering.{int_eq};
@@ -19,7 +19,7 @@ use vx_array::ArrayRef;
 use vx_base::{Integer, Mask};
 use vx_values::Ints;
 
-// Who leads a vote, and by how many votes, after one more; a vote whose bit is false isn't counted.
+// The leader of a vote and its lead after one more vote; a vote whose bit is false isn't counted.
 #[inline(always)]
 fn voted<T: Integer>(leader: (T, u64), bit: bool, item: T) -> (T, u64)
     requires { leader.1 + 1 < 2 ^ 64 }
@@ -37,7 +37,7 @@ fn voted<T: Integer>(leader: (T, u64), bit: bool, item: T) -> (T, u64)
     }
 }
 
-// Who leads when all have voted.
+// The leader when all items have voted.
 fn winner_of_all<T: Integer>(items: &[T]) -> T
     ensures { T.whole result ≡ winner (map T.whole items.now) }
 {
@@ -48,7 +48,7 @@ fn winner_of_all<T: Integer>(items: &[T]) -> T
     leader.0
 }
 
-// Who leads when those have voted whose bit is true.
+// The leader when the items have voted whose bit is true.
 fn winner_of_valid<T: Integer>(items: &[T], bits: &[bool]) -> T
     requires { length bits.now ≡ length items.now }
     ensures { T.whole result ≡ winner (valid_wholes (masked_rows bits.now (map int (map T.whole items.now)))) }
@@ -69,7 +69,7 @@ fn share<T: Integer>(value: T, bit: bool, item: T) -> u64
     if bit && value == item { 1 } else { 0 }
 }
 
-// How often a value stands among items.
+// How often a value occurs among items.
 fn times_in_all<T: Integer>(value: T, items: &[T]) -> u64
     ensures { result ≡ times (map T.whole items.now) (T.whole value) }
 {
@@ -80,7 +80,7 @@ fn times_in_all<T: Integer>(value: T, items: &[T]) -> u64
     count
 }
 
-// How often it stands among those whose bit is true.
+// How often a value occurs among the items whose bit is true.
 fn times_in_valid<T: Integer>(value: T, items: &[T], bits: &[bool]) -> u64
     requires { length bits.now ≡ length items.now }
     ensures { result ≡ times (valid_wholes (masked_rows bits.now (map int (map T.whole items.now)))) (T.whole value) }
@@ -92,7 +92,7 @@ fn times_in_valid<T: Integer>(value: T, items: &[T], bits: &[bool]) -> u64
     count
 }
 
-// How often the winner among the valid rows stands there.
+// How often the winner among the valid rows occurs there.
 fn winner_count_of<T: Integer>(items: &[T], valid: &Option<Mask>) -> u64
     requires { validity_length valid.now (length items.now) ≡ true }
     ensures { result ≡ winner_count (valid_rows valid.now (map int (map T.whole items.now))) }
@@ -114,7 +114,7 @@ macro_rules! count_by_type {
     };
 }
 
-// The same of integers of any type.
+// How often the winner among the valid rows occurs there, of integers of any type.
 fn winner_count_of_ints(values: &Ints, valid: &Option<Mask>) -> u64
     requires { validity_length valid.now (length (wholes_of values.now)) ≡ true }
     ensures { result ≡ winner_count (valid_rows valid.now (map int (wholes_of values.now))) }
@@ -122,8 +122,8 @@ fn winner_count_of_ints(values: &Ints, valid: &Option<Mask>) -> u64
     count_by_type!(values, valid; U8, U16, U32, U64, I8, I16, I32, I64)
 }
 
-/// How often the winner of a vote among the valid rows of a plain column stands there. A value that more than half of
-/// them have wins.
+/// How often the winner of a majority vote among the valid rows of a plain column occurs there. A value that more than
+/// half of them have wins.
 #[tactic(auto, using(vx_model::proofs::PrimitiveLemmas::plain_roots))]
 pub(crate) fn winner_count(array: &ArrayRef) -> u64
     requires plain { IsPlain array.now }

@@ -1,45 +1,16 @@
-use Rattle.std.proofs.Common.{◌∙◌, ap, sym, refl, subst}
-use Rattle.vx_base.specs.Answers.{Answers}
-use Rattle.vx_base.specs.PlainType.{is_flat, nullability_of}
-use Rattle.vx_array.specs.AsType.{as_type}
-use Rattle.vx_array.proofs.Canonicals.{bool_of, view_of, ints_of}
+use Rattle.vx_model.specs.Column.{column_of}
+use Rattle.vx_model.proofs.MadeLemmas.{rows_fit}
+use Rattle.vx_array.proofs.MadePlain.{made-plain, made-kept}
 use Rattle.vx_array.proofs.array.ArrayRef.canonical.Goals as goal
 
-pub bool_of-requires : goal.bool_of-requires
-bool_of-requires c =
-    let d = c.in_ok-values.field-0 in
-    let nullability = c.nullability.ensures ∙ ap nullability_of c.dtype-dtype.ensures in
-    let flat = ap is_flat (sym c.dtype.ensures) ∙ sym c.is_flat.ensures ∙ c.if-not-is_flat.false in
-    (bool_of c.args.self.now d c.in-Bits.bits d.valid c.nullability.result c.known.ensures flat (sym c.in-Bits.is) refl nullability c.in_ok-values.ensures).admitted
+pub returns-then-is_flat-clause-kept : goal.returns-then-is_flat-clause-kept
+returns-then-is_flat-clause-kept c = made-kept (column_of c.args.self.now) c.canonical_flat.result (rows_fit c.args.self.now c.known.ensures) c.canonical_flat.ensures
 
-pub returns-in-Bits : goal.returns-in-Bits
-returns-in-Bits c =
-    let d = c.in_ok-values.field-0 in
-    let nullability = c.nullability.ensures ∙ ap nullability_of c.dtype-dtype.ensures in
-    let flat = ap is_flat (sym c.dtype.ensures) ∙ sym c.is_flat.ensures ∙ c.if-not-is_flat.false in
-    c.bool_of.ensures ∙ (bool_of c.args.self.now d c.in-Bits.bits d.valid c.nullability.result c.known.ensures flat (sym c.in-Bits.is) refl nullability c.in_ok-values.ensures).made
+pub returns-then-is_flat-clause-plain : goal.returns-then-is_flat-clause-plain
+returns-then-is_flat-clause-plain c = made-plain (column_of c.args.self.now) c.canonical_flat.result (rows_fit c.args.self.now c.known.ensures) c.canonical_flat.ensures
 
-pub primitive_of-integers-requires : goal.primitive_of-integers-requires
-primitive_of-integers-requires c =
-    let d = c.in_ok-values.field-0 in
-    let nullability = c.nullability-in-Ints.ensures ∙ ap nullability_of c.dtype-dtype.ensures in
-    (ints_of c.args.self.now d c.in-Ints.ints d.valid c.nullability-in-Ints.result c.known.ensures (sym c.in-Ints.is) refl nullability c.in_ok-values.ensures).admitted
+pub returns-else-is_flat-clause-kept : goal.returns-else-is_flat-clause-kept
+returns-else-is_flat-clause-kept c = made-kept (column_of c.args.self.now) c.canonical_nested.result (rows_fit c.args.self.now c.known.ensures) c.canonical_nested.ensures
 
-pub returns-in-Ints : goal.returns-in-Ints
-returns-in-Ints c =
-    let d = c.in_ok-values.field-0 in
-    let nullability = c.nullability-in-Ints.ensures ∙ ap nullability_of c.dtype-dtype.ensures in
-    let own = ints_of c.args.self.now d c.in-Ints.ints d.valid c.nullability-in-Ints.result c.known.ensures (sym c.in-Ints.is) refl nullability c.in_ok-values.ensures in
-    subst (λ tree. Answers c.as_type.result tree) ((λ i. as_type (c.dtype-dtype.ensures i) (c.primitive_of-integers.ensures i)) ∙ own.made) c.as_type.ensures
-
-pub view_of-requires : goal.view_of-requires
-view_of-requires c =
-    let d = c.in_ok-values.field-0 in
-    let typed = c.in_ok-copy-in-Bytes.ensures ∙ c.dtype-dtype.ensures in
-    (view_of c.args.self.now d c.in-Bytes.rows d.valid _ c.known.ensures (sym c.in-Bytes.is) refl typed c.in_ok-values.ensures).admitted
-
-pub returns-in_ok-copy-in-Bytes : goal.returns-in_ok-copy-in-Bytes
-returns-in_ok-copy-in-Bytes c =
-    let d = c.in_ok-values.field-0 in
-    let typed = c.in_ok-copy-in-Bytes.ensures ∙ c.dtype-dtype.ensures in
-    c.view_of.ensures ∙ (view_of c.args.self.now d c.in-Bytes.rows d.valid _ c.known.ensures (sym c.in-Bytes.is) refl typed c.in_ok-values.ensures).made
+pub returns-else-is_flat-clause-plain : goal.returns-else-is_flat-clause-plain
+returns-else-is_flat-clause-plain c = made-plain (column_of c.args.self.now) c.canonical_nested.result (rows_fit c.args.self.now c.known.ensures) c.canonical_nested.ensures

@@ -1,24 +1,12 @@
-use Rattle.std.proofs.Common.{◌≡◌, ◌∙◌, sym, ap, refl, subst, true}
-use Rattle.std.specs.Prelude.{not}
-use Rattle.std.specs.List.{list_all, list_any}
-use Rattle.vx_base.specs.PlainScalar.{fits}
-use Rattle.vx_base.specs.PlainType.{integer_of, nullability_of}
-use Rattle.vx_base.specs.PlainValue.{int}
-use Rattle.vx_model.specs.Rows.{rows}
-use Rattle.vx_model.specs.TreeType.{tree_type}
-use Rattle.vx_model.specs.WellFormed.{is_place}
-use Rattle.vx_model.proofs.DictLemmas.{places-wholes}
-use Rattle.vx_model.proofs.MadeLemmas.{rows_fit}
-use Rattle.vx_array.proofs.Decodings.{integers_of, held_integers, integer_is}
+use Rattle.vx_array.proofs.AtNode.{at_node}
 use Rattle.vx_array.proofs.node.dict.have_places.Goals as goal
 
-pub integers-requires : goal.integers-requires
-integers-requires c = held_integers c.args.codes.now c.in-Ok.rows c.requires c.in-Ok.ensures
+pub constant_is_place-requires : goal.constant_is_place-requires
+constant_is_place-requires c =
+    let a = at_node c.codes.view_is c.codes.invariant c.in-Constant.is in
+    rw a.is at c.requires
 
-pub returns-in-Ok : goal.returns-in-Ok
-returns-in-Ok c =
-    let t = c.args.codes.now in
-    let outside = list_any (λ z. not (is_place c.args.values (int z))) in
-    let codes = integers_of t c.in-Ok.rows c.integers.result.now c.in-Ok.rows.valid c.known.ensures c.requires c.integers.ensures refl c.in-Ok.ensures in
-    let fitting = subst (λ s. list_all (fits s) (rows t) ≡ true) (integer_is (tree_type t) c.requires) (rows_fit t c.known.ensures) in
-    ap not (c.has_outside.ensures ∙ ap outside codes.wholes) ∙ sym (places-wholes (integer_of (tree_type t)) (nullability_of (tree_type t)) c.args.values (rows t) c.if-values-eq0.false fitting)
+pub returns-in-Constant : goal.returns-in-Constant
+returns-in-Constant c =
+    let a = at_node c.codes.view_is c.codes.invariant c.in-Constant.is in
+    rw a.is c.constant_is_place.ensures

@@ -8,8 +8,8 @@ use Rattle.vx_model.proofs.ViewLemmas.{plain_of-bytes}
 use Rattle.vx_array.proofs.Canonicals.{views_admitted}
 use Rattle.vx_array.proofs.of_values.flat.of_bytes.Goals as goal
 
-pub view_of-requires : goal.view_of-requires
-view_of-requires c =
+pub var_bin_view_of-requires : goal.var_bin_view_of-requires
+var_bin_view_of-requires c =
     let vs = map value_of c.args.values.items in
     let valid = c.in_ok-valid.ensures ∙ ap (λ ws. validity (map value_of ws)) c.as_slice.ensures.value in
     (λ i. var_bin_view_refusal (c.in_ok-rows.ensures i) (valid i) (c.in_ok-copy.ensures i)) ∙ views_admitted (type_of c.args.dtype.now) c.requires.bytes vs c.requires.fitting
@@ -18,4 +18,4 @@ pub returns : goal.returns
 returns c =
     let vs = map value_of c.args.values.items in
     let valid = ap kept (c.in_ok-valid.ensures ∙ ap (λ ws. validity (map value_of ws)) c.as_slice.ensures.value) ∙ kept-validity vs in
-    c.view_of.ensures ∙ (λ i. var_bin_view (c.in_ok-rows.ensures i) (valid i) (c.in_ok-copy.ensures i)) ∙ sym (plain_of-bytes (type_of c.args.dtype.now) vs c.requires.bytes)
+    c.var_bin_view_of.ensures ∙ (λ i. var_bin_view (c.in_ok-rows.ensures i) (valid i) (c.in_ok-copy.ensures i)) ∙ sym (plain_of-bytes (type_of c.args.dtype.now) vs c.requires.bytes)

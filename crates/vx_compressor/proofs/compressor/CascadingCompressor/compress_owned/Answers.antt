@@ -4,7 +4,7 @@ use Rattle.vx_model.specs.Column.{column_of}
 use Rattle.vx_model.specs.Plain.{IsPlain}
 use Rattle.vx_compressor.specs.Cascade.{setting, leaf_tree}
 use Rattle.vx_compressor.proofs.CascadeLemmas.{lawful-map}
-use Rattle.vx_compressor.proofs.KeptLemmas.{column_within, kept_by}
+use Rattle.vx_compressor.proofs.KeptLemmas.{column_within, kept_by, fits_by, smaller_by}
 use Rattle.vx_compressor.proofs.LimitLemmas.{decided_within}
 use Rattle.vx_compressor.proofs.WholeLemmas.{whole_of}
 use Rattle.vx_compressor.proofs.compressor.CascadingCompressor.compress_owned.Goals as goal
@@ -24,3 +24,12 @@ returns-clause-kept g c =
     let meaning = g.S.Scheme.meaning in
     let set = setting meaning c.args.self.now c.args.ctx.now in
     kept_by set (lawful-map meaning g.met.S.Scheme.lawful c.args.self.now) c.args.array c.plain_tree.result c.known.ensures (sym c.if-not-extents_fit.ensures) c.plain_tree.ensures.answer
+
+pub returns-clause-fits : goal.returns-clause-fits
+returns-clause-fits g c =
+    let meaning = g.S.Scheme.meaning in
+    let set = setting meaning c.args.self.now c.args.ctx.now in
+    fits_by set (lawful-map meaning g.met.S.Scheme.lawful c.args.self.now) c.args.array c.plain_tree.result c.known.ensures (sym c.if-not-extents_fit.ensures) c.plain_tree.ensures.answer
+
+pub returns-clause-smaller : goal.returns-clause-smaller
+returns-clause-smaller g c = smaller_by (setting g.S.Scheme.meaning c.args.self.now c.args.ctx.now) (column_of c.args.array) c.plain_tree.result c.plain_tree.ensures.answer

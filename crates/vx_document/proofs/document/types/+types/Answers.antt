@@ -1,8 +1,7 @@
-use Rattle.std.proofs.Common.{◌≡◌, ℕ, List, ◌∷◌, [], map, Some, option_map, codes, sym, ap, ◌∙◌, arith}
+use Rattle.std.proofs.Common.{ℕ, List, ◌∷◌, [], map, Some, option_map, codes, sym, ap, ◌∙◌, arith}
 use Rattle.std.proofs.lemmas.List.{map-append}
 use Rattle.std.proofs.lemmas.Result.{err_from_is_err_and}
-use Rattle.serde_json.specs.View.{view, items_view}
-use Rattle.serde_json.specs.declared.value.Value.{Array}
+use Rattle.serde_json.specs.View.{items_view}
 use Rattle.vx_base.specs.PlainType.{PlainType}
 use Rattle.vx_base.specs.TypeOf.{type_of, field_of}
 use Rattle.vx_document.specs.Types.{field_read}

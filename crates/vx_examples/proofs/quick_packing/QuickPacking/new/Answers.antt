@@ -1,6 +1,7 @@
 use Rattle.std.proofs.Common.{refl, ap}
 use Rattle.vx_schemes.specs.BitPacking.Tree.{bit_packing_made}
-use Rattle.vx_schemes.proofs.Produced.{finishing-produced, encoding-made}
+use Rattle.vx_schemes_common.proofs.Produced.{finishing-produced}
+use Rattle.vx_schemes.proofs.Produced.{encoding-made}
 use Rattle.vx_examples.specs.QuickPacking.{quick_packing}
 use Rattle.vx_examples.proofs.quick_packing.QuickPacking.new.Goals as goal
 

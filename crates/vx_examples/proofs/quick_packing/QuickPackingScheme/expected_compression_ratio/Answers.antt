@@ -5,7 +5,7 @@ use Rattle.vx_model.specs.Rows.{rows}
 use Rattle.vx_model.specs.TreeType.{tree_type}
 use Rattle.vx_model.specs.WellFormed.{WellFormed}
 use Rattle.vx_model.proofs.MadeLemmas.{rows_fit}
-use Rattle.vx_schemes.proofs.KeptLemmas.{surely_decided, no_refusal}
+use Rattle.vx_schemes_common.proofs.KeptLemmas.{surely_decided, no_refusal}
 use Rattle.vx_schemes.proofs.FrameOfReference.Least.{some_values}
 use Rattle.vx_examples.proofs.quick_packing.QuickPackingScheme.expected_compression_ratio.Goals as goal
 

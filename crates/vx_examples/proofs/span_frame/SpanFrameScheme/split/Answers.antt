@@ -3,7 +3,7 @@ use Rattle.vx_base.specs.Answers.{Answers}
 use Rattle.vx_model.specs.Column.{column_of}
 use Rattle.vx_model.specs.Tree.{Tree}
 use Rattle.vx_scheme.specs.Meaning.{split_of}
-use Rattle.vx_schemes.specs.OnePart.{part_where}
+use Rattle.vx_schemes_common.specs.OnePart.{part_where}
 use Rattle.vx_examples.specs.SpanFrame.{above_least}
 use Rattle.vx_examples.proofs.span_frame.SpanFrameScheme.split.Goals as goal
 

@@ -3,7 +3,7 @@ use Rattle.std.specs.Prelude.{int_lt}
 use Rattle.vx_base.specs.PlainType.{integer_of}
 use Rattle.vx_model.specs.Rows.{rows}
 use Rattle.vx_model.specs.TreeType.{tree_type}
-use Rattle.vx_schemes.proofs.KeptLemmas.{no_refusal, surely_decided}
+use Rattle.vx_schemes_common.proofs.KeptLemmas.{no_refusal, surely_decided}
 use Rattle.vx_schemes.proofs.BitPacking.Negative.{negative-least}
 use Rattle.vx_schemes.proofs.integer.bit_packing.has_negative.Goals as goal
 

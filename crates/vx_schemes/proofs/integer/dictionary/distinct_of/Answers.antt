@@ -6,7 +6,7 @@ use Rattle.vx_values.specs.IntsOf.{wholes_of}
 use Rattle.vx_stats.specs.Stats.{PlainStats, value_count, distinct_counts}
 use Rattle.vx_schemes.proofs.Dictionary.Ratio.{distinct-told}
 use Rattle.vx_schemes.proofs.Dictionary.Tree.{uncounted-distinct, found-some}
-use Rattle.vx_schemes.proofs.KeptLemmas.{no_refusal, kept_or_decided}
+use Rattle.vx_schemes_common.proofs.KeptLemmas.{no_refusal, kept_or_decided}
 use Rattle.vx_schemes.proofs.integer.dictionary.distinct_of.Goals as goal
 
 pub returns-clause-values : goal.returns-clause-values

@@ -9,7 +9,7 @@ use Rattle.vx_model.specs.TreeType.{tree_type}
 use Rattle.vx_model.specs.WellFormed.{WellFormed}
 use Rattle.vx_model.proofs.MadeLemmas.{rows_fit}
 use Rattle.vx_stats.specs.Stats.{PlainStats, value_count, least_in}
-use Rattle.vx_schemes.proofs.KeptLemmas.{no_refusal, surely_decided}
+use Rattle.vx_schemes_common.proofs.KeptLemmas.{no_refusal, surely_decided}
 use Rattle.vx_schemes.proofs.FrameOfReference.Least.{least-told}
 use Rattle.vx_schemes.proofs.integer.frame_of_reference.least_of.Goals as goal
 

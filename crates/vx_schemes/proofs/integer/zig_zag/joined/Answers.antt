@@ -5,7 +5,7 @@ use Rattle.vx_model.specs.Column.{Column, column_of}
 use Rattle.vx_model.specs.Tree.{Tree}
 use Rattle.vx_model.specs.TreeType.{tree_type}
 use Rattle.vx_scheme.specs.Asked.{FitParts}
-use Rattle.vx_schemes.specs.OnePart.{part_where}
+use Rattle.vx_schemes_common.specs.OnePart.{part_where}
 use Rattle.vx_schemes.specs.ZigZag.Laws.{unsigned-not_signed}
 use Rattle.vx_schemes.specs.ZigZag.Tree.{zigzags, zig_zag_made}
 use Rattle.vx_schemes.proofs.integer.zig_zag.joined.Goals as goal

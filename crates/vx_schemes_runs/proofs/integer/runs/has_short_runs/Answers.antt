@@ -1,7 +1,7 @@
 use Rattle.std.proofs.Common.{◌∙◌, ap}
 use Rattle.std.specs.Prelude.{nat_lt}
 use Rattle.vx_model.specs.Rows.{rows}
-use Rattle.vx_schemes.proofs.KeptLemmas.{no_refusal, surely_decided}
+use Rattle.vx_schemes_common.proofs.KeptLemmas.{no_refusal, surely_decided}
 use Rattle.vx_schemes_runs.proofs.integer.runs.has_short_runs.Goals as goal
 
 pub returns-clause-answer : goal.returns-clause-answer

@@ -24,7 +24,7 @@ stats_of_ints-requires-clause-few c =
 pub stats_of_plain-requires : goal.stats_of_plain-requires
 stats_of_plain-requires c =
     let t = c.args.input.now in
-    let same = c.in_ok-canonical-in_default.ensures in
+    let same = c.in_ok-canonical-in_default.ensures.tree in
     let fit = rows_fit t c.node.ensures.well_formed in
     let long = ap (λ p. length (rows p)) same ∙ ap length (rows-plain_of _ (rows t) fit) in
     record {
@@ -38,7 +38,7 @@ returns-in_ok-canonical-in_default c =
     let t = c.args.input.now in
     let fit = rows_fit t c.node.ensures.well_formed in
     let few : nat_lt (length (rows t)) 4294967296 ≡ true = lt-ltb _ _ (omega arith) in
-    let plain = ap (λ p. stats_of c.args.opts (integer_of (tree_type p)) (rows p)) c.in_ok-canonical-in_default.ensures in
+    let plain = ap (λ p. stats_of c.args.opts (integer_of (tree_type p)) (rows p)) c.in_ok-canonical-in_default.ensures.tree in
     let its : stats_of c.args.opts (integer_of (tree_type (plain_of (tree_type t) (rows t)))) (rows (plain_of (tree_type t) (rows t))) ≡ stats_of c.args.opts (integer_of (tree_type t)) (rows t) =
     λ i. stats_of c.args.opts (integer_of (type-plain_of (tree_type t) (rows t) i)) (rows-plain_of (tree_type t) (rows t) fit i)
     in

@@ -8,5 +8,5 @@ invariant-loop-row g l =
     let whole = g.T.Integer.whole in
     record {
       totals : (z : ℤ) → times_seen whole l.seen z + times (map whole (drop l.row l.items)) z ≡ times (map whole l.items) z;
-      some : empties l.seen.gone.items ≡ 0;
+      some : empties l.seen.evicted.items ≡ 0;
     }

@@ -36,13 +36,13 @@ loop-row-preserved g c =
           record {
             totals = λ z. ap (λ s. times_seen whole s z + times rest z) w.seen-is ∙ ap (λ n. n + times rest z) (w.in_ok-see.ensures.totals z)
                 ∙ seen-more whole all rest (whole x) z (times_seen whole c.loop-row.seen z) (ap (λ l. times_seen whole c.loop-row.seen z + times l z) (sym here) ∙ c.loop-row.invariant.totals z);
-            some = ap (λ s. empties s.gone.items) w.seen-is ∙ w.in_ok-see.ensures.some ∙ c.loop-row.invariant.some;
+            some = ap (λ s. empties s.evicted.items) w.seen-is ∙ w.in_ok-see.ensures.some ∙ c.loop-row.invariant.some;
           }
       | else-bits-row w ↦
           let here = next ∙ ap (λ b. cond b (whole x ∷ rest) rest) w.if-bits-row.false in
           record {
             totals = λ z. ap (λ s. times_seen whole s z + times rest z) w.seen-is ∙ ap (λ l. times_seen whole c.loop-row.seen z + times l z) (sym here) ∙ c.loop-row.invariant.totals z;
-            some = ap (λ s. empties s.gone.items) w.seen-is ∙ c.loop-row.invariant.some;
+            some = ap (λ s. empties s.evicted.items) w.seen-is ∙ c.loop-row.invariant.some;
           }
     ]
 

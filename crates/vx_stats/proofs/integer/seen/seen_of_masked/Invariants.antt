@@ -9,5 +9,5 @@ invariant-loop-row g l =
     let whole = g.T.Integer.whole in
     record {
       totals : (z : ℤ) → times_seen whole l.seen z + times (left whole l.items l.bits l.row) z ≡ times (left whole l.items l.bits 0) z;
-      some : empties l.seen.gone.items ≡ 0;
+      some : empties l.seen.evicted.items ≡ 0;
     }

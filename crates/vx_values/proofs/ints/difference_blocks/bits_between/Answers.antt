@@ -1,4 +1,4 @@
-use Rattle.std.proofs.Common.{◌-◌, ◌∙◌, true, replicate, sym, ap}
+use Rattle.std.proofs.Common.{◌∙◌, true, replicate, sym, ap}
 use Rattle.std.specs.Prelude.{unwrap_or}
 use Rattle.vx_base.specs.Masks.{rows_between}
 use Rattle.vx_values.proofs.DifferenceBlocks.{part-all}

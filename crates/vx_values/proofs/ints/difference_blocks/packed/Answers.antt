@@ -2,7 +2,7 @@ use Rattle.std.proofs.Common.{◌≡◌, ◌∙◌, true, length, map, replicate
 use Rattle.std.specs.Prelude.{nat_lt, unwrap_or}
 use Rattle.std.specs.List.{list_all}
 use Rattle.std.proofs.lemmas.List.{length-map}
-use Rattle.vx_base.specs.Packed.{joined, packed_size}
+use Rattle.vx_base.specs.Packed.{packed_number, packed_size}
 use Rattle.vx_base.proofs.BytesLemmas.{bytes_in-is}
 use Rattle.vx_values.specs.Differences.{packed_differences}
 use Rattle.vx_values.proofs.DifferenceRows as rows
@@ -21,5 +21,5 @@ returns g c =
     let reference : whole c.in-Some.reference ≡ c.args.reference = search rules in
     let known = subst (λ l. list_all (λ byte. nat_lt byte 256) l ≡ true) c.as_slice.ensures.value c.known_bytes.ensures in
     let size = c.in_ok-packed.ensures.size ∙ ap (packed_size width) (rows.rows-length whole g.T.Integer.kind (whole c.in-Some.reference) width items all long ∙ sym same) in
-    c.from_vec.ensures ∙ bytes_in-is c.in_ok-packed.packed.items (packed_size width (length (map whole items))) (joined width of) known size c.in_ok-packed.ensures.number
+    c.from_vec.ensures ∙ bytes_in-is c.in_ok-packed.packed.items (packed_size width (length (map whole items))) (packed_number width of) known size c.in_ok-packed.ensures.number
     ∙ packed-is g.T.Integer.kind (whole c.in-Some.reference) (map whole items) c.args.valid.now width ∙ ap (λ z. packed_differences g.T.Integer.kind z (map whole items) c.args.valid.now width) reference

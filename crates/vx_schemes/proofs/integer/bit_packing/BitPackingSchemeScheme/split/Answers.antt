@@ -2,7 +2,7 @@ use Rattle.std.proofs.Common.{◌∙◌, ap}
 use Rattle.vx_model.specs.Column.{column_of}
 use Rattle.vx_scheme.specs.Meaning.{split_of}
 use Rattle.vx_schemes.specs.BitPacking.Tree.{bit_packing_made}
-use Rattle.vx_schemes.specs.Finishing.{finished_or_kept}
+use Rattle.vx_schemes_common.specs.Finishing.{finished_or_kept}
 use Rattle.vx_schemes.proofs.integer.bit_packing.BitPackingSchemeScheme.split.Goals as goal
 
 pub returns-clause-answer : goal.returns-clause-answer

@@ -4,8 +4,9 @@ use Rattle.vx_base.specs.Answers.{Answers}
 use Rattle.vx_model.specs.WellFormed.{WellFormed}
 use Rattle.vx_values.specs.IntsOf.{ptype_of, wholes_of}
 use Rattle.vx_schemes.specs.BitPacking.Tree.{packing_of}
-use Rattle.vx_schemes.proofs.ColumnLemmas.{length_is}
-use Rattle.vx_schemes.proofs.BitPacking.Tree.{packing-made, length-all_bits, all_bits-allowed, all_bits-none, wholes-natural}
+use Rattle.vx_schemes_common.proofs.ColumnLemmas.{length_is}
+use Rattle.vx_schemes_common.proofs.BitsLemmas.{length-all_bits, all_bits-allowed, all_bits-none}
+use Rattle.vx_schemes.proofs.BitPacking.Tree.{packing-made, wholes-natural}
 use Rattle.vx_schemes.proofs.integer.bit_packing.tree.bit_packing_tree.Goals as goal
 
 pub packing-requires : goal.packing-requires

@@ -6,7 +6,7 @@ use Rattle.vx_blocks.specs.Cost.{cost}
 use Rattle.vx_values.specs.IntsOf.{ptype_of, wholes_of}
 use Rattle.vx_schemes.specs.Widths.{widths_of}
 use Rattle.vx_schemes.specs.BitPacking.FirstLeast.{first_least-le, narrow_width}
-use Rattle.vx_schemes.proofs.BitPacking.Tree.{all_bits-true}
+use Rattle.vx_schemes_common.proofs.BitsLemmas.{all_bits-true}
 use Rattle.vx_schemes.proofs.integer.bit_packing.tree.packing.Goals as goal
 
 pub packed_tree-requires-clause-narrow : goal.packed_tree-requires-clause-narrow

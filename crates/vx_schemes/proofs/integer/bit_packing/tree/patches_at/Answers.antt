@@ -8,7 +8,7 @@ use Rattle.vx_model.specs.Tree.{Tree, patches, primitive}
 use Rattle.vx_values.specs.IntsOf.{ptype_of, wholes_of}
 use Rattle.vx_schemes.specs.BitPacking.Tree.{patches_at}
 use Rattle.vx_schemes.specs.BitPacking.Admitted.{patches_admitted}
-use Rattle.vx_schemes.specs.BitPacking.Rising.{rows_below}
+use Rattle.vx_schemes_common.specs.Rising.{rows_below}
 use Rattle.vx_schemes.proofs.integer.bit_packing.tree.patches_at.Goals as goal
 
 made : (p q : PType) (xs numbers : List ℤ) (rows : List ℕ) (len : ℕ) (indices values : Tree) → len ≡ length xs → indices ≡ primitive U64 (map pos rows) None NonNullable → values ≡ primitive q numbers None NonNullable → q ≡ p

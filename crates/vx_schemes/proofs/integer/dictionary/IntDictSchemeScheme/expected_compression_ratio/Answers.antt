@@ -2,7 +2,7 @@ use Rattle.std.proofs.Common.{◌≤◌, length, sym, subst}
 use Rattle.vx_model.specs.Rows.{rows}
 use Rattle.vx_scheme.specs.Asked.{most_rows}
 use Rattle.vx_schemes.proofs.Dictionary.Ratio.{average-positive}
-use Rattle.vx_schemes.proofs.KeptLemmas.{no_refusal, kept_or_decided}
+use Rattle.vx_schemes_common.proofs.KeptLemmas.{no_refusal, kept_or_decided}
 use Rattle.vx_schemes.proofs.integer.dictionary.IntDictSchemeScheme.expected_compression_ratio.Goals as goal
 
 pub verdict_by-requires-clause-run_length : goal.verdict_by-requires-clause-run_length

@@ -13,9 +13,9 @@ pub plain_encoded-requires-else-is_plain : goal.plain_encoded-requires-else-is_p
 plain_encoded-requires-else-is_plain c =
     let column = column_of c.args.array.now in
     let fit = rows_fit c.args.array.now c.known.ensures in
-    let same = ap column_of c.in_ok-canonical.ensures ∙ column_of-plain column fit in
+    let same = ap column_of c.in_ok-canonical.ensures.tree ∙ column_of-plain column fit in
     record {
-      plain = subst IsPlain (sym c.in_ok-canonical.ensures) (plain_is_plain column fit);
+      plain = subst IsPlain (sym c.in_ok-canonical.ensures.tree) (plain_is_plain column fit);
       integer = ap (λ d. is_integer d.dtype) same ∙ c.requires.integer;
       ptype = c.requires.ptype ∙ sym (ap (λ d. integer_of d.dtype) same);
       values = c.requires.values ∙ sym (ap (λ d. distinct_values d.values) same);
@@ -24,5 +24,5 @@ plain_encoded-requires-else-is_plain c =
 
 pub returns-in_ok-canonical : goal.returns-in_ok-canonical
 returns-in_ok-canonical c =
-    let same = ap column_of c.in_ok-canonical.ensures ∙ column_of-plain (column_of c.args.array.now) (rows_fit c.args.array.now c.known.ensures) in
+    let same = ap column_of c.in_ok-canonical.ensures.tree ∙ column_of-plain (column_of c.args.array.now) (rows_fit c.args.array.now c.known.ensures) in
     subst (λ column. Answers c.plain_encoded-else-is_plain.result (dictionary_of column)) same c.plain_encoded-else-is_plain.ensures

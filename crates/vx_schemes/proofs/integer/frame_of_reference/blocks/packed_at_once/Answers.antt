@@ -13,7 +13,7 @@ use Rattle.vx_model.specs.Rows.{rows}
 use Rattle.vx_model.specs.Tree.{packed_of, plain_packed}
 use Rattle.vx_values.specs.IntsOf.{ptype_of, wholes_of}
 use Rattle.vx_schemes.specs.FrameOfReference.Tree.{differences, packed_or_plain}
-use Rattle.vx_schemes.proofs.ColumnLemmas.{length_is}
+use Rattle.vx_schemes_common.proofs.ColumnLemmas.{length_is}
 use Rattle.vx_schemes.proofs.FrameOfReference.Blocks.{counted, packed-admitted, packed-whole}
 use Rattle.vx_schemes.proofs.MadeLemmas.{Makes_err}
 use Rattle.vx_schemes.proofs.integer.frame_of_reference.blocks.packed_at_once.Goals as goal

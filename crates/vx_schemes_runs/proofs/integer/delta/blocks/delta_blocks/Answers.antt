@@ -6,7 +6,7 @@ use Rattle.vx_blocks.specs.Deltas.{bases, deltas, filled}
 use Rattle.vx_blocks.specs.Optional.{optional_rows}
 use Rattle.vx_model.specs.WellFormed.{WellFormed}
 use Rattle.vx_values.specs.IntsOf.{ptype_of, wholes_of}
-use Rattle.vx_schemes.proofs.BitPacking.Tree.{length-all_bits}
+use Rattle.vx_schemes_common.proofs.BitsLemmas.{length-all_bits}
 use Rattle.vx_schemes_runs.proofs.Delta.Blocks.{filled_is, kind_is}
 use Rattle.vx_schemes_runs.proofs.integer.delta.blocks.delta_blocks.Goals as goal
 

@@ -9,7 +9,7 @@ use Rattle.vx_model.specs.TreeType.{tree_type}
 use Rattle.vx_model.specs.WellFormed.{WellFormed}
 use Rattle.vx_model.proofs.DecodeLemmas.{kept-validity}
 use Rattle.vx_values.specs.IntsOf.{ptype_of, wholes_of}
-use Rattle.vx_schemes.proofs.ColumnLemmas.{validity_is}
+use Rattle.vx_schemes_common.proofs.ColumnLemmas.{validity_is}
 use Rattle.vx_schemes_runs.proofs.integer.delta.blocks.summed.Goals as goal
 
 pub returns-in-Ok : goal.returns-in-Ok

@@ -4,7 +4,7 @@ use Rattle.vx_model.specs.Column.{column_of}
 use Rattle.vx_model.specs.TreeType.{tree_type}
 use Rattle.vx_model.specs.WellFormed.{WellFormed}
 use Rattle.vx_model.proofs.MadeLemmas.{rows_fit}
-use Rattle.vx_schemes.proofs.Dictionary.Tree.{pair-fits}
+use Rattle.vx_schemes_common.proofs.PairLemmas.{pair-fits}
 use Rattle.vx_schemes_runs.specs.RunEnd.Tree.{run_values, narrowed_ends}
 use Rattle.vx_schemes_runs.specs.RunEnd.Laws.{runs-admitted}
 use Rattle.vx_schemes_runs.proofs.integer.run_end.RunEndSchemeScheme.join.Goals as goal

@@ -5,8 +5,8 @@ use Rattle.vx_model.specs.Column.{column_of}
 use Rattle.vx_model.specs.Plain.{plain}
 use Rattle.vx_model.specs.Rows.{rows}
 use Rattle.vx_model.specs.WellFormed.{ascend}
-use Rattle.vx_encode.proofs.RisingLemmas.{ascend-lower}
-use Rattle.vx_schemes.specs.Narrowed.{number_rows, narrowed_numbers}
+use Rattle.vx_model.proofs.RisingLemmas.{ascend-lower}
+use Rattle.vx_schemes_common.specs.Narrowed.{number_rows, narrowed_numbers}
 use Rattle.vx_schemes_runs.specs.RowsAt.{rows_at}
 use Rattle.vx_schemes_runs.specs.RunEnd.Laws.{lasts-within, ends-rise}
 use Rattle.vx_schemes_runs.specs.RunEnd.Tree.{ends_in}

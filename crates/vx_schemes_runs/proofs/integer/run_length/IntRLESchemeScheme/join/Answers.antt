@@ -11,8 +11,8 @@ use Rattle.vx_schemes_runs.specs.RunLength.Laws.{blocks-admitted}
 use Rattle.vx_schemes_runs.proofs.TripleLemmas.{triple-fits}
 use Rattle.vx_schemes_runs.proofs.integer.run_length.IntRLESchemeScheme.join.Goals as goal
 
-pub blocks_tree-requires : goal.blocks_tree-requires
-blocks_tree-requires c =
+pub rle_tree-requires : goal.rle_tree-requires
+rle_tree-requires c =
     let t = c.args.column.now.array in
     let well : WellFormed t = subst WellFormed c.array-array.ensures.array c.known.ensures in
     let integer : is_integer (tree_type t) ≡ true = search rules in

@@ -8,7 +8,7 @@ use Rattle.vx_model.specs.Refusals.{sequence_refusal}
 use Rattle.vx_model.specs.Tree.{sequence}
 use Rattle.vx_model.specs.TreeType.{tree_type}
 use Rattle.vx_model.proofs.MadeLemmas.{rows_fit}
-use Rattle.vx_schemes.proofs.KeptLemmas.{surely_decided}
+use Rattle.vx_schemes_common.proofs.KeptLemmas.{surely_decided}
 use Rattle.vx_schemes_runs.specs.Sequence.Tree.{sequence_over}
 use Rattle.vx_schemes_runs.proofs.Sequence.Verdict.{sequence-admitted, surely_err}
 use Rattle.vx_schemes_runs.proofs.integer.sequence.tree.sequence_made.Goals as goal

@@ -8,7 +8,7 @@ use Rattle.vx_model.specs.Rows.{rows}
 use Rattle.vx_model.proofs.MadeLemmas.{rows_fit}
 use Rattle.vx_stats.specs.Stats.{null_count}
 use Rattle.vx_schemes_runs.specs.Sparse.Tree.{sparse_fill, sparse_or_plain}
-use Rattle.vx_encode.specs.Filling.{filling_of, filled_over}
+use Rattle.vx_sparse_array.specs.Filling.{filling_of, filled_over}
 use Rattle.vx_schemes_runs.proofs.Sparse.Split.{cell-fits, trees-patch}
 use Rattle.vx_schemes_runs.proofs.integer.sparse.parts.joined_by.Goals as goal
 

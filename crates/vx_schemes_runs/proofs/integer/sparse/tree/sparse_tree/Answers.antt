@@ -2,9 +2,9 @@ use Rattle.std.proofs.Common.{◌≡◌, ◌∙◌, length, ap}
 use Rattle.vx_array.specs.TreeOf.{sparse_of}
 use Rattle.vx_base.proofs.MakesLemmas.{Makes_ok, Makes_err}
 use Rattle.vx_base.specs.PlainScalar.{scalar}
-use Rattle.vx_encode.specs.Filling.{filling_of}
-use Rattle.vx_encode.proofs.FillingLemmas.{patches-fit, filled-admitted}
-use Rattle.vx_encode.proofs.MakingLemmas.{patches-admitted}
+use Rattle.vx_sparse_array.specs.Filling.{filling_of}
+use Rattle.vx_sparse_array.proofs.FillingLemmas.{patches-fit, filled-admitted}
+use Rattle.vx_sparse_array.proofs.MakingLemmas.{patches-admitted}
 use Rattle.vx_model.specs.Column.{column_of}
 use Rattle.vx_model.specs.Refusals.{patches_refusal, sparse_refusal}
 use Rattle.vx_model.specs.Rows.{rows}

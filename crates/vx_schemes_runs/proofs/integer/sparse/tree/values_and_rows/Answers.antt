@@ -5,7 +5,7 @@ use Rattle.vx_model.specs.Column.{column, column_of}
 use Rattle.vx_model.specs.Plain.{plain}
 use Rattle.vx_model.specs.Rows.{row_at, rows}
 use Rattle.vx_model.specs.TreeType.{tree_type}
-use Rattle.vx_schemes.specs.Narrowed.{narrowed_numbers}
+use Rattle.vx_schemes_common.specs.Narrowed.{narrowed_numbers}
 use Rattle.vx_schemes_runs.proofs.Sparse.Tree.{numbers-are, numbers-rise, numbers-within}
 use Rattle.vx_schemes_runs.proofs.integer.sparse.tree.values_and_rows.Goals as goal
 

@@ -1,7 +1,0 @@
-use Rattle.std.proofs.Common.{ap}
-use Rattle.vx_base.proofs.MakesLemmas.{Makes_ok}
-use Rattle.vx_model.specs.Nodes.{encoding}
-use Rattle.vx_encode.proofs.encode.Sparse.try_new_from_patches.Goals as goal
-
-pub invariant_of-result : goal.invariant_of-result
-invariant_of-result c = ap encoding (Makes_ok _ _ _ _ c.in-Ok.ensures)

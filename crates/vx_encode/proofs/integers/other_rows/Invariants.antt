@@ -1,7 +1,0 @@
-use Rattle.std.proofs.Common.{◌≡◌, map, not, filter, slice_index_or, pos}
-use Rattle.std.specs.List.{range_with_len}
-use Rattle.std.specs.Ordering.{int_eq}
-use Rattle.vx_encode.proofs.integers.other_rows.Given as goal
-
-abbrev pub invariant-loop-row : goal.invariant-loop-row
-invariant-loop-row g l = l.numbers.items ≡ filter (λ i. not (int_eq (slice_index_or (map g.T.Integer.whole l.items) i (pos 0)) (g.T.Integer.whole l.fill))) (range_with_len 0 l.row)

@@ -1,6 +1,0 @@
-use Rattle.std.proofs.Common.{◌^◌}
-use Rattle.vx_schemes.proofs.NarrowedLemmas.{last-greatest}
-use Rattle.vx_schemes.proofs.narrowed.last.Goals as goal
-
-pub returns : goal.returns
-returns c = last-greatest 0 (2 ^ 64) c.args.numbers.now c.requires

@@ -1,5 +1,0 @@
-use Rattle.vx_schemes.proofs.WidthLemmas.{high_digits}
-use Rattle.vx_schemes.proofs.widths.greatest_of.Goals as goal
-
-pub returns : goal.returns
-returns c = high_digits c.args.digits c.requires.most

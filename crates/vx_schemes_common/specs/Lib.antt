@@ -1,0 +1,11 @@
+pub mod Exclusions
+pub mod Finishing
+pub mod FinishingLaws
+pub mod Narrowed
+pub mod NarrowedLaws
+pub mod OnePart
+pub mod OnePartLaws
+pub mod Pairs
+pub mod Produced
+pub mod Rising
+pub mod StandsFor

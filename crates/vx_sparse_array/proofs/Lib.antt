@@ -1,0 +1,12 @@
+pub mod EncodedLemmas
+pub mod FillingLemmas
+pub mod IntegerRows
+pub mod LoopLemmas
+pub mod MakingLemmas
+pub mod NullCounts
+pub mod PlainMade
+pub mod ResolvedLemmas
+pub mod RowsAt
+pub mod SharedLemmas
+pub mod StandardFacts
+pub mod TryNew

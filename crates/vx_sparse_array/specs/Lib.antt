@@ -1,0 +1,6 @@
+pub mod Data
+pub mod DataWrites
+pub mod Encoded
+pub mod Filling
+pub mod Refused
+pub mod Resolved
