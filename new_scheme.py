@@ -5,12 +5,15 @@
 
 CRATE, as `my_schemes`, is the new crate's name, and TYPE, as `MyScheme`, the scheme's. A copy with `finishing` is of
 `QuickPacking`, which finishes its tree; one with `part` is of `SpanFrame`, whose part is compressed again. Beside the
-crate stands CRATE_tests with a test, and both have a line in crates.txt. Run it at the top of the repository.
+crate stands CRATE_tests with a test, and both have a line in crates.txt.
 """
 
 import re
+import subprocess
 import sys
 from pathlib import Path
+
+TOP = Path(__file__).resolve().parent
 
 KINDS = {
     "finishing": ("QuickPacking", "quick_packing", "example.int.quickpacking", "compressor", "BitPacked", 0),
@@ -41,7 +44,7 @@ TEST = """//! Tests of `{type}`, with ample memory.
 mod tests {{
 {uses}
 
-    // 1,024 rows from {least} to {least} + 7.
+    // 1,024 rows from {least} to {greatest}.
     fn rows(alloc: Global) -> VortexResult<Vec<Option<i128>>> {{
         let mut rows = Vec::new(alloc);
         for row in 0..1024_u16 {{
@@ -61,80 +64,149 @@ mod tests {{
 }}
 """
 
+# Words that the language keeps to itself.
+KEYWORDS = set(
+    "abstract as async await become box break const continue core crate do dyn else enum extern false final fn for ghost if impl in let "
+    "loop macro match mod move mut override priv proc pub ref return self static std struct super test trait true try type typeof unsafe "
+    "unsized use virtual where while yield".split()
+)
 
-def uses(crate, encoding):
-    """The imports of the test, in the order in which `rt fmt` has them."""
-    paths = [f"{crate}::compressor", "std::alloc::Global", "std::test::Fail", f"vx_base::ArrayId::{encoding}",
-             "vx_base::PType::U16", "vx_base::VortexResult", "vx_fixtures::{column, context}"]
-    return "\n".join(f"    use {path};" for path in sorted(paths))
+
+# ---------------------------------------------------------------------------------------------
+# names
+
+def stop(reason):
+    sys.exit(f"{Path(sys.argv[0]).name}: {reason}")
+
+
+def libraries():
+    """The names of the kit's libraries, or none where there is no rt to ask."""
+    try:
+        page = subprocess.run(["rt", "doc"], stdout=subprocess.PIPE, stderr=subprocess.DEVNULL, encoding="utf-8", check=True).stdout.strip()
+        return {path.stem for path in (Path(page).parent / "rlibs").glob("*.rlib")}
+    except (OSError, subprocess.CalledProcessError):
+        return set()
+
+
+def listed_crates():
+    return set(re.findall(r"^(\w+)[^#:\n]*:", (TOP / "crates.txt").read_text(), re.M))
+
+
+def check_name(*crates):
+    """Stops where a crate can't have such a name."""
+    for crate in crates:
+        if not re.fullmatch(r"[a-z][a-z0-9_]*", crate):
+            stop(f"{crate} is no name of a crate: small letters, digits and _, with a letter first.")
+        if crate in KEYWORDS:
+            stop(f"{crate} is a word of the language.")
+        if crate in libraries():
+            stop(f"{crate} is a library of the kit.")
+        if (TOP / "crates" / crate).exists() or crate in listed_crates():
+            stop(f"crates/{crate} is there already.")
 
 
 def snake(name):
     return re.sub(r"(?<!^)(?=[A-Z])", "_", name).lower()
 
 
-def copy(crate, name, kind):
-    old_type, old_name, old_id, old_compressor, encoding, least = KINDS[kind]
-    new_name = snake(name)
-    words = new_name.replace("_", " ")
+# ---------------------------------------------------------------------------------------------
+# the copy
+
+def renaming(crate, name, kind):
+    """What makes a text of the old scheme one of the new."""
+    old_type, old_name, old_id, old_compressor, _, _ = KINDS[kind]
+    old_words, words = old_name.replace("_", " "), f"`{name}`"
     renamed = [
-        (old_id, f"{crate}.{new_name}"),
-        ("Rattle.vx_examples", f"Rattle.{crate}"),
-        (old_compressor, "compressor"),
+        # comments: one scheme is one thing, whatever its name
+        (f"the scheme of {old_words}s?\\b", words),
+        (f"(?i:{old_words})s?, and behind them", f"{words}, and behind it"),
+        (f"(?i:{old_words})s?\\b", words),
+        # code: the old names have a plural, which not every name has
+        (f"{old_name}s\\b", snake(name)),
+        (re.escape(old_id), f"{crate}.{snake(name)}"),
+        (r"Rattle\.vx_examples\b", f"Rattle.{crate}"),
+        (rf"\b{old_compressor}\b", "compressor"),
         (old_type, name),
-        (old_name, new_name),
-        (old_name.replace("_", " "), words),
-        (old_name.replace("_", " ").capitalize(), words.capitalize()),
+        (old_name, snake(name)),
     ]
 
     def rename(text):
         for old, new in renamed:
-            text = text.replace(old, new)
+            text = re.sub(old, lambda found: new, text)
         return text
 
-    source, target = Path("crates/vx_examples"), Path("crates") / crate
-    other = LEFT_OUT[kind]
+    return rename
+
+
+def copied(crate, name, kind):
+    """The files of the new crate, by their paths in it."""
+    rename, other, source = renaming(crate, name, kind), LEFT_OUT[kind], TOP / "crates" / "vx_examples"
+    files = {}
     for path in sorted(source.rglob("*")):
         inside = path.relative_to(source)
-        if path.is_dir() or inside.parts[0] == "out" or any(word in str(inside) for word in other):
+        if path.is_dir() or inside.parts[0] not in ("src", "specs", "proofs") or any(word in str(inside) for word in other):
             continue
         text = path.read_text()
         if path.name in ("lib.rt", "Lib.antt"):
-            lines = [line for line in text.splitlines() if not any(word in line for word in other)]
-            text = "\n".join(lines) + "\n"
-        if path.name == "lib.rt":
-            text = f"//! The scheme `{name}`.\n" + text[text.index("#!["):]
-        new = target / rename(str(inside))
-        new.parent.mkdir(parents=True, exist_ok=True)
-        new.write_text(rename(text))
+            text = "".join(line for line in text.splitlines(True) if not any(word in line for word in other))
+        if re.search(rf"\b{name}\b", text):
+            stop(f"{name} is a name that the copied files use already.")
+        text = rename(text)
+        if inside.parts[0] == "src" and len(inside.parts) == 2:     # the root, and the scheme's own file
+            head = f"//! The scheme `{name}`, which begins as a copy of `{KINDS[kind][0]}` of vx_examples.\n"
+            text = head + re.sub(r"\A(//!.*\n)+", "", text)
+        files[rename(str(inside))] = text
+    return files
+
+
+def wrong_body(crate, name, kind, files):
+    """The edit of must-fail/: its path and text."""
     edit, old, new = EDITS[kind]
-    wrong = target / "must-fail" / f"{edit}.edit"
-    wrong.parent.mkdir()
-    wrong.write_text(f"file: src/{new_name}.rt\nold: {old}\nnew: {new}\n")
-    tests = Path("crates") / f"{crate}_tests" / "src" / "lib.rt"
-    tests.parent.mkdir(parents=True)
-    tests.write_text(TEST.format(type=name, crate=crate, uses=uses(crate, encoding), id=encoding, least=least))
+    file = f"src/{snake(name)}.rt"
+    if files[file].count(old) != 1:
+        stop(f"the line of the wrong body isn't in vx_examples as expected: {old.strip()}")
+    return f"must-fail/{edit}.edit", f"file: {file}\nold: {old}\nnew: {new}\n"
 
 
-def list_crates(crate):
-    listed = Path("crates.txt")
-    text = listed.read_text()
-    below = re.search(r"^vx_examples: (.*)$", text, re.M).group(1)
-    text += f"\n{crate}: {below}\n{crate}_tests: vx_fixtures {crate} {below}\n"
-    listed.write_text(text)
+def test_of(crate, name, kind):
+    *_, encoding, least = KINDS[kind]
+    paths = [f"{crate}::compressor", "std::alloc::Global", "std::test::Fail", f"vx_base::ArrayId::{encoding}",
+             "vx_base::PType::U16", "vx_base::VortexResult", "vx_fixtures::{column, context}"]
+    uses = "\n".join(f"    use {path};" for path in sorted(paths))      # in the order in which `rt fmt` has them
+    return TEST.format(type=name, uses=uses, id=encoding, least=least, greatest=least + 7)
+
+
+# ---------------------------------------------------------------------------------------------
+# writing
+
+def write_crate(crate, files):
+    for path, text in files.items():
+        target = TOP / "crates" / crate / path
+        target.parent.mkdir(parents=True, exist_ok=True)
+        target.write_text(text)
+
+
+def list_crates(lines):
+    listed = TOP / "crates.txt"
+    listed.write_text(listed.read_text() + "\n" + "".join(f"{line}\n" for line in lines))
 
 
 def main():
     if len(sys.argv) != 4 or sys.argv[3] not in KINDS:
         sys.exit(__doc__.strip())
     crate, name, kind = sys.argv[1:]
-    if not re.fullmatch(r"[a-z][a-z0-9_]*", crate) or not re.fullmatch(r"([A-Z][a-z0-9]+)+", name):
-        sys.exit("CRATE is of small letters, digits and _, and TYPE of words that begin with a capital.")
-    if (Path("crates") / crate).exists():
-        sys.exit(f"crates/{crate} is there already.")
-    copy(crate, name, kind)
-    list_crates(crate)
+    if not re.fullmatch(r"([A-Z][a-z0-9]+)+", name):
+        stop(f"{name} is no name of a scheme: words that begin with a capital, as MyScheme.")
+    check_name(crate, f"{crate}_tests")
+    files = copied(crate, name, kind)
+    files.update([wrong_body(crate, name, kind, files)])
+    write_crate(crate, files)
+    write_crate(f"{crate}_tests", {"src/lib.rt": test_of(crate, name, kind)})
+    below = re.search(r"^vx_examples: (.*)$", (TOP / "crates.txt").read_text(), re.M).group(1)
+    under_test = " ".join(dict.fromkeys(["vx_fixtures", crate, *below.split(), "vx_base"]))
+    list_crates([f"{crate}: {below}", f"{crate}_tests: {under_test}"])
     print(f"crates/{crate} and crates/{crate}_tests stand, and are listed in crates.txt.")
 
 
-main()
+if __name__ == "__main__":
+    main()

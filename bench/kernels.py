@@ -1,6 +1,6 @@
 """Times the kernels of bit packing and of series: the proved ones, beside the plain and the unrolled ones of kernels.rs.
 
-README.md tells what is measured and what the limits are.
+README.md has the limits and what is measured.
 """
 import os
 import platform
@@ -22,8 +22,8 @@ JUDGED = MILLION        # the size at which other loops' times are limits
 PLAIN = 1.02            # how many times the plain loop's time a kernel may take
 UNROLLED = 1.4          # and the unrolled loop's
 UNROLLED_WIDTH = 32     # the widest rows of that limit
-TENFOLD = 11            # how many times the time ten times the rows may take
-UNCACHED = 10 * MILLION     # the size from which growth is a limit: smaller ones lie in the processor's caches
+GROWTH = 1.15           # how many times the plain loop's growth a kernel's may be, in the same minutes: both wait for the same memory
+UNCACHED = 10 * MILLION     # the size from which growth is judged: smaller ones lie in the processor's caches
 
 # The instructions that rt builds for.
 PROCESSOR = ('-C', 'target-cpu=x86-64-v2') if platform.machine() == 'x86_64' else ()
@@ -33,7 +33,7 @@ KEEP_MEMORY = {'MALLOC_MMAP_MAX_': '0', 'MALLOC_TRIM_THRESHOLD_': str(2 ** 62)}
 
 
 class Size(NamedTuple):
-    """How many rows, how often programs run on them, how often each runs a kernel by the clock, and which programs."""
+    """The number of rows, the rounds, the timed runs of a kernel in each round, and the bodies that run."""
     rows: int
     rounds: int
     repeats: int
@@ -42,7 +42,7 @@ class Size(NamedTuple):
 
 SIZES = (Size(MILLION, 20, 4, ('proved', 'plain', 'unrolled')),
          Size(10 * MILLION, 3, 2, ('proved', 'plain', 'unrolled')),
-         Size(40 * MILLION, 3, 2, ('proved',)))
+         Size(40 * MILLION, 3, 2, ('proved', 'plain')))
 ROUNDS = max(size.rounds for size in SIZES)
 
 
@@ -146,11 +146,18 @@ def is_told(name, type_, width):
     return width == SERIES_WIDTH and not (name == 'sequence' and type_ == 'u8')
 
 
-def growth(table, kernel, place):
-    """How many times the time ten times the rows take, by this size and the next smaller one."""
-    rows, before = SIZES[place].rows, SIZES[place - 1].rows
-    more = table[kernel, rows].micros('proved') / table[kernel, before].micros('proved')
-    return 10 * more * before / rows
+def growth(table, kernel, place, body='proved'):
+    """How many times the time ten times the rows take, by this size and the next smaller one; None where the body didn't run."""
+    now, before = table[kernel, SIZES[place].rows], table[kernel, SIZES[place - 1].rows]
+    if body not in now.told or body not in before.told:
+        return None
+    return 10 * now.micros(body) / before.micros(body) * SIZES[place - 1].rows / SIZES[place].rows
+
+
+def grows(table, kernel, place):
+    """The growth over that of the plain loop, where both are beyond the caches; or None."""
+    plain = growth(table, kernel, place, 'plain') if SIZES[place].rows > UNCACHED else None
+    return plain and growth(table, kernel, place) / plain
 
 
 def figure(x):
@@ -161,7 +168,7 @@ def lines_of(table):
     """Two lines of heads, and a line for each kernel."""
     heads = [['', '', ''], ['kernel', 'type', 'width']]
     for place, size in enumerate(SIZES):
-        columns = ['us', *size.bodies[1:]] + ['x10'] * (place > 0)
+        columns = ['us', *size.bodies[1:]] + ['x10'] * (place > 0) + ['grows'] * (size.rows > UNCACHED)
         heads[0] += ['%d rows' % size.rows] + [''] * (len(columns) - 1)
         heads[1] += columns
     lines = []
@@ -170,7 +177,8 @@ def lines_of(table):
         for place, size in enumerate(SIZES):
             times = table[kernel, size.rows]
             line += ['%d' % times.micros('proved'), *(figure(times.ratio(body)) for body in size.bodies[1:])]
-            line += [figure(growth(table, kernel, place))] * (place > 0)
+            line += [figure(growth(table, kernel, place))] if place > 0 else []
+            line += [figure(grows(table, kernel, place))] if size.rows > UNCACHED else []
         lines.append(line)
     return heads, lines
 
@@ -181,7 +189,7 @@ def faults_of(table):
 
 
 def faults_at(table, kernel, place):
-    """Those of a kernel at one number of rows."""
+    """The limits that do not hold of a kernel at one number of rows."""
     rows = SIZES[place].rows
     times = table[kernel, rows]
     plain, unrolled = times.ratio('plain'), times.ratio('unrolled')
@@ -192,6 +200,7 @@ def faults_at(table, kernel, place):
         found.append('%.2f times the time of the plain loop' % plain)
     if rows == JUDGED and unrolled is not None and kernel.width <= UNROLLED_WIDTH and unrolled > UNROLLED:
         found.append('%.2f times the time of the unrolled loop' % unrolled)
-    if rows > UNCACHED and growth(table, kernel, place) > TENFOLD:
-        found.append('%.2f times the time for ten times the rows' % growth(table, kernel, place))
+    grown = grows(table, kernel, place)
+    if grown is not None and grown > GROWTH:
+        found.append('%.2f times the growth of the plain loop' % grown)
     return ['%s, %d rows: %s' % (kernel, rows, fault) for fault in found]

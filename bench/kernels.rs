@@ -3,7 +3,7 @@
 //!
 //!     kernels plain|unrolled u8|u32|u64 WIDTH ROWS REPEATS
 //!
-//! A line for each measurement, the same as vx_bench's: kernel, type, width, rows, the least processor time in
+//! Writes a line for each measurement, as vx_bench does: kernel, type, width, rows, the least processor time in
 //! microseconds, and a digest of the answer.
 
 use std::env;
@@ -12,7 +12,7 @@ use std::iter;
 use std::process::ExitCode;
 use std::time::Duration;
 
-/// Rows are packed by blocks of so many.
+/// The rows of a packed block: at every width they fill whole bytes.
 const BLOCK_ROWS: usize = 1024;
 
 /// The generator of values: each state is the one before it times MULTIPLIER plus INCREMENT.
@@ -20,11 +20,13 @@ const SEED: u64 = 1;
 const MULTIPLIER: u64 = 6364136223846793005;
 const INCREMENT: u64 = 1442695040888963407;
 
-/// What a digest is multiplied by before the next item is added.
+/// A digest is multiplied by this before the next item is added.
 const DIGEST_FACTOR: u64 = 31;
 
-/// The kernels of series are timed at this width alone, on runs of so many rows, or on a ramp.
+/// The one width at which the kernels of series are timed.
 const SERIES_WIDTH: u32 = 7;
+
+/// The length of each run of their rows.
 const RUN_ROWS: u32 = 100;
 
 // ---------------------------------------------------------------------------------------------
@@ -65,43 +67,43 @@ const fn mask(width: u32) -> u64 {
     u64::MAX >> (64 - width)
 }
 
-/// What is packed of a row: 0 of a null and of a row that is wider.
+/// The packed value of a row: 0 for a null and for a row that is wider.
 #[inline(always)]
 fn fit(bits: u64, valid: bool, width: u32) -> u64 {
     if valid && bits <= mask(width) { bits } else { 0 }
 }
 
-/// The bytes of whole blocks of rows.
+/// The bytes that the rows take, in whole blocks.
 fn packed_size(rows: usize, width: u32) -> usize {
     rows.div_ceil(BLOCK_ROWS) * BLOCK_ROWS / 8 * width as usize
 }
 
 /// The kernels, written in one way.
 trait Kernels {
-    /// How many rows have w binary digits, as entry w.
+    /// Entry w is the number of rows with w binary digits.
     fn histogram<T: Integer>(values: &[T], valid: &[bool]) -> Vec<u64>;
 
-    /// The rows at `width` bits each, one behind the other, the lowest bit first.
+    /// The rows at `width` bits each, one after the other, least significant bit first.
     fn pack<T: Integer>(values: &[T], valid: &[bool], width: u32) -> Vec<u8>;
 
-    /// The first rows of what is packed.
+    /// The first rows of the packed bytes.
     fn unpack<T: Integer>(packed: &[u8], width: u32, rows: usize) -> Vec<T>;
 
-    /// The row after each run's last; a null equals a null.
+    /// The end of each run, exclusive. Two nulls are equal.
     fn runs<T: Integer>(values: &[T], valid: &[bool]) -> Vec<u64>;
 
-    /// The first row of each run, where a run ends with its block too; the number of each row's run in its block, 0 behind
-    /// the last row; and how many runs lie before each block.
+    /// The first row of each run, where a run ends with its block too; for each row the index of its run in its block, 0
+    /// behind the last row; and the number of runs before each block.
     fn block_runs<T: Integer>(values: &[T], valid: &[bool]) -> BlockRuns;
 
-    /// First and step, where each row is a step more than the one before.
+    /// The first row and the step of an arithmetic sequence.
     fn sequence<T: Integer>(values: &[T]) -> Option<(i128, i128)>;
 
-    /// The first row of each block, and the difference of each row from the row before, 0 in a block's first row and behind
-    /// the last row. A null has the value before it.
+    /// The first row of each block, and the difference of each row to the row before, 0 in a block's first row and behind
+    /// the last row. A null counts as the value before it.
     fn delta<T: Integer>(values: &[T], valid: &[bool]) -> (Vec<T>, Vec<T>);
 
-    /// The rows of bases and differences.
+    /// The rows that bases and differences stand for: prefix sums within each block.
     fn undelta<T: Integer>(bases: &[T], deltas: &[T]) -> Vec<T>;
 }
 
@@ -143,7 +145,7 @@ impl Kernels for Plain {
             if fill >= 64 {
                 out.extend_from_slice(&acc.to_le_bytes());
                 fill -= 64;
-                // The bits that had no room in the word.
+                // The bits that don't fit into the word.
                 acc = if fill == 0 { 0 } else { bits >> (width - fill) };
             }
         }
@@ -251,9 +253,9 @@ impl Kernels for Plain {
     }
 }
 
-/// Those of series, row by row.
+/// The kernels of series, row by row.
 impl Plain {
-    /// The rows, with the value before it in place of each null.
+    /// The rows, each null replaced by the value before it.
     fn filled<T: Integer>(values: &[T], valid: &[bool]) -> impl Iterator<Item = u64> {
         let mut last = 0;
         values.iter().zip(valid).map(move |(value, valid)| {
@@ -265,7 +267,7 @@ impl Plain {
     }
 }
 
-/// The first eight bytes, or those that there are, as a word.
+/// The first eight bytes, or fewer where the slice ends, as a word.
 #[inline(always)]
 fn word_at(bytes: &[u8]) -> u64 {
     match bytes.first_chunk() {
@@ -280,7 +282,7 @@ fn word_at(bytes: &[u8]) -> u64 {
 /// 64 rows at a time, with a body for each width.
 struct Unrolled;
 
-/// So many rows fill whole words at each width.
+/// Rows at a time: 64 rows fill whole words at every width.
 const GROUP: usize = 64;
 
 /// Writes the body once for each row of a group, with the row as a constant.
@@ -412,7 +414,7 @@ impl Kernels for Unrolled {
         Some((first as i128, step as i128))
     }
 
-    /// Differences of whole blocks without nulls are taken without a step from row to row.
+    /// In whole blocks without nulls no difference waits for the row before it.
     #[inline(never)]
     fn delta<T: Integer>(values: &[T], valid: &[bool]) -> (Vec<T>, Vec<T>) {
         if !valid.iter().fold(true, |all, valid| all & valid) {
@@ -430,7 +432,7 @@ impl Kernels for Unrolled {
         (bases, deltas)
     }
 
-    /// Four sums at once, of which the first three wait for none.
+    /// Four sums at once, so that only one in four waits for the one before it.
     #[inline(never)]
     fn undelta<T: Integer>(bases: &[T], deltas: &[T]) -> Vec<T> {
         let mut rows = vec![T::from_low_bits(0); deltas.len()];
@@ -473,7 +475,7 @@ fn pack_groups<T: Integer, const W: usize>(values: &[T], valid: &[bool]) -> Vec<
     out
 }
 
-/// What is packed of a group, zeros behind its rows. The rows are tested all at once.
+/// The packed values of a group, with zeros behind its rows. All rows are tested at once.
 #[inline(always)]
 fn fitting_group<T: Integer, const W: usize>(values: &[T], valid: &[bool]) -> [u64; GROUP] {
     let mut group = [0; GROUP];
@@ -500,7 +502,7 @@ fn pack_group<const W: usize>(group: &[u64; GROUP], out: &mut [u8]) {
         acc |= bits << fill;
         if fill + W >= 64 {
             out[8 * at..8 * at + 8].copy_from_slice(&acc.to_le_bytes());
-            // The bits that had no room in the word.
+            // The bits that don't fit into the word.
             acc = if fill + W > 64 { bits >> (64 - fill) } else { 0 };
         }
     });
@@ -536,7 +538,7 @@ fn unpack_group<T: Integer, const W: usize>(packed: &[u8]) -> [T; GROUP] {
 // ---------------------------------------------------------------------------------------------
 // timing
 
-/// The same rows as vx_bench makes.
+/// The rows that vx_bench makes.
 fn values<T: Integer>(rows: usize, width: u32) -> Vec<T> {
     let mut state = SEED;
     let next = || {
@@ -546,7 +548,7 @@ fn values<T: Integer>(rows: usize, width: u32) -> Vec<T> {
     iter::repeat_with(next).take(rows).collect()
 }
 
-/// The same, each of so many rows.
+/// Runs of such values, each RUN_ROWS long.
 fn repeated<T: Integer>(rows: usize, width: u32) -> Vec<T> {
     let (mut state, mut left) = (SEED, 0);
     let next = || {
@@ -565,7 +567,7 @@ fn ramp<T: Integer>(rows: usize) -> Vec<T> {
     (0..rows as u64).map(T::from_low_bits).collect()
 }
 
-/// The processor time that this thread has used, as the C library tells it: std has no such clock.
+/// The processor time of this thread, by the C library: std has no such clock.
 fn processor_time() -> Duration {
     #[repr(C)]
     struct Time {
@@ -588,7 +590,7 @@ fn digest<T: Integer>(items: &[T]) -> u64 {
     items.iter().fold(0, |sum: u64, item| sum.wrapping_mul(DIGEST_FACTOR).wrapping_add(item.to_bits()))
 }
 
-/// The rows that the kernels run on, and how often each runs.
+/// The rows that the kernels run on, and the number of timed runs of each.
 struct Setting {
     width: u32,
     rows: usize,
@@ -600,7 +602,7 @@ impl Setting {
         Some(Setting { width: width.parse().ok()?, rows: rows.parse().ok()?, repeats: repeats.parse().ok()? })
     }
 
-    /// The same of a kernel that answers one list.
+    /// Times a kernel that answers one list.
     fn time<T: Integer, A: Integer>(&self, name: &str, kernel: impl Fn() -> Vec<A>) -> Vec<A> {
         self.time_by::<T, _>(name, kernel, |answer| digest(answer))
     }
@@ -619,7 +621,7 @@ impl Setting {
         answer
     }
 
-    /// The kernels of series: on runs, and on a ramp where it is long.
+    /// Times the kernels of series: on runs, and on a ramp where the type holds a long one.
     fn time_series<K: Kernels, T: Integer>(&self) {
         let values = repeated::<T>(self.rows, self.width);
         let valid = vec![true; self.rows];
@@ -648,7 +650,7 @@ impl Setting {
         }
     }
 
-    /// The same of a type's name; whether there is such a type that has the width.
+    /// Times all kernels on rows of a type. False where there is no such type, or it hasn't the width.
     fn time_type<K: Kernels>(&self, name: &str) -> bool {
         match name {
             "u8" if (1..=8).contains(&self.width) => self.time_all::<K, u8>(),
@@ -660,7 +662,7 @@ impl Setting {
     }
 }
 
-/// Whether the words could be followed.
+/// Times what the arguments ask for. False where they ask for nothing known.
 fn run(words: &[&str]) -> bool {
     let [way, name, width, rows, repeats] = words else {
         return false;
