@@ -37,7 +37,7 @@ module _ (t : PlainType) (size : ℕ) where
   copies : default ≡ replicate size (null_or_default t)
   copies = list_of-of_list (replicate size (null_or_default t))
 
-  -- so many defaults
+  -- as many defaults as the list size
   abbrev pub are_defaults : List PlainValue → Bool
   are_defaults part = length part == size && list_all (is_default t) part
 

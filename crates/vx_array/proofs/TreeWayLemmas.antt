@@ -133,6 +133,6 @@ pub of_other : (t u : Tree) → WellFormed t → WellFormed u → is_flat (tree_
     → extents u ≡ by_ways (tree_type t) (λ w. extent_at w t)
 of_other t u w v f g e h = h ∙ flat-ways (tree_type u) (λ w. extent_at w u) g ∙ ap (λ k. k ∷ []) (extent-here u v) ∙ of_flat t (length (rows u)) w f e
 
--- those of a fill, so many times
+-- a fill's counts times the number of its rows
 pub repeated-ways : (len : ℕ) (s : PlainScalar) → repeated len s ≡ by_ways s.dtype (λ w. len * count_at w s.dtype (s.value ∷ []))
 repeated-ways len s = ap (map (λ count. len * count)) (counts-ways s.dtype (s.value ∷ [])) ∙ map-ways (λ count. len * count) s.dtype (λ w. count_at w s.dtype (s.value ∷ []))

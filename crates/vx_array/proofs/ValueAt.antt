@@ -71,7 +71,7 @@ passes_at p [] i x l e h = absurd (omega arith)
 passes_at p (y ∷ ys) zero x l e h = rw e (and_parts (p y) (list_all p ys) h).0
 passes_at p (y ∷ ys) (suc i) x l e h = passes_at p ys i x (omega arith) e (and_parts (p y) (list_all p ys) h).1
 
--- fields of so many rows have a row
+-- fields as long as the struct have each of its rows
 pub in_rows : (len row : ℕ) (ts : List Tree) → row < len → all_have_rows len (trees.of_list ts) ≡ true → list_all (λ t. nat_lt row (length (rows t))) ts ≡ true
 in_rows len row [] l h = refl
 in_rows len row (t ∷ ts) l h =

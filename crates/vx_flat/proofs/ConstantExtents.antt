@@ -1,4 +1,4 @@
--- The extents of a constant are those of its value, so many times.
+-- The extents of a constant: the counts of its value times its length.
 use Rattle.std.proofs.Common.{◌≡◌, ◌*◌, ℕ, [], ◌∷◌}
 use Rattle.std.specs.Prelude.{nat_le}
 use Rattle.std.specs.List.{list_all}

@@ -1,4 +1,4 @@
--- The places of runs, of those in blocks, and of so many numbers in general.
+-- The places of runs and of runs in blocks, and lemmas on `below f n`, the values of f at each number below n.
 use Rattle.std.proofs.Common.{◌≡◌, inl, inr, ◌<◌, ◌≤◌, ◌+◌, ◌-◌, ◌^◌, ◌++◌, ◌∙◌, ℕ, zero, suc, ℤ, pos, negsuc, List, [], ◌∷◌, map, length, get_or, take, replicate, Bool, true, false, cond, refl, sym, ap, arith, append_assoc}
 use Rattle.std.specs.Prelude.{int_lt, ◌&&◌}
 use Rattle.std.specs.List.{list_all, range_with_len}

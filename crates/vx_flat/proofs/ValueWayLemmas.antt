@@ -87,7 +87,7 @@ count_at-next w t vs i v l e =
     ap (λ ws. count_at w t (map value_of ws)) (take_more vs i v l ∙ ap (λ x. take i vs ++ x ∷ []) (sym e))
     ∙ ap (count_at w t) (map-append value_of (take i vs) (v ∷ [])) ∙ count_at-append w t (map value_of (take i vs)) (value_of v ∷ [])
 
--- so many equal items
+-- the counts of equal items, cut off at a limit
 least-copies : (n k most : ℕ) → min (n * min k most) most ≡ min (n * k) most
 least-copies zero k most = let a = zero-mul (min k most) in let b = zero-mul k in omega arith
 least-copies (suc n) k most =
@@ -113,7 +113,7 @@ module _ (w : PlainWay) where
   count_at-no_items (structure fs n) e v = none_there w
   count_at-no_items s e v = absurd cc
 
-  -- a null list of fixed size has so many null items
+  -- a null list of fixed size has as many null items as its size
   count_at-null_items : (s t : PlainType) → items_type s ≡ Some t → count_at (inside w) s (null ∷ []) ≡ items_of_null s * count_at w t (null ∷ [])
   count_at-null_items (list u n) t e = count_at-none w u ∙ sym (zero-mul (count_at w t (null ∷ [])))
   count_at-null_items (fixed_size_list u size n) t e =

@@ -31,7 +31,7 @@ fn keeps_three<L: Ledger>(
     Ok(matches!(split, Split::Kept) && tree.len() == 3 && column.array_len() == 3)
 }
 
-// The same of a column that may have another number of rows.
+// Whether it keeps a column of three rows; false of one of another length.
 fn keeps(column: &mut ArrayAndStats, ctx: &mut ExecutionCtx) -> VortexResult<bool> {
     if column.array().len() != 3 {
         return Ok(false);
@@ -39,7 +39,7 @@ fn keeps(column: &mut ArrayAndStats, ctx: &mut ExecutionCtx) -> VortexResult<boo
     keeps_three::<Brand>(column, ctx, Blank::new(1))
 }
 
-// The same of a column of these rows.
+// Whether it keeps the u8 column of these rows.
 fn keeps_rows(alloc: Global, rows: &[Option<i128>]) -> VortexResult<bool> {
     let mut ctx = context(alloc)?;
     let mut column = bundle(alloc, PType::U8, rows)?;

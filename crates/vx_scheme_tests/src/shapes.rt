@@ -33,7 +33,7 @@ pub(crate) fn is_tree(tree: &ArrayRef, root: Shape, children: &[Shape]) -> bool 
     true
 }
 
-// Whether a scheme makes so many parts of a tree's rows, and this is the tree with the parts as they are.
+// Whether a scheme makes this number of parts of a tree's rows, and this is the tree with the parts as they are.
 pub(crate) fn makes<S: Scheme>(
     alloc: Global,
     scheme: &S,
