@@ -1,4 +1,4 @@
-//! Tests of the crates below the trees: texts, scalars, lists, packing and the kernels of integers.
+//! Tests of the crates below the trees: texts, scalars, lists, packing, the kernels of integers and timestamps in parts.
 #![tactic(auto)]
 
 #[cfg(test)]
@@ -11,6 +11,8 @@ mod ints;
 mod lists;
 #[cfg(test)]
 mod packing;
+#[cfg(test)]
+mod parts;
 #[cfg(test)]
 mod rows;
 #[cfg(test)]

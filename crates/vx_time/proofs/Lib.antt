@@ -1,0 +1,9 @@
+pub mod Canonicals
+pub mod Decided
+pub mod Held
+pub mod Machine
+pub mod Places
+pub mod Products
+pub mod Rounding
+pub mod Splits
+pub mod StandardFacts

@@ -1,0 +1,3 @@
+pub mod CanonicalParts
+pub mod PartsOf
+pub mod Refusals
