@@ -83,8 +83,8 @@ fn moments(alloc: Global) -> VortexResult<Vec<i64>> {
 
 // The rows as a plain column without nulls.
 fn column_of(rows: Vec<i64>) -> VortexResult<ArrayRef> {
-    let values = Ints::I64(IntList::from_vec(rows));
-    ArrayRef::primitive(values, None, NonNullable).map_err(|refused| refused.error)
+    let column = ArrayRef::primitive(Ints::I64(IntList::from_vec(rows)), None, NonNullable)?;
+    Ok(column)
 }
 
 // The column's tree. The sample words say where samples are taken; any will do, and the same ones give the same tree.

@@ -35,7 +35,7 @@ pub enum Node {
     FoR(Child, Scalar),
     /// The integers whose zigzags child 0 holds.
     ZigZag(Child),
-    /// Child 1's value at the place that child 0's code in the row is.
+    /// Dictionary encoding: child 0 has a code for each row, the index of the row's value in child 1.
     Dict(Child, Child),
     /// Nulls alone, and how many. No children.
     Null(u64),
@@ -49,15 +49,15 @@ pub enum Node {
     /// The patches' values in their rows and the scalar in every other one. Children 0 and 1 are the patches' indices and
     /// values.
     Sparse(Box<Patches>, Scalar),
-    /// Runs of integers: child 1's values, each up to the end, exclusive, that child 0 holds for it.
+    /// Runs of equal integers: child 0 has the exclusive end of each run, child 1 its value.
     RunEnd(Child, Child),
-    /// Runs in blocks of 1,024 rows, and the number of rows: child 0's value at the place
+    /// Runs in blocks of 1,024 rows, and the number of rows. A row's value is child 0's at index
     /// `child 2 [row / 1024] + child 1 [row]`.
     Rle(Child, Child, Child, u64),
-    /// An arithmetic sequence of integers: type, nullability, the first one, the step, and the number of rows. No children.
+    /// An arithmetic sequence of integers: type, nullability, first row, step and number of rows. No children.
     Sequence(PType, Nullability, i128, i128, u64),
-    /// Integers by their differences: in each block of 1,024 rows the prefix sums of child 1's differences from child 0's
-    /// base on; the number of rows, validity and nullability.
+    /// Delta-encoded integers: row r of a block of 1,024 rows is child 0's base of the block plus child 1's differences 0 to
+    /// r of the block. Then the number of rows, validity and nullability.
     Delta(Child, Child, u64, Option<Mask>, Nullability),
 }
 
@@ -70,8 +70,8 @@ pub struct Child {
     pub array: Box<ArrayRef>,
 }
 
-/// Values that stand in place of an array's own in some rows: the one with index `i` in row `i - offset`. Contracts see
-/// them as plain data.
+/// Values that replace an array's own in some rows: the patch with index `i` replaces row `i - offset`. Contracts see them
+/// as plain data.
 #[cycle(tree)]
 pub struct Patches {
     pub(crate) array_len: u64,
@@ -267,7 +267,7 @@ impl ArrayRef {
         }
     }
 
-    /// The child at a place, None where there is none.
+    /// Child number `place`, from 0; None out of bounds.
     #[tactic(auto, using(vx_model::proofs::TreesLemmas::trees))]
     pub fn child(&self, place: usize) -> Option<&ArrayRef>
         ensures { option_copied result ≡ slice_get (children self.now) place }

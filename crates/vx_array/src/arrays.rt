@@ -95,7 +95,7 @@ impl Arrays {
         items
     }
 
-    /// Adds a tree last. Want of memory hands it back and leaves the list as it was.
+    /// Appends a tree. Where memory runs out, the Err hands it back and the list stays as it was.
     #[tactic(auto, using(vx_model::proofs::TreesLemmas::growing))]
     pub fn push(&mut self, item: ArrayRef) -> Result<(), ArrayRef>
         ensures { MatchResult result (λ _. self.new ≡ self.old ++ item ∷ []) (λ back. (back ≡ item) × (self.new ≡ self.old)) }

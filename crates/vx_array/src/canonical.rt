@@ -1,4 +1,5 @@
-//! Decoding: the plain tree of a tree's column, made column by column and not row by row.
+//! Decoding: the plain tree of a tree's column. Leaf types and timestamps are decoded column by column, nested types value by
+//! value.
 
 ghost use Rattle.std.specs.Prelude.{◌≡◌, IsTrue};
 ghost use Rattle.vx_base.specs.Answers.{Answers, OrMemory};
@@ -21,8 +22,8 @@ use vx_flat::{
 use vx_values::{Decoded, Values};
 
 impl ArrayRef {
-    /// The plain tree of the tree's column (`tree`): no encoding (`plain`), the same type and rows (`kept`). Refuses
-    /// nothing but want of memory.
+    /// Decodes the tree: the plain tree of its column (`tree`), without any encoding (`plain`), of the same type and rows
+    /// (`kept`). Refuses NoMemory alone.
     pub fn canonical(&self, alloc: Global) -> VortexResult<ArrayRef>
         ensures tree { Answers result (plain (column_of self.now)) }
         ensures kept { OrMemory result (λ tree. column_of tree ≡ column_of self.now) }

@@ -31,8 +31,8 @@ impl ArrayRef {
         Ok(ArrayRef::primitive_of(offsets, None, Nullability::NonNullable))
     }
 
-    /// The VarBin node of a plain tree of texts or binaries, over any tree of the offsets that `row_offsets` gives. Want of
-    /// memory, the only refusal, drops the offsets.
+    /// The VarBin node of a plain tree of texts or binaries, over any tree of the offsets that `row_offsets` gives. Refuses
+    /// NoMemory alone, and then drops the offsets.
     pub fn joined_over(&self, alloc: Global, offsets: ArrayRef) -> VortexResult<ArrayRef>
         requires plain { IsPlain self.now }
         requires bytes { IsTrue (is_bytes (tree_type self.now)) }
@@ -60,7 +60,7 @@ impl ArrayRef {
         }
     }
 
-    // `var_bin` of inputs that are known to be admitted. Reads no offset and no value.
+    // `var_bin` without its checks, for inputs that pass them. Reads no offset and no value.
     fn var_bin_of(
         alloc: Global,
         offsets: ArrayRef,

@@ -28,7 +28,7 @@ use vx_values::Ints;
 impl ArrayRef {
     /// The plain tree (`tree`, `plain`) of a column of this type and these values, which each fit the type (`kept`).
     /// Beneath a null struct the fields hold their defaults, beneath a null fixed-size list its elements do, and a null
-    /// list is empty. The values are moved into the tree, and want of memory, the only refusal, drops them.
+    /// list is empty. The values are moved into the tree. Refuses NoMemory alone, and then drops them.
     pub fn of_values(alloc: Global, dtype: &DType, values: Vec<Value>) -> VortexResult<ArrayRef>
         requires { IsTrue (list_all (fits (type_of dtype.now)) (map value_of values.items)) }
         ensures tree { Answers result (plain_of (type_of dtype.now) (map value_of values.items)) }

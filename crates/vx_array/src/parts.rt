@@ -31,8 +31,8 @@ impl ArrayRef {
         }
     }
 
-    /// A Primitive of other integers, as many, with the validity and nullability of this Primitive. Want of memory, the only
-    /// refusal, drops the integers.
+    /// This Primitive with other integers in place of its own, one for each row; validity and nullability stay. Refuses
+    /// NoMemory alone, and then drops the integers.
     pub fn with_integers(&self, alloc: Global, values: Ints) -> VortexResult<ArrayRef>
         requires primitive { encoding self.now ≡ ids.Primitive }
         requires rows { length (wholes_of values) ≡ length (rows self.now) }

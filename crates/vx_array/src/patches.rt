@@ -54,7 +54,7 @@ impl Patches {
         Ok(Patches::of_rising(array_len, offset, indices, values))
     }
 
-    /// `new` of indices and values that are known to be admitted. Reads no row.
+    /// `new` without its checks, for indices and values that the caller knows to pass them. Reads no row.
     pub fn of_rising(array_len: u64, offset: u64, indices: ArrayRef, values: ArrayRef) -> Patches
         requires { patches_refusal (patches array_len offset indices values) ≡ None }
         ensures { result ≡ patches array_len offset indices values }
@@ -83,7 +83,7 @@ impl Patches {
         self.array_len
     }
 
-    /// What an index is above its row: index = offset + row.
+    /// The difference of an index and its row: index = offset + row.
     pub fn offset(&self) -> u64
         ensures { result ≡ self.now.offset }
     {

@@ -69,7 +69,7 @@ impl ArrayRef {
     }
 
     /// Whether each extent of the tree, its own rows and those of each nested column, is at most 2^31. Extents are counted
-    /// as the tree is given: those of a constant are the counts of its value times its rows.
+    /// without decoding, so a constant's value counts once a row.
     #[cycle(extents_fit)]
     #[tactic(auto, using(vx_model::proofs::TreesLemmas::lists, vx_model::proofs::TreesLemmas::falls))]
     pub fn extents_fit(&self) -> bool

@@ -70,15 +70,15 @@ pub enum DType {
     Primitive(PType, Nullability),
     /// Texts.
     Utf8(Nullability),
-    /// Lists of bytes.
+    /// Byte strings.
     Binary(Nullability),
-    /// Points in time, each a count of 64 signed bits in the unit of the type.
+    /// Points in time, each a signed 64-bit count of the type's unit.
     Timestamp(TimestampType, Nullability),
     /// Structs: one value per field.
     Struct(Fields, Nullability),
     /// Lists of values of one type.
     List(Box<DType>, Nullability),
-    /// Lists of values of one type, with this number of values each.
+    /// Lists of this number of values each, all of one type.
     FixedSizeList(Box<DType>, u32, Nullability),
 }
 
@@ -117,7 +117,7 @@ impl DType {
         self.nullability().allows_null()
     }
 
-    /// The integer type of a type of integers.
+    /// The type of the integers; it has to be an integer type.
     pub fn ptype(&self) -> PType
         requires integer { IsTrue (is_integer (type_of self.now)) }
         ensures { result ≡ integer_of (type_of self.now) }

@@ -18,7 +18,7 @@ pub enum VortexError {
     /// A type or content that the call doesn't accept.
     #[error("MismatchedTypes")]
     MismatchedTypes,
-    /// A length other than the one that the call states.
+    /// A length other than the one that the call requires.
     #[error("LengthMismatch")]
     LengthMismatch,
     /// A row, end, index, code, offset, width or number that is out of bounds.

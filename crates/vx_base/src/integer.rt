@@ -38,7 +38,7 @@ pub trait Integer: Copy + Drop + Ord + Hash {
         ensures value { result ≡ bits_in kind (whole self) }
         ensures small { result < 2 ^ bits_of kind };
 
-    /// The value whose two's complement is the low bits of `bits`, as many as the type has.
+    /// The value whose two's complement is the low bits of `bits`; higher bits than the type has are ignored.
     fn from_low_bits(bits: u64) -> Self
         ensures { whole result ≡ from_bits kind (bits % 2 ^ bits_of kind) };
 

@@ -8,9 +8,8 @@ use std::sync::ledger::{Blank, Book, Ledger, Share};
 /// How often something was done. It takes no bytes and no time at run time: contracts see the count, and only
 /// `tick` changes it.
 ///
-/// `L` names the ledger of std that carries the count, so it is bounded by `Ledger`. A function
-/// that counts takes `L: Ledger` and a `&mut Steps<L>`. Who begins a count makes a `Blank` of one
-/// part and passes it to a function over `L: Ledger`, called at `Brand`.
+/// `L` names the ledger of std that carries the count. A function that counts takes `L: Ledger` and a `&mut Steps<L>`. To
+/// begin a count, make a `Blank` of one part and pass it to a function over `L: Ledger`, called at `Brand`.
 #[derive(Drop)]
 pub struct Steps<L: Ledger> {
     book: Book<L>,

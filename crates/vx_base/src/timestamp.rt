@@ -62,7 +62,7 @@ impl TimeUnit {
     }
 }
 
-/// A unit of which a second is a whole number, and the name of a time zone if there is one.
+/// A unit that divides a second, and the name of a time zone if there is one.
 #[derive(Debug, Drop)]
 pub struct TimestampType {
     unit: TimeUnit,
@@ -85,7 +85,7 @@ impl Model for TimestampType {
 impl TimestampType {
     ghost use Rattle.vx_base.specs.Timestamps.{kind};
 
-    /// A unit and a zone, of which any name is accepted. Refuses DayUnit where the unit is days.
+    /// A unit and a time zone, whose name may be any text. Refuses DayUnit where the unit is days, and hands the zone back.
     pub fn new(unit: TimeUnit, zone: Option<Text>) -> Result<TimestampType, Refused<Option<Text>>>
         ensures { MakesSurely (unless (divides unit) DayUnit None) (kind unit zone) zone result }
     {

@@ -5,8 +5,8 @@ ghost use Rattle.vx_base.specs.Narrow.{narrow_of};
 
 use vx_base::PType;
 
-/// The narrowest type with `least` and `greatest` in range: unsigned where `least` is not negative, else signed. There has to
-/// be one.
+/// The narrowest type with `least` and `greatest` in range: unsigned where `least` is not negative, else signed. Requires
+/// that 64 bits are enough.
 pub fn narrow_type(least: i128, greatest: i128) -> PType
     requires { IsSome (narrow_of least greatest) }
     ensures { narrow_of least greatest ≡ Some result }

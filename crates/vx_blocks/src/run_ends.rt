@@ -8,7 +8,7 @@ ghost use Rattle.vx_blocks.specs.Runs.{run_ends};
 use std::alloc::Global;
 use vx_base::{Integer, Mask, VortexResult};
 
-// Whether two rows differ, without a branch. The value beneath a null doesn't count.
+// Whether two rows differ, without a branch. Two nulls are equal, whatever the values beneath.
 #[inline(always)]
 pub(crate) fn is_other<T: Integer>(a: T, a_valid: bool, b: T, b_valid: bool) -> bool
     ensures { result ≡ not (same_row (optional_row (T.whole a) a_valid) (optional_row (T.whole b) b_valid)) }

@@ -47,7 +47,8 @@ any_refined own (IntRLE s) allowed = IntRLE s
 any_refined own (Delta s) allowed = Delta s
 any_refined own (Own x) allowed = Own (own x allowed)
 
--- what the scheme inside answers at a threshold, by its meaning's verdict: exactly `above` of it for the sequence and the delta scheme, of which delta takes memory; else what the trait admits
+-- what the scheme inside answers at a threshold, by its meaning's verdict: exactly `above` of it for the sequence and the delta
+-- scheme, though delta may refuse NoMemory; else what the trait admits
 abbrev pub IsResolvedBy : {X : Type 0} → AnyScheme X → Option Fraction → EstimateVerdict → Result EstimateVerdict VortexError → Type 0
 IsResolvedBy (FoR s) threshold verdict result = OrMemory result (IsResolved threshold verdict)
 IsResolvedBy (ZigZag s) threshold verdict result = OrMemory result (IsResolved threshold verdict)

@@ -70,9 +70,9 @@ impl<X: Scheme> BtrBlocksCompressor<X> {
         self.0.compress(array, ctx)
     }
 
-    /// `compress` of an array that is given up, also where it is refused. A plain array moves to its site, which saves its
-    /// copy. Refuses TooManyRows exactly where an extent of the array passes 2^31 rows, and NoMemory. The context stays as
-    /// it was.
+    /// `compress` of an array by value, which is dropped also where the call refuses. A plain array moves to its site,
+    /// which saves a copy. Refuses TooManyRows exactly where an extent of the array passes 2^31 rows, and NoMemory. The
+    /// context stays as it was.
     pub fn compress_owned(&self, array: ArrayRef, ctx: &mut ExecutionCtx) -> VortexResult<ArrayRef>
         ensures answer { Decided (compress_refusal array) (λ tree. tree ≡ cascade (leaf_tree (setting (any_meaning X.meaning) self.now.0 ctx.old)) (column_of array)) result }
         ensures kept { IfOk result (λ tree. column_of tree ≡ column_of array) }

@@ -11,8 +11,8 @@ pub use compressor::{BtrBlocksCompressor, shipped_schemes};
 pub use laws::laws_of_shipped_schemes;
 pub use vx_array::{ArrayRef, Arrays, Node, Patches};
 pub use vx_base::{
-    ArrayId, ByteRows, Bytes, DType, ExecutionCtx, Fields, Fraction, IdSet, IntList, Items, Mask,
-    Names, Nullability, PType, Refused, Scalar, Steps, Text, TimeUnit, TimestampType, Value,
+    ArrayId, ByteRows, Bytes, Cell, DType, ExecutionCtx, Fields, Fraction, IdSet, IntList, Items,
+    Mask, Names, Nullability, PType, Refused, Scalar, Steps, Text, TimeUnit, TimestampType, Value,
     Values, VortexError, VortexResult, Words,
 };
 pub use vx_compressor::{CascadingCompressor, Schemes};

@@ -1,21 +1,17 @@
-//! From a plain column to its tree and back, as the README has it, with ample memory.
+//! From a plain column to its tree and back: the README's example, word for word, with ample memory.
 
 use crate::comparing::form_of;
 use std::alloc::Global;
 use std::test::Fail;
-use vx_array::ArrayRef;
-use vx_base::ArrayId::{Primitive, Sequence};
-use vx_base::Nullability::NonNullable;
-use vx_base::{ExecutionCtx, IntList, VortexResult, Words};
-use vx_btrblocks::BtrBlocksCompressor;
-use vx_scheme::NoScheme;
-use vx_values::Ints;
+use vx_btrblocks::ArrayId::{Primitive, Sequence};
+use vx_btrblocks::Nullability::NonNullable;
+use vx_btrblocks::{
+    ArrayRef, BtrBlocksCompressor, ExecutionCtx, IntList, Ints, NoScheme, VortexResult, Words,
+};
 
 fn there_and_back(alloc: Global, rows: Vec<i64>) -> VortexResult<(ArrayRef, ArrayRef)> {
-    let values = Ints::I64(IntList::from_vec(rows));
-    let column = ArrayRef::primitive(values, None, NonNullable).map_err(|refused| refused.error)?;
-    let words = Words::from_vec(vec![in alloc; 0]?);
-    let mut ctx = ExecutionCtx::new(alloc, words);
+    let column = ArrayRef::primitive(Ints::I64(IntList::from_vec(rows)), None, NonNullable)?;
+    let mut ctx = ExecutionCtx::new(alloc, Words::from_vec(vec![in alloc; 0]?));
     let compressor = BtrBlocksCompressor::<NoScheme>::shipped(alloc)?;
     let tree = compressor.compress(&column, &mut ctx)?;
     let plain = tree.canonical(alloc)?;

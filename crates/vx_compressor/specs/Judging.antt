@@ -43,7 +43,7 @@ WasPutOff c site m how = m.estimate c site ≡ Deferred how
 
 -- ---- the first pass
 
--- a scheme's score before others, where its verdict is immediate
+-- a scheme with its score in front of others, where its verdict is immediate
 abbrev pub told_by : {A : Type 0} → A → CompressionEstimate → List (A × Option Score) → List (A × Option Score)
 told_by x (Verdict v) rest = (x, verdict_score v) ∷ rest
 told_by x (Deferred d) rest = rest
@@ -53,7 +53,7 @@ abbrev pub told : Column → Site → List Meaning → List (Meaning × Option S
 told c site [] = []
 told c site (m ∷ ms) = told_by m (m.estimate c site) (told c site ms)
 
--- a scheme before others with how its verdict is found, where it defers
+-- a scheme in front of others, with how its verdict is found, where it defers
 abbrev pub put_off_by : {A : Type 0} → A → CompressionEstimate → List (A × DeferredEstimate) → List (A × DeferredEstimate)
 put_off_by x (Verdict v) rest = rest
 put_off_by x (Deferred d) rest = (x, d) ∷ rest
@@ -75,7 +75,7 @@ threshold_of (Some (x, Finite f)) = Some f
 threshold_of (Some (x, Always)) = None
 threshold_of None = None
 
--- beside this best so far, what is told of a scheme leaves the same best as its score would
+-- given this best so far, what a scheme answers leaves the same best as its score would
 abbrev pub DoesFor : {A : Type 0} → Option (A × Score) → A → Option Score → Option Score → Type 0
 DoesFor best x score told = better best x told ≡ better best x score
 

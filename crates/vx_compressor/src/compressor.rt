@@ -113,9 +113,9 @@ impl<S: Scheme> CascadingCompressor<S> {
         column_tree(self, array, ctx)
     }
 
-    /// `compress` of an array that is given up, also where it is refused. A plain array moves to its site, which saves its
-    /// copy. Refuses TooManyRows exactly where an extent of the array passes 2^31 rows, and NoMemory. The context stays as
-    /// it was.
+    /// `compress` of an array by value, which is dropped also where the call refuses. A plain array moves to its site,
+    /// which saves a copy. Refuses TooManyRows exactly where an extent of the array passes 2^31 rows, and NoMemory. The
+    /// context stays as it was.
     pub fn compress_owned(&self, array: ArrayRef, ctx: &mut ExecutionCtx) -> VortexResult<ArrayRef>
         ensures answer { Decided (compress_refusal array) (λ tree. tree ≡ cascade (leaf_tree (setting S.meaning self.now ctx.old)) (column_of array)) result }
         ensures kept { IfOk result (λ tree. column_of tree ≡ column_of array) }

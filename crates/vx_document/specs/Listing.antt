@@ -38,7 +38,7 @@ own_numbers (rle values indices offsets len) = []
 own_numbers (sequence p n first step len) = codes " first=" ++ signed_decimal first ++ codes " step=" ++ signed_decimal step
 own_numbers (delta bases deltas len valid n) = []
 
--- the root's encoding, type, rows and bytes; the bytes are those that 128 bits count, at most 2^128 - 1
+-- the root's encoding, type, rows and bytes; the bytes saturate at 2^128 - 1
 unfoldable pub heading : Tree → List ℕ
 heading tree =
     concat (id_name (encoding tree) ∷ codes " " ∷ type_text (tree_type tree) ∷ codes " len=" ∷ decimal (length (rows tree)) ∷ codes " size=" ∷ decimal (nbytes tree) ∷ [])

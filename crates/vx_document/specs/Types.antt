@@ -23,7 +23,7 @@ named_types n =
 unfoldable pub type_named : List ℕ → Option PlainType
 type_named text = find (λ t. bytes_eq text (type_text t)) (null_type ∷ named_types NonNullable ++ named_types Nullable)
 
--- the unit whose text it is; days have no timestamps
+-- the unit with this name; none of days, which no timestamp counts
 unfoldable pub unit_named : List ℕ → Option TimeUnit
 unit_named text = find (λ u. bytes_eq text (unit_text u)) (Seconds ∷ Milliseconds ∷ Microseconds ∷ Nanoseconds ∷ [])
 

@@ -37,7 +37,7 @@ pub struct Document {
     pub words: Words,
 }
 
-// The value of JSON that the bytes are.
+// Parses the bytes as one JSON value.
 #[tactic(auto, unfolding(crate::specs::Reading::value_of))]
 fn read_value(alloc: Global, bytes: &[u8]) -> Result<Value, Unread>
     ensures { Gives view result (value_of bytes.now) }
@@ -54,14 +54,14 @@ fn read_value(alloc: Global, bytes: &[u8]) -> Result<Value, Unread>
     }
 }
 
-// The value of JSON that the bytes are. The bytes are dropped here, before anything is made of the value.
+// Parses the bytes as one JSON value, and drops them before anything is made of it.
 fn value_of(alloc: Global, bytes: Vec<u8>) -> Result<Value, Unread>
     ensures { Gives view result (value_of bytes.items) }
 {
     read_value(alloc, bytes.as_slice())
 }
 
-// The document that a value is. Its values are dropped row by row as they are read, so that rows aren't held twice.
+// Reads a JSON value as a document. Its rows are dropped one by one as they are read, so that they aren't held twice.
 #[tactic(auto, unfolding(crate::specs::Document::document_of))]
 fn document_of(alloc: Global, value: Value) -> Result<Document, Unread>
     ensures document { Gives (λ d. record { column = d.column; words = d.words }) result (document_of (view value)) }
@@ -87,7 +87,7 @@ fn document_of(alloc: Global, value: Value) -> Result<Document, Unread>
     Ok(Document { column, words })
 }
 
-/// The document that the bytes are. Refuses BadDocument exactly where they are not one, and NoMemory where memory runs
+/// Reads a document from its bytes. Refuses BadDocument exactly where they are not one, and NoMemory where memory runs
 /// out. The bytes are not handed back: they are dropped before the rows are made, since a column and its text together
 /// take twice the memory.
 #[tactic(auto, unfolding(crate::specs::Document::document))]

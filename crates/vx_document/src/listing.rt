@@ -103,7 +103,7 @@ fn push_trees(
 }
 
 /// The listing of a tree: a line for each node, in preorder, with its encoding, type, rows, bytes and own numbers.
-/// Bytes above 2^128 - 1 are listed as 2^128 - 1. An Err is want of memory.
+/// Bytes above 2^128 - 1 are listed as 2^128 - 1. An Err means that memory ran out.
 pub fn listing_text(alloc: Global, tree: &ArrayRef) -> Result<String, AllocError>
     ensures { IfOk result (λ text. string_bytes text ≡ listing [] tree.now) }
 {
@@ -121,8 +121,8 @@ fn push_sizes(text: &mut String, plain: u128, tree: u128) -> Result<(), AllocErr
     Ok(())
 }
 
-/// The listing of a tree and behind it the line of sizes: `plain`, the bytes of the plain tree, and the tree's own. An
-/// Err is want of memory.
+/// The listing of a tree, then the line of sizes: `plain`, the bytes of the plain tree, and the tree's own. An Err means
+/// that memory ran out.
 pub fn report_text(alloc: Global, plain: u128, tree: &ArrayRef) -> Result<String, AllocError>
     ensures { IfOk result (λ text. string_bytes text
         ≡ listing [] tree.now ++ sizes_line plain (nbytes tree.now)) }

@@ -165,7 +165,7 @@ pub fn made_of<S: Scheme>(
     made_of_taken(scheme, &mut column, &mut ctx)
 }
 
-/// The numbers of a scheme's exclusion rules: of those against what stands below it, and of those against standing below others.
+/// How many exclusion rules a scheme has: against others below itself, and against itself below others.
 pub fn rules_of<S: Scheme>(alloc: Global, scheme: &S) -> VortexResult<(u64, u64)> {
     let below = scheme.descendant_exclusions(alloc)?.len();
     let above = scheme.ancestor_exclusions(alloc)?.len();

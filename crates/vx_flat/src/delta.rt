@@ -29,8 +29,8 @@ pub fn wrapped(ptype: PType, whole: i128) -> i128
     }
 }
 
-/// `len` rows: in each block of 1,024 the prefix sums of its differences from its base on, wrapping in the bases' type; 0
-/// where `valid` is false.
+/// `len` rows: row r of a block of 1,024 is the block's base plus its differences 0 to r, wrapping in the bases' type; 0 where
+/// `valid` is false.
 pub fn decoded_delta(
     alloc: Global,
     bases: &Ints,

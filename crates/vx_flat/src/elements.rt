@@ -64,7 +64,7 @@ fn element_count(lists: &[Value]) -> usize
 }
 
 /// The bytes of all lists' elements, concatenated, and the offsets between the lists; a null element has no bytes. The bytes
-/// are moved, and want of memory drops them.
+/// are moved; NoMemory drops them.
 pub fn byte_elements(alloc: Global, values: Vec<Value>) -> VortexResult<(Vec<Bytes>, Vec<u64>)>
     ensures { OrMemory result (λ parts. (parts.0.items ≡ map bytes_or_empty (elements (map value_of values.items))) × (parts.1.items ≡ offsets_of (list_rows (map value_of values.items)))) }
 {

@@ -107,7 +107,7 @@ fn whole(value: &Value) -> i128
     }
 }
 
-/// The bytes of each value, none of null. They are moved, and want of memory drops them.
+/// The bytes of each value, none of null. They are moved; NoMemory drops them.
 pub fn byte_rows(alloc: Global, values: Vec<Value>) -> VortexResult<ByteRows>
     ensures { Answers result (map bytes_or_empty (map value_of values.items)) }
 {

@@ -15,8 +15,7 @@ use std::alloc::Global;
 use vx_base::{ByteRows, Bytes, IntList, Integer, Mask, Scalar, VortexResult};
 use vx_values::{Ints, Values};
 
-/// The values, then the scalar's, or its type's default where it is null. The values are moved, and want of memory drops
-/// them.
+/// The values, then the scalar's, or its type's default where it is null. The values are moved; NoMemory drops them.
 pub fn values_with(alloc: Global, values: Values, last: &Scalar) -> VortexResult<Values>
     requires flat { IsTrue (is_flat last.now.dtype) }
     requires kind { kind_in values ≡ kind_of last.now.dtype }

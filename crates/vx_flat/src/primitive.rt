@@ -18,7 +18,7 @@ use std::alloc::Global;
 use vx_base::{Cell, Mask, Nullability, VortexError, VortexResult};
 use vx_values::{Decoded, Ints, Values, copy_validity, has_length, is_allowed, is_valid};
 
-/// The refusal of `len` values with this validity: LengthMismatch where there are bits and not `len` of them, then
+/// Why `len` values with this validity are refused: LengthMismatch where there are bits and not `len` of them, then
 /// MismatchedTypes where one is false and the type is non-nullable.
 pub fn flat_refusal(len: u64, valid: &Option<Mask>, nullability: Nullability) -> Option<VortexError>
     ensures { result ≡ primitive_refusal len valid.now nullability }

@@ -15,7 +15,7 @@ use std::alloc::Global;
 use vx_base::{Cell, PType, VortexResult};
 use vx_values::{Decoded, Ints, Values};
 
-/// Whether the first and the last row lie in the type, where there are rows. All rows between then do.
+/// Whether the first and the last row lie in the type, where there are rows. Then all rows between them do too.
 pub fn are_held(ptype: PType, first: i128, step: i128, len: u64) -> bool
     ensures { result ≡ (len == 0 || lies_in ptype first && lies_in ptype (first +ℤ pos (len - 1) *ℤ step)) }
 {

@@ -8,7 +8,7 @@ ghost use Rattle.vx_base.specs.TypeOf.{type_of};
 
 use vx_base::{Cell, DType, is_short, is_text};
 
-/// Whether a row fits a type of texts or binaries: null of a nullable one, fewer than 2^32 bytes, and of texts UTF-8.
+/// Whether a row fits a text or binary type: null only where that is nullable, else fewer than 2^32 bytes, and UTF-8 in texts.
 pub fn fits(dtype: &DType, row: Cell<'_>) -> bool
     requires { IsTrue (is_bytes (type_of dtype.now)) }
     ensures { result ≡ fits (type_of dtype.now) (cell_value row.entry) }

@@ -20,7 +20,7 @@ use std::alloc::Global;
 use vx_base::{ByteRows, Bytes, Cell, DType, Mask, VortexError, VortexResult};
 use vx_values::{Decoded, Values, byte_rows, copy_validity, has_length, is_allowed, is_valid};
 
-/// The refusal of these as texts or binaries: MismatchedTypes of any other type; then LengthMismatch where there are
+/// Why these are refused as texts or binaries: MismatchedTypes for any other type; then LengthMismatch where there are
 /// validity bits and not one a row; then ValueTooLong where a value, valid or not, has 2^32 bytes or more; then
 /// MismatchedTypes where a bit is false and the type non-nullable, or a valid row of texts isn't UTF-8.
 pub fn view_refusal(values: &ByteRows, valid: &Option<Mask>, dtype: &DType) -> Option<VortexError>

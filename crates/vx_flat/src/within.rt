@@ -18,8 +18,8 @@ use std::alloc::Global;
 use std::vec::IntoIter;
 use vx_base::{DType, Fields, Scalar, Value, Values, VortexResult};
 
-/// One column of values for each field of structs; a null struct has its fields' defaults. The values are moved, and want of
-/// memory drops them.
+/// One column of values for each field of structs; a null struct has its fields' defaults. The values are moved; NoMemory
+/// drops them.
 pub fn field_columns(
     alloc: Global,
     fields: &Fields,
@@ -97,8 +97,8 @@ fn default_value(alloc: Global, dtype: &DType) -> VortexResult<Value>
     scalar.value().copy(alloc)
 }
 
-/// All lists' items, concatenated, and the offsets between the lists; a null list has no items. The values are moved, and
-/// want of memory drops them.
+/// All lists' items, concatenated, and the offsets between the lists; a null list has no items. The values are moved;
+/// NoMemory drops them.
 pub fn list_items(alloc: Global, values: Vec<Value>) -> VortexResult<(Vec<Value>, Vec<u64>)>
     ensures { OrMemory result (λ parts. (map value_of parts.0.items ≡ elements (map value_of values.items)) × (parts.1.items ≡ offsets_of (list_rows (map value_of values.items)))) }
 {
@@ -112,8 +112,7 @@ pub fn list_items(alloc: Global, values: Vec<Value>) -> VortexResult<(Vec<Value>
     Ok((items, offsets))
 }
 
-/// Fixed-size lists, with a list of `size` defaults in place of each null. The values are moved, and want of memory drops
-/// them.
+/// Fixed-size lists, with a list of `size` defaults in place of each null. The values are moved; NoMemory drops them.
 pub fn filled_lists(
     alloc: Global,
     dtype: &DType,

@@ -4,7 +4,7 @@ use Rattle.vx_program.specs.Reading.{limit}
 use Rattle.vx_document.specs.Document.{document}
 use Rattle.vx_program.specs.Answer.{is_supported, counts_fit}
 
--- The reply was written whole. Where it was not, 1 or 6 stands in the place of its status.
+-- The reply was written whole. Where it was not, the status is 1 or 6 instead of the reply's.
 abbrev pub IsWritten : ℕ → Type 0
 IsWritten status = (status ≢ 1) × (status ≢ 6)
 

@@ -9,7 +9,7 @@ use Rattle.vx_program.specs.declared.writing.Stop.TheVariants as stop
 abbrev pub Fails : Option (List ℕ) → Option (List ℕ) → ℕ → ℕ → List ℕ → Type 0
 Fails old new before now text = Rose before now × ((n : ℕ) × (n < length text) × Appends old new (take n text))
 
--- want of memory leaves the bytes written and the count of faults as they were
+-- where memory runs out, the bytes written and the count of faults stay as they were
 abbrev pub Stops : Option (List ℕ) → Option (List ℕ) → ℕ → ℕ → List ℕ → Stop → Type 0
 Stops old new before now text stop.NoMemory = (new ≡ old) × (now ≡ before)
 Stops old new before now text stop.Failed = Fails old new before now text

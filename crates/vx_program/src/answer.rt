@@ -164,7 +164,7 @@ fn reply_to_bytes(alloc: Global, bytes: Vec<u8>) -> Result<Reply, AllocError>
     }
 }
 
-/// The reply to the arguments and to all that the source gives. An Err is want of memory, where no fault was counted.
+/// The reply to the arguments and to all bytes of the source. An Err means that memory ran out; no fault was counted then.
 /// For any command line but `compress` it reads nothing and takes no memory.
 pub fn reply_to<I: Source>(
     alloc: Global,

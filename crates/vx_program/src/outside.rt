@@ -28,8 +28,7 @@ pub trait Source {
         ensures cause { HasCause (faults self.old) (faults self.new) result };
 }
 
-/// Takes bytes, after it was asked for room: want of memory is met before the first byte is written, and never between
-/// two.
+/// Takes bytes. Room for all of them is reserved first, so memory runs out before the first byte is written or not at all.
 pub trait Sink {
     /// The bytes written; None where they aren't known, as of standard output.
     ghost written: { Self → Option (List ℕ) };

@@ -63,7 +63,7 @@ fn read_more<I: Source>(
     Ok(Turn::More)
 }
 
-/// Reads until a fault, the end, or one byte above `LIMIT`, whichever comes first. An Err is want of memory alone; the
+/// Reads until a fault, the end, or one byte above `LIMIT`, whichever comes first. An Err means that memory ran out; the
 /// count of faults is then as it was.
 pub fn read_all<I: Source>(alloc: Global, source: &mut I) -> Result<Input, AllocError>
     ensures bytes { IfOk result (Came (I.left source.old) (I.left source.new)) }

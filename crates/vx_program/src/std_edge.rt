@@ -29,8 +29,8 @@ fn after_read(faults: &mut u64, read: io::Result<usize>) -> Result<usize, Failed
     }
 }
 
-// The bytes that a writer took of some, where it answered `written`: an Err and no byte at all are faults. Without the
-// second a writer that takes nothing would be asked again for ever.
+// What a sink answers where its writer answered `written` to a write of some bytes: an Err is a fault, and so is Ok(0),
+// since a writer that takes nothing would be asked again for ever.
 fn after_write(faults: &mut u64, written: io::Result<usize>) -> Result<usize, Failed>
     ensures taken { IfOk written (λ n. 0 < n → Passes faults.old faults.new result n) }
     ensures nothing { IfOk written (λ n. n ≡ 0 → CountsOnce faults.old faults.new result) }
@@ -43,7 +43,7 @@ fn after_write(faults: &mut u64, written: io::Result<usize>) -> Result<usize, Fa
     }
 }
 
-// What a sink answers of `count` bytes taken where the flush behind them answered `flushed`: an Err is a fault.
+// What a sink answers where its writer took `count` bytes and the flush after them answered `flushed`: an Err is a fault.
 fn after_flush(faults: &mut u64, count: usize, flushed: io::Result<()>) -> Result<usize, Failed>
     ensures exact { MatchResult flushed (λ _. Passes faults.old faults.new result count) (λ _. CountsOnce faults.old faults.new result) }
     ensures cause { HasCause faults.old faults.new result }

@@ -6,7 +6,7 @@ use crate::outside::{Failed, Sink, Source};
 use std::alloc::Global;
 use vx_base::{Bytes, VortexError, VortexResult};
 
-/// Gives the bytes of a list, at each call as many as the buffer has room for.
+/// Gives the bytes of a list: each read fills the buffer while bytes are left.
 #[derive(Drop)]
 pub struct SureSource {
     bytes: Bytes,

@@ -31,8 +31,8 @@ fn write_whole<O: Sink>(sink: &mut O, bytes: &[u8]) -> Result<(), Failed>
     Ok(())
 }
 
-/// Asks for room for the whole text, then writes it. So want of memory comes before the first byte or not at all, and
-/// never where the sink has the room already.
+/// Reserves room for the whole text, then writes it. So memory runs out before the first byte or not at all, and never
+/// where the sink has the room already.
 pub fn deliver<O: Sink>(sink: &mut O, text: &str) -> Result<(), Stop>
     ensures done { OnOk result (Appends (O.written sink.old) (O.written sink.new) text.now) }
     ensures same { OnOk result (O.faults sink.new ≡ O.faults sink.old) }

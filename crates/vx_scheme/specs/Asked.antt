@@ -11,7 +11,8 @@ use Rattle.vx_scheme.specs.Meaning.{Meaning, PlainSplit, kept, finished, parts, 
 use Rattle.vx_scheme.specs.declared.estimate.CompressionEstimate.TheVariants.{Deferred}
 use Rattle.vx_scheme.specs.declared.estimate.DeferredEstimate.TheVariants.{Callback}
 
--- the row limit of a column at any site: 2^31 of the document, 1 for the offsets of a list, and 1,024 for each of 3 + 1 levels
+-- the row limit of a column at any site: the row limit of compression, 2^31, 1 for the offsets of a list, and 1,024 for each of
+-- 3 + 1 levels of parts
 abbrev pub most_rows : ℕ
 most_rows = 2 ^ 31 + 4097
 

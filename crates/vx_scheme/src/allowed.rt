@@ -6,8 +6,8 @@ ghost use Rattle.vx_scheme.specs.Allowed.{is_allowed, is_in, BoundsNothing};
 
 use vx_base::{ArrayId, IdSet};
 
-/// The encodings that are allowed: those that are registered and in the chosen editions, without the excluded ones. None
-/// in place of a set is no bound.
+/// The encodings that are allowed: those in each set that is present, without the excluded ones. None in place of a set is
+/// no bound. `Scheme::refine` takes it; the compressor neither makes nor reads one.
 #[derive(Clone, Copy, Debug, PartialEq, Eq)]
 pub struct AllowedIds {
     pub registered: Option<IdSet>,

@@ -49,7 +49,7 @@ impl Model for ArrayAndStats {
 impl ArrayAndStats {
     ghost use Rattle.vx_scheme.specs.Keeping.{LendsIntegers, LendsSummary};
 
-    /// Nothing is kept yet.
+    /// A plain array with no statistics kept yet. `opts` says what they will include.
     pub fn new(array: ArrayRef, opts: GenerateStatsOptions) -> ArrayAndStats
         requires { IsPlain array }
         ensures { result ≡ record { array = array; options = opts; summary_kept = false; integers_kept = false } }

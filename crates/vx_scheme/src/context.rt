@@ -69,7 +69,7 @@ impl CompressorContext {
         self.budget == 0
     }
 
-    /// How many schemes may still stand one below the other, at most `MAX_CASCADE`.
+    /// How many schemes may still stand one below another below the one chosen here; at most `MAX_CASCADE`.
     pub fn budget(&self) -> usize
         ensures budget { result ≡ (site_of self.now).budget }
         ensures within { result ≤ 3 }

@@ -40,7 +40,7 @@ pub enum EstimateScore {
 }
 
 impl EstimateScore {
-    /// The ratio; None exactly of `ZeroBytes`.
+    /// The ratio; None exactly for `ZeroBytes`.
     pub fn finite_ratio(self) -> Option<Fraction>
         ensures { result ≡ finite_of self }
     {

@@ -13,7 +13,7 @@ pub struct DescendantExclusion {
 }
 
 /// A rule of the scheme below: the scheme that has it may not stand anywhere below these children of `ancestor`. For a
-/// scheme that knows below what it doesn't pay.
+/// scheme that knows where it doesn't pay.
 #[derive(Clone, Copy, Debug)]
 pub struct AncestorExclusion {
     pub ancestor: SchemeId,

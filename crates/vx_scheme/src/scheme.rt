@@ -66,7 +66,8 @@ pub trait Scheme: Copy {
     fn matches(&self, dtype: &DType) -> bool
         ensures { result ≡ (meaning self.now).takes (type_of dtype.now) };
 
-    /// The encodings of the nodes that it makes. Where one of them isn't allowed, the scheme is left out of the list.
+    /// The encodings of the nodes that it makes, for a caller who leaves a scheme out where one of them isn't allowed. The
+    /// compressor doesn't ask.
     fn produced_encodings(&self) -> IdSet
         ensures { (id : ArrayId) → holds result id ≡ (meaning self.now).produces id };
 

@@ -5,7 +5,7 @@ use vx_array::{ArrayRef, Arrays};
 /// The answer of `Scheme::split`, the first half of a compression.
 #[derive(Drop)]
 pub enum Split {
-    /// The scheme does nothing for the column, which stays plain.
+    /// The scheme has no tree for the column, which stays plain.
     Kept,
     /// The tree of the column.
     Finished(ArrayRef),

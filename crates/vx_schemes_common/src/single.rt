@@ -17,7 +17,7 @@ pub fn one_part(alloc: Global, part: ArrayRef) -> VortexResult<Split>
     Ok(Split::Parts(Arrays::from_vec(parts)))
 }
 
-/// The only tree; None where there is none.
+/// The only tree of a list of at most one; None of an empty list.
 pub fn only(trees: Arrays) -> Option<ArrayRef>
     requires { length trees ≤ 1 }
     ensures { option_to_list result ≡ trees }

@@ -31,7 +31,7 @@ impl Model for SparseArray {
 }
 
 impl SparseArray {
-    /// The array as a sparse one. Handed back exactly where its root is another node.
+    /// The array as a SparseArray. The Err hands it back, exactly where its root isn't a Sparse.
     pub fn from_array(array: ArrayRef) -> Result<SparseArray, ArrayRef>
         ensures { MatchResult result (λ sparse. (sparse ≡ array) × (encoding array ≡ ids.Sparse)) (λ back. (back ≡ array) × (encoding array ≡ ids.Sparse → ⊥)) }
     {

@@ -17,8 +17,8 @@ use vx_base::{Refused, Scalar, VortexError};
 
 impl Sparse {
     /// A sparse array of `len` rows: the values at the indices, the fill in every other row; offset 0. Refuses
-    /// MismatchedTypes where the values are of another type than the fill, then as `Patches::new` does, and NoMemory. What
-    /// is refused comes back.
+    /// MismatchedTypes where the values are of another type than the fill, then as `Patches::new` does, and NoMemory.
+    /// Indices, values and fill come back.
     pub fn try_new(
         alloc: Global,
         indices: ArrayRef,
@@ -48,7 +48,7 @@ impl Sparse {
     }
 
     /// A sparse array of patches, with the fill in every other row. Refuses MismatchedTypes where the values of the patches
-    /// are of another type than the fill, and NoMemory. What is refused comes back.
+    /// are of another type than the fill, and NoMemory. Patches and fill come back.
     pub fn try_new_from_patches(
         alloc: Global,
         patches: Patches,
@@ -70,7 +70,7 @@ pub(crate) fn are_of_type(values: &ArrayRef, fill: &Scalar) -> bool
     *values.dtype() == *fill.dtype()
 }
 
-// A sparse array of patches of the fill's type: refused for want of memory alone, with the parts handed back.
+// A sparse array of patches of the fill's type. Refuses NoMemory alone, and hands the parts back.
 fn over_patches(
     alloc: Global,
     patches: Patches,

@@ -18,7 +18,7 @@ pub data ValueKind : Type 0 where
   -- texts or binaries
   byte_rows : ValueKind
 
--- the kind of a flat type's values, of a timestamp integers of 64 signed bits; truths, which nothing relies on, of any other type
+-- the kind of a flat type's values: of timestamps i64; truths, which nothing relies on, of a type that isn't flat
 abbrev pub kind_of : PlainType → ValueKind
 kind_of (boolean n) = truths
 kind_of (primitive p n) = ints p

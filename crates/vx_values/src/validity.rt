@@ -1,4 +1,4 @@
-//! Validity: a mask that is true where a row isn't null, or None where no row is.
+//! Validity: a mask that is true where a row isn't null, or None where no row is null.
 
 ghost use Rattle.std.specs.Prelude.{◌≡◌, length, option_map, IfSome, IsTrue};
 ghost use Rattle.vx_base.specs.Answers.{Answers};

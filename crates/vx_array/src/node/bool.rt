@@ -21,7 +21,7 @@ use vx_values::{copy_validity, gathered_validity, keep};
 
 impl ArrayRef {
     /// Truth values, null where `valid` is false. No children; takes no memory. Refuses LengthMismatch where the mask
-    /// hasn't a bit a row, then MismatchedTypes where it has a false in a non-nullable node.
+    /// doesn't have one bit per row, then MismatchedTypes where it has a false in a non-nullable node.
     pub fn bool(
         values: Mask,
         valid: Option<Mask>,
@@ -38,7 +38,7 @@ impl ArrayRef {
         }
     }
 
-    /// `bool` of validity that is known to be admitted.
+    /// `bool` without its checks, for validity that the caller knows to pass them.
     #[tactic(auto, using(crate::proofs::Making::bool_array))]
     pub fn bool_of(values: Mask, valid: Option<Mask>, nullability: Nullability) -> ArrayRef
         requires { primitive_refusal (length values) valid nullability ≡ None }

@@ -15,12 +15,12 @@ use vx_base::{DType, Mask, Nullability, Refused, VortexError, VortexResult};
 use vx_values::{copy_validity, has_length, is_allowed, keep};
 
 impl ArrayRef {
-    /// `len` integers: in each block of 1,024 rows the prefix sums of its differences from its base on, wrapping in the
-    /// bases' type; null where `valid` is false. Child 0: `bases`, one for each block; child 1: `deltas`, 1,024 for each
-    /// block.
+    /// `len` delta-encoded integers: row r of a block of 1,024 rows is the block's base plus its differences 0 to r,
+    /// wrapping in the bases' type; null where `valid` is false. Child 0: `bases`, one for each block; child 1: `deltas`,
+    /// 1,024 for each block.
     ///
     /// Refuses MismatchedTypes where the bases aren't non-nullable integers or the differences are of another type; then
-    /// LengthMismatch where bases or differences are too many or too few, or the mask hasn't a bit a row; then
+    /// LengthMismatch where bases or differences are too many or too few, or the mask doesn't have one bit per row; then
     /// MismatchedTypes where the mask has a false in a non-nullable node.
     #[tactic(auto, using(crate::proofs::Blocks::delta_array))]
     pub fn delta(

@@ -1,4 +1,4 @@
-//! Dictionaries: values by their places.
+//! Dictionary encoding: values, and for each row the code of its value.
 
 ghost use Rattle.std.specs.List.{list_all};
 ghost use Rattle.std.specs.Prelude.{◌≡◌, IsTrue, MatchResult, true, length};
@@ -23,7 +23,7 @@ impl ArrayRef {
     /// `values`. The type is the values', nullable where the values or the codes are.
     ///
     /// Refuses MismatchedTypes where the codes aren't integers or the values aren't of a leaf type or timestamps; then
-    /// OutOfBounds where a code is neither null nor in bounds of `values`. Each code is tested, of a Constant one.
+    /// OutOfBounds where a code is neither null nor in bounds of `values`. Reads every code, but of a Constant only one.
     pub fn dict(alloc: Global, codes: ArrayRef, values: ArrayRef) -> Made<(ArrayRef, ArrayRef)>
         ensures { Makes (dict_refusal codes values) (dict codes values) (codes, values) result }
     {
@@ -36,8 +36,8 @@ impl ArrayRef {
         }
     }
 
-    /// `dict` of codes that are known to be null or in bounds. Reads no row. Want of memory, the only refusal, hands both
-    /// back.
+    /// `dict` without its checks, for codes that the caller knows to be null or in bounds. Reads no row. Refuses NoMemory
+    /// alone, and hands both back.
     #[tactic(auto, using(crate::proofs::Making::dict_array))]
     pub fn dict_of_places(
         alloc: Global,

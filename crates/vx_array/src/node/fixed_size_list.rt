@@ -21,7 +21,7 @@ impl ArrayRef {
     /// stand. Child 0: `elements`, `len * list_size` rows.
     ///
     /// Refuses LengthMismatch where the elements are too many or too few, with the product taken exactly, or the mask
-    /// hasn't a bit a row; then MismatchedTypes where the mask has a false in a non-nullable node.
+    /// doesn't have one bit per row; then MismatchedTypes where the mask has a false in a non-nullable node.
     #[tactic(auto, using(crate::proofs::Making::fixed_size_list_array))]
     pub fn fixed_size_list(
         alloc: Global,

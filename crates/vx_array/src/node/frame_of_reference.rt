@@ -1,4 +1,4 @@
-//! Frames of reference: integers, each less one reference.
+//! Frame of reference: integers as differences from one reference.
 
 ghost use Rattle.std.specs.Prelude.{◌≡◌};
 ghost use Rattle.vx_array.specs.TreeOf.{tree_of};

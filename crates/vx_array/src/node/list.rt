@@ -21,8 +21,8 @@ impl ArrayRef {
     /// elements may stand. Child 0: `elements`; child 1: `offsets`, one more than there are rows.
     ///
     /// Refuses MismatchedTypes where the offsets aren't non-nullable integers; then LengthMismatch where there is no
-    /// offset or the mask hasn't a bit a row; then OutOfBounds where the offsets don't begin at 0, fall, or don't end at
-    /// the elements' length; then MismatchedTypes where the mask has a false in a non-nullable node.
+    /// offset or the mask doesn't have one bit per row; then OutOfBounds where the offsets don't begin at 0, fall, or
+    /// don't end at the elements' length; then MismatchedTypes where the mask has a false in a non-nullable node.
     pub fn list(
         alloc: Global,
         elements: ArrayRef,
@@ -41,8 +41,8 @@ impl ArrayRef {
         }
     }
 
-    /// `list` of inputs that are known to be admitted. Reads no offset. Want of memory, the only refusal, hands the inputs
-    /// back.
+    /// `list` without its checks, for inputs that the caller knows to pass them. Reads no offset. Refuses NoMemory alone,
+    /// and hands the inputs back.
     #[tactic(auto, using(crate::proofs::Making::list_array))]
     pub fn list_of_offsets(
         alloc: Global,

@@ -20,7 +20,7 @@ impl ArrayRef {
     /// The child's rows, null where `valid` is false. Child 0: `child`, as many rows.
     ///
     /// Refuses MismatchedTypes where the child isn't of a nullable leaf type or nullable timestamps; then LengthMismatch
-    /// where the mask hasn't a bit a row; then MismatchedTypes where the child has a null row.
+    /// where the mask doesn't have one bit per row; then MismatchedTypes where the child has a null row.
     #[tactic(auto, using(crate::proofs::Making::masked_array))]
     pub fn masked(alloc: Global, child: ArrayRef, valid: Mask) -> Made<(ArrayRef, Mask)>
         ensures { Makes (masked_refusal child valid) (masked child valid) (child, valid) result }

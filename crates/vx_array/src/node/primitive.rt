@@ -21,8 +21,8 @@ use vx_flat::flat_refusal;
 use vx_values::{Ints, copy_validity, gathered_validity, keep};
 
 impl ArrayRef {
-    /// Integers, null where `valid` is false. No children; takes no memory. Refuses LengthMismatch where the mask hasn't a
-    /// bit a row, then MismatchedTypes where it has a false in a non-nullable node.
+    /// Integers, null where `valid` is false. No children; takes no memory. Refuses LengthMismatch where the mask doesn't
+    /// have one bit per row, then MismatchedTypes where it has a false in a non-nullable node.
     pub fn primitive(
         values: Ints,
         valid: Option<Mask>,
@@ -39,7 +39,7 @@ impl ArrayRef {
         }
     }
 
-    /// `primitive` of validity that is known to be admitted.
+    /// `primitive` without its checks, for validity that the caller knows to pass them.
     #[tactic(auto, using(crate::proofs::Making::primitive_array))]
     pub fn primitive_of(values: Ints, valid: Option<Mask>, nullability: Nullability) -> ArrayRef
         requires { primitive_refusal (length (wholes_of values)) valid nullability ≡ None }

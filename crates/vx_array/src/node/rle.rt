@@ -43,7 +43,8 @@ impl ArrayRef {
         }
     }
 
-    /// `rle` of inputs that are known to be admitted. Reads no row. Want of memory, the only refusal, hands the three back.
+    /// `rle` without its checks, for inputs that the caller knows to pass them. Reads no row. Refuses NoMemory alone, and
+    /// hands the three back.
     #[tactic(auto, using(crate::proofs::Blocks::rle_array))]
     pub fn rle_of_places(
         alloc: Global,

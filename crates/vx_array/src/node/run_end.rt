@@ -18,7 +18,7 @@ use std::alloc::Global;
 use vx_base::{Refused, VortexError, VortexResult};
 
 impl ArrayRef {
-    /// Runs: `values[k]` in the rows `ends[k - 1] .. ends[k]`, the first from row 0. As many rows as the last end says.
+    /// Runs: `values[k]` in the rows `ends[k - 1] .. ends[k]`, the first from row 0. The last end is the number of rows.
     /// Child 0: `ends`; child 1: `values`, as many.
     ///
     /// Refuses MismatchedTypes where the ends aren't non-nullable integers or the values aren't integers; then
@@ -36,8 +36,8 @@ impl ArrayRef {
         }
     }
 
-    /// `run_end` of inputs that are known to be admitted. Reads the last end alone, which is the number of rows. Want of
-    /// memory, the only refusal, hands both back.
+    /// `run_end` without its checks, for inputs that the caller knows to pass them. Reads the last end alone, which is the
+    /// number of rows. Refuses NoMemory alone, and hands both back.
     #[tactic(auto, using(crate::proofs::Runs::run_ends))]
     pub fn run_end_of_ends(
         alloc: Global,

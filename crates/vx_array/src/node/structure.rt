@@ -22,8 +22,8 @@ impl ArrayRef {
     /// `len` structs, in each row the values of the fields, null where `valid` is false; beneath nulls any values may
     /// stand. A child for each field, `len` rows each. Names may repeat.
     ///
-    /// Refuses LengthMismatch where there isn't one name for each field, a field hasn't `len` rows or the mask hasn't a
-    /// bit a row; then MismatchedTypes where the mask has a false in a non-nullable node.
+    /// Refuses LengthMismatch where there isn't one name for each field, a field hasn't `len` rows or the mask doesn't
+    /// have one bit per row; then MismatchedTypes where the mask has a false in a non-nullable node.
     #[tactic(auto, using(crate::proofs::Making::structure_array))]
     pub fn structure(
         alloc: Global,

@@ -82,7 +82,7 @@ pub(crate) fn copied_timestamp(
     Ok(Node::Timestamp(Child { array: storage }, kind.copy(alloc)?))
 }
 
-// `timestamp` of a storage that is known to be admitted, with a copy of the kind.
+// `timestamp` without its check, for storage that passes it, with a copy of the kind.
 pub(crate) fn stamped(
     alloc: Global,
     storage: ArrayRef,

@@ -31,9 +31,9 @@ impl ArrayRef {
     /// any bytes may stand. Child 0: `offsets`, one more than there are rows.
     ///
     /// Refuses MismatchedTypes where the offsets aren't non-nullable integers or the type isn't one of texts or binaries;
-    /// then LengthMismatch where there is no offset or the mask hasn't a bit a row; then OutOfBounds where the offsets
-    /// don't begin at 0, fall, or don't end at the bytes' length; then ValueTooLong where a value has 2^32 bytes or
-    /// more; then MismatchedTypes where the mask has a false in a non-nullable node, or a valid row of texts isn't
+    /// then LengthMismatch where there is no offset or the mask doesn't have one bit per row; then OutOfBounds where the
+    /// offsets don't begin at 0, fall, or don't end at the bytes' length; then ValueTooLong where a value has 2^32 bytes
+    /// or more; then MismatchedTypes where the mask has a false in a non-nullable node, or a valid row of texts isn't
     /// UTF-8.
     #[tactic(auto, using(crate::proofs::Making::var_bin_array))]
     pub fn var_bin(

@@ -23,9 +23,9 @@ use vx_values::{byte_rows, copy_validity, gathered_validity, keep};
 impl ArrayRef {
     /// Texts or binaries, null where `valid` is false; beneath nulls any bytes may stand. No children; takes no memory.
     ///
-    /// Refuses MismatchedTypes where the type isn't one of texts or binaries; then LengthMismatch where the mask hasn't a
-    /// bit a row; then ValueTooLong where a value, valid or not, has 2^32 bytes or more; then MismatchedTypes where the
-    /// mask has a false in a non-nullable node, or a valid row of texts isn't UTF-8.
+    /// Refuses MismatchedTypes where the type isn't one of texts or binaries; then LengthMismatch where the mask doesn't
+    /// have one bit per row; then ValueTooLong where a value, valid or not, has 2^32 bytes or more; then MismatchedTypes
+    /// where the mask has a false in a non-nullable node, or a valid row of texts isn't UTF-8.
     pub fn var_bin_view(
         values: ByteRows,
         valid: Option<Mask>,
@@ -42,8 +42,8 @@ impl ArrayRef {
         }
     }
 
-    /// `var_bin_view` of values that are known to be admitted. Reads none, so that texts that were tested once aren't
-    /// tested for UTF-8 again.
+    /// `var_bin_view` without its checks, for values that the caller knows to pass them. Reads none, so that a text isn't
+    /// tested for UTF-8 twice.
     #[tactic(auto, using(crate::proofs::Making::view_array))]
     pub fn var_bin_view_of(values: ByteRows, valid: Option<Mask>, dtype: DType) -> ArrayRef
         requires { var_bin_view_refusal values valid (type_of dtype) ≡ None }

@@ -33,14 +33,14 @@ impl DType {
         DType::Utf8(nullability)
     }
 
-    /// Lists of bytes.
+    /// Byte strings.
     pub fn binary(nullability: Nullability) -> DType
         ensures { type_of result ≡ binary nullability }
     {
         DType::Binary(nullability)
     }
 
-    /// Timestamps of a kind.
+    /// Timestamps of a unit and time zone.
     pub fn timestamp(kind: TimestampType, nullability: Nullability) -> DType
         ensures { type_of result ≡ timestamp kind nullability }
     {

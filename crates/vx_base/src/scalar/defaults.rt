@@ -15,7 +15,7 @@ use std::alloc::Global;
 
 impl Scalar {
     /// The default of a type: null where it is nullable, else false, 0 or empty. A struct has the default of each field, a
-    /// list of fixed size the default of its items as often as its size.
+    /// fixed-size list `size` times the default of its items.
     #[tactic(auto, using(crate::proofs::FitLemmas::fitting))]
     pub fn default_value(alloc: Global, dtype: &DType) -> VortexResult<Scalar>
         ensures { Answers result (scalar (type_of dtype.now) (null_or_default (type_of dtype.now))) }

@@ -24,7 +24,7 @@ use std::alloc::Global;
 
 impl Scalar {
     /// A value of a type. Refuses ValueTooLong where a text or binary within has 2^32 bytes or more, then MismatchedTypes
-    /// where the value isn't of the type.
+    /// where the value isn't of the type; both come back.
     pub fn new(dtype: DType, value: Value) -> Result<Scalar, Refused<(DType, Value)>>
         ensures { MakesSurely (unless (has_short (value_of value)) ValueTooLong (unless (fits (type_of dtype) (value_of value)) MismatchedTypes None)) (scalar (type_of dtype) (value_of value)) (dtype, value) result }
     {
@@ -59,7 +59,7 @@ impl Scalar {
         })
     }
 
-    /// The value in a cell, which is of the type.
+    /// A cell's value, which is of the type, with its own copy of the bytes. Refuses NoMemory alone.
     pub fn of_cell(alloc: Global, dtype: &DType, cell: Cell<'_>) -> VortexResult<Scalar>
         requires { fits (type_of dtype.now) (cell_value cell) ≡ true }
         ensures { Answers result (scalar (type_of dtype.now) (cell_value cell.entry)) }

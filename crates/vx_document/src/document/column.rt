@@ -65,7 +65,7 @@ impl DocumentColumn {
         }
     }
 
-    /// The fact that each value fits the type, for proofs. It does nothing.
+    /// Does nothing; its contract tells a caller's proof that each value fits the type.
     pub fn known(&self)
         ensures { IsColumn self.now }
     {
@@ -74,8 +74,8 @@ impl DocumentColumn {
         }
     }
 
-    /// The plain tree of the column. An Err is want of memory. The column is not handed back: its values move into the
-    /// tree as it is made.
+    /// The plain tree of the column. Refuses NoMemory alone. The column is not handed back: its values move into the tree
+    /// as it is made.
     pub fn into_plain(self, alloc: Global) -> VortexResult<ArrayRef>
         ensures tree { Answers result (plain self) }
         ensures plain { IfOk result (λ tree. IsPlain tree) }
@@ -89,7 +89,7 @@ impl DocumentColumn {
     }
 }
 
-// The column of a list of rows of a type.
+// The column with the rows of a list, each read by the type.
 #[tactic(auto, using(crate::proofs::FlatColumns::reads))]
 fn read_list(alloc: Global, list: Vec<Json>, dtype: DType) -> Result<DocumentColumn, Unread>
     ensures rows { Gives (λ column. column.values) result (all_by (row_of (type_of dtype)) (items_view list.items)) }
@@ -107,7 +107,7 @@ fn read_list(alloc: Global, list: Vec<Json>, dtype: DType) -> Result<DocumentCol
     })
 }
 
-// The column of a type whose rows are a value of JSON, which has to be a list.
+// The column with the rows of a JSON value, which has to be a list.
 #[tactic(auto, unfolding(crate::specs::RowsOf::rows_of))]
 pub(crate) fn read_column(alloc: Global, json: Json, dtype: DType) -> Result<DocumentColumn, Unread>
     ensures rows { Gives (λ column. column.values) result (rows_of (type_of dtype) (view json)) }

@@ -138,7 +138,7 @@ fn read_timestamps(
     let storage = read_integers(alloc, list, PType::I64, nullability)?;
     match ArrayRef::timestamp(alloc, storage, kind) {
         Ok(tree) => Ok(tree),
-        // Over integers of type i64 only want of memory refuses.
+        // Storage of type i64 is only refused where memory runs out.
         Err(_refused) => Err(Unread::NoMemory),
     }
 }

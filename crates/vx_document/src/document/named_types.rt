@@ -1,4 +1,4 @@
-//! The types that have a name of one text.
+//! The types that a document names by a text, not by an object.
 
 ghost use Rattle.std.specs.Prelude.{◌≡◌, IsTrue, option_map, None};
 ghost use Rattle.vx_base.specs.PlainType.{timestamp};
@@ -19,7 +19,7 @@ fn stamps(unit: TimeUnit, nullability: Nullability) -> DType
     }
 }
 
-// The type whose name the text is.
+// The type with this name.
 #[tactic(auto, unfolding(crate::specs::Types::type_named))]
 pub(crate) fn type_named(text: &str) -> Option<DType>
     ensures { option_map type_of result ≡ type_named text.now }

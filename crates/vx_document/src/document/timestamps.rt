@@ -13,7 +13,7 @@ use crate::document::unread::Unread;
 use serde_json::{Map, Value};
 use vx_base::{DType, Text, TimeUnit, TimestampType};
 
-// The unit whose name the text is. Days have no name here, since no timestamp counts them.
+// The unit with this name. Days have none here, since no timestamp counts them.
 #[tactic(auto, unfolding(crate::specs::Types::unit_named))]
 fn unit_named(text: &str) -> Option<TimeUnit>
     ensures unit { result ≡ unit_named text.now }

@@ -100,7 +100,7 @@ fn read_items(alloc: Global, value: Option<Value>) -> Result<Box<DType>, Unread>
     Ok(Box::new(alloc, items)?)
 }
 
-// The fields of structs, which are a list of pairs.
+// The fields of a struct type, from a list of pairs.
 #[cycle(types)]
 fn read_fields(alloc: Global, value: Option<Value>) -> Result<Fields, Unread>
     ensures { Gives fields_of result (option_and_then fields_in (option_map view value)) }
@@ -114,7 +114,7 @@ fn read_fields(alloc: Global, value: Option<Value>) -> Result<Fields, Unread>
     }
 }
 
-// The fields that a list has.
+// The fields, one for each item of the list.
 #[cycle(types)]
 fn read_field_list(alloc: Global, list: Vec<Value>) -> Result<Fields, Unread>
     ensures { Gives fields_of result (all_by field_read (items_view list.items)) }

@@ -68,7 +68,7 @@ fn is_as_wide(erased: &ErasedStats, span: u64) -> bool
     }
 }
 
-// Whether differences from the least value are no shorter than the values.
+// Whether a frame saves nothing: the least value is 0, all values are equal, or the differences have as many digits.
 fn gains_nothing(erased: &ErasedStats, span: u64) -> bool
     requires ordered { (extremes_of erased.now).least ≤ℤ (extremes_of erased.now).greatest }
     requires span { pos span ≡ (extremes_of erased.now).greatest -ℤ (extremes_of erased.now).least }

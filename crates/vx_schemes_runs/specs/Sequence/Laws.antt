@@ -28,7 +28,7 @@ use Rattle.vx_model.proofs.SequenceLemmas.{sequence_accepted}
 use Rattle.vx_schemes_common.specs.StandsFor.{StandsFor, AllStandFor}
 use Rattle.vx_schemes_runs.specs.Sequence.Tree.{sequence_over, sequence_made}
 
--- ---- what a sequence that was found tells
+-- ---- what is known of a sequence that was found
 
 -- two rows or more, of a step that the type holds
 pub record IsFound (p : PType) (zs : List ℤ) (found : ℤ × ℤ) : Type 0 where

@@ -70,7 +70,7 @@ sparse_meaning s = record {
   joined = λ c site trees. sparse_or_plain c (pair_of trees);
 }
 
--- what is told of a split by each of its ways
+-- what holds of each way to split a column holds of its split
 pub by_split : (c : Column) (P : PlainSplit → Type 0) → (value_count c.values ≡ 0 → P (finished (shared_tree c null)))
     → ((most_frequent c.values).1 ≡ length c.values → P (finished (shared_tree c (int (most_frequent c.values).0)))) → P (parts (sparse_values c ∷ sparse_indices c ∷ [])) → P (sparse_split c)
 by_split c P nulls shared others = by_tests (value_count c.values == 0) ((most_frequent c.values).1 == length c.values) (λ e. nulls (eqb-true _ _ e)) (λ e. shared (eqb-true _ _ e))

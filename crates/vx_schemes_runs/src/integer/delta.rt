@@ -49,7 +49,7 @@ pub struct DeltaScheme {
 }
 
 impl DeltaScheme {
-    /// Skips where the ratio is at most `min_ratio`.
+    /// The scheme that skips a column whose ratio is at most `min_ratio`.
     pub fn new(min_ratio: Fraction) -> Self
         ensures least { least_ratio result ≡ min_ratio }
         ensures produced { MakesProduced (delta_meaning result) }

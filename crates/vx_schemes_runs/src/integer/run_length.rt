@@ -29,9 +29,9 @@ use vx_schemes_common::{excluded, not_in_values};
 
 /// Run length, `vortex.int.rle`: runs of equal rows that end with each block of 1,024 rows. Skips a column whose average
 /// run length is below 4, and any at budget 0, since its gain comes mostly from the schemes of its children; any other is
-/// a sample. Child 0: the value of each run, null where its rows are; child 1: for each row the number of its run within
-/// its block, padded with 0 to whole blocks; child 2: for each block the number of runs before it. Children 1 and 2 are of
-/// the narrowest unsigned type.
+/// tried on a sample. Child 0: the value of each run, null where its rows are; child 1: for each row the number of its run
+/// within its block, padded with 0 to whole blocks; child 2: for each block the number of runs before it. Children 1 and 2
+/// are of the narrowest unsigned type.
 #[derive(Clone, Copy, Debug, Default, PartialEq, Eq)]
 pub struct IntRLEScheme;
 

@@ -73,7 +73,7 @@ impl ErasedStats {
         self.least() < 0
     }
 
-    /// `greatest - least`. Asks that this isn't negative, which is known where there is a valid integer.
+    /// `greatest - least`. Requires that it isn't negative, as `erased` promises where there is a valid integer.
     pub fn max_minus_min(&self) -> u64
         requires { (extremes_of self.now).least ≤ℤ (extremes_of self.now).greatest }
         ensures { pos result ≡ (extremes_of self.now).greatest -ℤ (extremes_of self.now).least }

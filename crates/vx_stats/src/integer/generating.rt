@@ -67,7 +67,7 @@ impl IntegerStats {
         summary_of_ints(values, valid)
     }
 
-    /// The summary of plain integers, completed by what is requested.
+    /// The summary of plain integers, with the distinct values added where they are requested.
     #[tactic(auto, using(vx_model::proofs::PrimitiveLemmas::plain_roots))]
     pub fn completed(
         &self,

@@ -29,8 +29,8 @@ impl<T: Integer> Model for TypedStats<T> {
     ghost view = { λ a. record { extremes = record { least = T.whole a.min; greatest = T.whole a.max }; distinct = a.distinct } };
 }
 
-// By hand, so that a drop is one call: derived, it is written out and proved at each way out of each function that owns
-// some.
+// By hand, so that a drop is one call: derived, it would be written out, and proved, at each exit of each function that owns
+// statistics.
 impl<T: Integer> Drop for TypedStats<T> {
     fn drop(self) {
         let TypedStats {
@@ -141,7 +141,7 @@ impl<T: Integer> TypedStats<T> {
         (self.max.to_whole() - self.min.to_whole()) as u64
     }
 
-    /// The bits of the greatest in two's complement.
+    /// The two's complement of the greatest integer.
     pub(crate) fn greatest_bits(&self) -> u64
         ensures { result ≡ bits_in T.kind self.now.extremes.greatest }
     {

@@ -20,7 +20,7 @@ impl Ints {
         with_ints!(self, items => has_negative(items.as_slice()))
     }
 
-    /// The integers in an unsigned type with all of them in range.
+    /// The integers converted to an unsigned type that holds all of them.
     #[tactic(auto, using(vx_model::proofs::FrameOfReferenceLemmas::unsigned_wholes))]
     pub fn in_unsigned(&self, alloc: Global, ptype: PType) -> VortexResult<Ints>
         requires unsigned { unsigned_of ptype ≡ ptype }

@@ -12,10 +12,10 @@ use std::alloc::Global;
 use std::marker::Model;
 use vx_base::{Integer, VortexResult};
 
-// Slots of the cache from as many items on. Fewer items have none: filling it would cost more than it saves.
+// The cache has SLOTS slots from SLOTS items on. For fewer items it has none: filling it would cost more than it saves.
 const SLOTS: usize = 4096;
 
-// Slots of the cache from as many items on: enough that even some thousands of values seldom share one.
+// The cache has MOST_SLOTS slots from MOST_SLOTS items on: enough that even some thousands of values seldom share one.
 const MOST_SLOTS: usize = 65_536;
 
 // 2^64 / golden ratio (Fibonacci hashing): its products with numbers near one another differ in their highest bits.

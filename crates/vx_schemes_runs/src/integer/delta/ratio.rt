@@ -88,7 +88,7 @@ fn is_skipped(
     is_beaten(ratio, Some(min_ratio)) || is_beaten(ratio, threshold)
 }
 
-// The greatest span that isn't skipped by its digits; 0 where every span is.
+// The greatest span whose number of digits isn't skipped; 0 where every span is skipped.
 fn most_spread(len: u64, bits: u32, min_ratio: Fraction, threshold: Option<Fraction>) -> u64
     requires some { 0 < len }
     requires few { len ≤ most_rows }

@@ -48,8 +48,7 @@ impl Counts {
     }
 }
 
-/// A fill stands in 9 tenths of the rows at least: below that its patches, a value and a row number each, eat up what it
-/// saves.
+/// A fill has to stand in at least 9 of 10 rows: below that its patches, a value and a row number each, cost what it saves.
 pub(crate) const FILL_TENTHS: u64 = 9;
 
 /// Whether more than 9 of 10 rows are null.
