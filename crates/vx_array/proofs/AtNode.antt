@@ -6,18 +6,23 @@ use Rattle.vx_array.specs.declared.array.Node.TheVariants as nodes
 use Rattle.vx_model.specs.Tree.{Tree, nulls}
 use Rattle.vx_model.specs.WellFormed.{WellFormed}
 use Rattle.vx_array.specs.TreeOf.{tree_of}
+use Rattle.vx_array.specs.HasNoChunks.{HasNoChunks}
 use Rattle.vx_array.specs.IsArray.{IsArray}
+use Rattle.vx_array.proofs.SparseOf.{nulls-sparse_of}
 
 pub record IsAt (tree shape : Tree) : Type 0 where
   pub is : tree ≡ shape
   pub well_formed : WellFormed shape
 
-pub at_node : {n m : Node} {tree : Tree} {own : Option PlainType} {len : ℕ} → tree_of n ≡ tree → IsArray (tree_of n) own len → n ≡ m → IsAt tree (tree_of m)
-at_node v h e = record { is = sym v ∙ ap tree_of e; well_formed = subst WellFormed (ap tree_of e) h.well_formed }
+pub at_node : {n m : Node} {tree : Tree} {own : Option PlainType} {len : ℕ} → tree_of n ≡ tree → IsArray (tree_of n) own len × HasNoChunks n → n ≡ m → IsAt tree (tree_of m)
+at_node v h e = record { is = sym v ∙ ap tree_of e; well_formed = subst WellFormed (ap tree_of e) h.0.well_formed }
 
 -- a node that is none of nulls has another tree
 pub no_nulls : (n : Node) → ((x : ℕ) → n ≡ nodes.Null x → ⊥) → (len : ℕ) → tree_of n ≡ nulls len → ⊥
 no_nulls (nodes.Null x) other len e = other x refl
 no_nulls (nodes.BitPacked p width bytes rows valid None n) other len e = cc
 no_nulls (nodes.BitPacked p width bytes rows valid (Some patches) n) other len e = cc
+no_nulls (nodes.BitPackedV2 p bytes offsets rows valid None n) other len e = cc
+no_nulls (nodes.BitPackedV2 p bytes offsets rows valid (Some patches) n) other len e = cc
+no_nulls (nodes.Sparse patches fill) other len e = nulls-sparse_of patches.value fill len e
 no_nulls n other len e = cc

@@ -1,15 +1,20 @@
 pub mod AtNode
+pub mod BlockArrays
+pub mod BlockRows
 pub mod Blocks
 pub mod Canonicals
+pub mod ChunkCounts
 pub mod Decodings
 pub mod DefaultLemmas
 pub mod Falls
 pub mod FieldTrees
 pub mod Flat
+pub mod Frames
 pub mod Holes
 pub mod Looks
 pub mod MadePlain
 pub mod Making
+pub mod PartArrays
 pub mod PatchPlaces
 pub mod PlacedRows
 pub mod PlainFixed
@@ -20,6 +25,7 @@ pub mod RunDecodings
 pub mod RunNulls
 pub mod RunRows
 pub mod Runs
+pub mod SparseOf
 pub mod StandardFacts
 pub mod SumLemmas
 pub mod TreeWayLemmas
@@ -28,3 +34,4 @@ pub mod Truths
 pub mod Typing
 pub mod Unpacked
 pub mod ValueAt
+pub mod WholeRows

@@ -1,5 +1,5 @@
 -- The rows of a fill and patches, by the place of each among the patches' values and the fill behind them.
-use Rattle.std.proofs.Common.{◌≡◌, ◌<◌, ◌≤◌, ◌+◌, ◌-◌, ◌++◌, ◌∙◌, ℕ, zero, suc, List, [], ◌∷◌, length, map, refl, ap, sym, arith, true, false, Option, Some, None}
+use Rattle.std.proofs.Common.{◌≡◌, ◌<◌, ◌≤◌, ◌+◌, ◌++◌, ◌∙◌, ℕ, zero, suc, List, [], ◌∷◌, length, map, refl, ap, sym, arith, true, false, Option, Some, None}
 use Rattle.std.specs.Prelude.{not, replicate, unwrap_or}
 use Rattle.std.specs.List.{list_any}
 use Rattle.std.proofs.lemmas.Bool.{cond_both, or_parts}
@@ -14,10 +14,11 @@ use Rattle.vx_model.specs.Decoded.{picked}
 use Rattle.vx_model.specs.Plain.{validity, valid_bits}
 use Rattle.vx_model.specs.Refusals.{kept}
 use Rattle.vx_model.specs.Rows.{rows, row_at, is_index, place_of, patched}
-use Rattle.vx_model.specs.Tree.{PlainPatches}
+use Rattle.vx_model.specs.Tree.{PlainPatches, sparse_of}
 use Rattle.vx_model.specs.TreeType.{tree_type}
 use Rattle.vx_model.specs.WellFormed.{WellFormedPatches}
 use Rattle.vx_model.proofs.PatchedLemmas.{patched-place, patched-fill}
+use Rattle.vx_model.proofs.SparseLemmas.{rows-sparse_of, type-sparse_of}
 use Rattle.vx_values.specs.declared.decoded.Decoded.{Decoded}
 use Rattle.vx_values.specs.declared.ints.Ints.{Ints}
 use Rattle.vx_values.specs.declared.values.Values.{Values}
@@ -26,7 +27,6 @@ use Rattle.vx_values.specs.IntsOf.{ptype_of, wholes_of}
 use Rattle.vx_values.specs.ValuesOf.{kind_of, kind_in, values_of, default_in, AreRows}
 use Rattle.vx_array.specs.IsDecoded.{IsDecoded}
 use Rattle.vx_flat.specs.Places.{patch_place, patch_places, bits_in_rows}
-use Rattle.vx_array.specs.TreeOf.{sparse_of}
 use Rattle.vx_array.proofs.Decodings.{default_of_kind}
 use Rattle.vx_array.proofs.PlacedRows.{kept-bits, items-placed, validity-placed}
 
@@ -110,7 +110,8 @@ module _ (p : PlainPatches) (fill : PlainScalar) (w : WellFormedPatches p) (type
       values ∙ ap (λ vs. vs ++ own_or_default fill.value ∷ []) (h.1 ∙ ap (λ t. map (or_default (default_of t)) (rows p.values)) typed) ∙ sym (map-append own_or_default (rows p.values) (fill.value ∷ [])) in
       let bits : kept (Some (bits_in_rows v.valid n ++ not (is_null fill.value) ∷ [])) ≡ validity all_values =
       ap (λ valid. kept (Some (bits_in_rows valid n ++ not (is_null fill.value) ∷ []))) h.2 ∙ validity-with (rows p.values) fill.value n (count ∙ w.2.lengths) in (
-        r.0 ∙ of_type,
-        r.1 ∙ (λ i. map (λ code. picked (ptype i) (own i) (default i) code) (wholes i)) ∙ items-placed all_values row_of place_at p.array_len same U64 own_or_default,
-        r.2 ∙ (λ i. validity_by_codes (ptype i) (wholes i) None (bits i)) ∙ validity-placed all_values row_of place_at p.array_len same U64 within,
+        r.0 ∙ of_type ∙ sym (ap kind_of (type-sparse_of p fill)),
+        r.1 ∙ (λ i. map (λ code. picked (ptype i) (own i) (default i) code) (wholes i)) ∙ items-placed all_values row_of place_at p.array_len same U64 own_or_default
+            ∙ sym (λ i. map (or_default (default_of (type-sparse_of p fill i))) (rows-sparse_of p fill i)),
+        r.2 ∙ (λ i. validity_by_codes (ptype i) (wholes i) None (bits i)) ∙ validity-placed all_values row_of place_at p.array_len same U64 within ∙ sym (ap validity (rows-sparse_of p fill)),
       )

@@ -28,13 +28,14 @@ use Rattle.vx_model.proofs.FixedSizeListLemmas.{validity-fixed_size_list}
 use Rattle.vx_model.proofs.GatheredLemmas.{all-gathered, items-gathered, bits-gathered, bits_are_parts}
 use Rattle.vx_model.proofs.ListLemmas.{validity-list}
 use Rattle.vx_model.proofs.MadeLemmas.{rows_fit}
-use Rattle.vx_model.proofs.NullLemmas.{plain-constant, plain-masked, plain-bit_packed, plain-bit_packed_with, plain-frame_of_reference, plain-zig_zag, plain-dict, plain-var_bin, plain-sparse, plain-run_end, plain-rle, plain-sequence, plain-delta}
+use Rattle.vx_model.proofs.NullLemmas.{plain-constant, plain-masked, plain-bit_packed, plain-bit_packed_with, plain-frame_of_reference, plain-zig_zag, plain-dict, plain-var_bin, plain-run_end, plain-rle, plain-sequence, plain-delta, plain-datetime_parts, plain-frame_of_reference_v2}
 use Rattle.vx_model.proofs.RowLemmas.{length-primitive, row_at-primitive}
 use Rattle.vx_model.proofs.StructLemmas.{validity-structure}
 use Rattle.vx_model.proofs.TimestampLemmas.{plain-timestamp}
 use Rattle.vx_model.proofs.ViewLemmas.{validity-var_bin_view, length-var_bin_view, row_at-var_bin_view, plain_of-bytes}
 use Rattle.vx_array.specs.Kept.{keeps_validity}
 use Rattle.vx_array.proofs.Canonicals.{views_admitted}
+use Rattle.vx_array.proofs.SparseOf.{plain-sparse_of}
 
 -- ---- validity
 
@@ -63,7 +64,7 @@ root-kept t h other = by_type (tree_type t) h
     by_type types.null_type e = absurd (other (length (rows t)) e)
     by_type s e = refl
 
-pub ruleset validities = (storage-kept, validity-structure, validity-list, validity-fixed_size_list, validity-bool, validity-primitive, validity-var_bin_view, plain-storage, plain-constant, plain-masked, plain-bit_packed, plain-bit_packed_with, plain-frame_of_reference, plain-zig_zag, plain-dict, plain-var_bin, plain-sparse, plain-run_end, plain-rle, plain-sequence, plain-delta)
+pub ruleset validities = (storage-kept, validity-structure, validity-list, validity-fixed_size_list, validity-bool, validity-primitive, validity-var_bin_view, plain-storage, plain-constant, plain-masked, plain-bit_packed, plain-bit_packed_with, plain-frame_of_reference, plain-zig_zag, plain-dict, plain-var_bin, plain-sparse_of, plain-run_end, plain-rle, plain-sequence, plain-delta, plain-datetime_parts, plain-frame_of_reference_v2)
 
 -- ---- the first valid row
 
@@ -127,7 +128,7 @@ pub value-view : (vs : List (List ℕ)) (valid : Validity) (t : PlainType) (i : 
     → row_at (rows (var_bin_view vs valid t)) i ≡ bytes (slice_index_or vs i [])
 value-view vs valid t i w l = some_cell (is_valid_at valid i) (bytes (slice_index_or vs i [])) _ (row_at-var_bin_view vs valid t w i l)
 
-pub ruleset repeating = (storage-flat, length-bool, length-primitive, length-var_bin_view, value-bool, value-primitive, value-view, plain-storage, plain-constant, plain-masked, plain-bit_packed, plain-bit_packed_with, plain-frame_of_reference, plain-zig_zag, plain-dict, plain-var_bin, plain-sparse, plain-run_end, plain-rle, plain-sequence, plain-delta)
+pub ruleset repeating = (storage-flat, length-bool, length-primitive, length-var_bin_view, value-bool, value-primitive, value-view, plain-storage, plain-constant, plain-masked, plain-bit_packed, plain-bit_packed_with, plain-frame_of_reference, plain-zig_zag, plain-dict, plain-var_bin, plain-sparse_of, plain-run_end, plain-rle, plain-sequence, plain-delta, plain-datetime_parts, plain-frame_of_reference_v2)
 
 -- ---- the rows of ranges
 
@@ -228,4 +229,4 @@ stamps_admitted ranges storage k made w e =
     let typed : tree_type made ≡ types.primitive I64 n = ap tree_type e ∙ ap (λ t. tree_type (plain_of t (gathered ranges (rows storage)))) w.1.storage_type in
     rw (same_refl stored_type (tree_type made) (types.primitive I64 (nullability_of (tree_type made))) (typed ∙ ap (λ t. types.primitive I64 (nullability_of t)) (sym typed))) refl
 
-pub ruleset gathering = (storage-flat, length-bool, length-primitive, length-var_bin_view, plain-storage, stamps_gathered, stamps_admitted, plain-constant, plain-masked, plain-bit_packed, plain-bit_packed_with, plain-frame_of_reference, plain-zig_zag, plain-dict, plain-var_bin, plain-sparse, plain-run_end, plain-rle, plain-sequence, plain-delta)
+pub ruleset gathering = (storage-flat, length-bool, length-primitive, length-var_bin_view, plain-storage, stamps_gathered, stamps_admitted, plain-constant, plain-masked, plain-bit_packed, plain-bit_packed_with, plain-frame_of_reference, plain-zig_zag, plain-dict, plain-var_bin, plain-sparse_of, plain-run_end, plain-rle, plain-sequence, plain-delta, plain-datetime_parts, plain-frame_of_reference_v2)

@@ -6,15 +6,13 @@ use Rattle.std.proofs.lemmas.Bool.{lt-ltb, ltb-true, cases_lt, true≢false}
 use Rattle.vx_base.specs.PlainScalar.{PlainScalar}
 use Rattle.vx_base.specs.PlainValue.{PlainValue, is_null}
 use Rattle.vx_model.specs.Rows.{rows, row_at, index_of, is_index, place_of, patched, offset_at}
-use Rattle.vx_model.specs.Tree.{Tree, PlainPatches, run_end, rle}
+use Rattle.vx_model.specs.Tree.{Tree, PlainPatches, sparse_of, run_end, rle}
 use Rattle.vx_model.specs.WellFormed.{WellFormed, IsPatches}
-use Rattle.vx_model.proofs.PackedLemmas.{length-below, row_at-below}
 use Rattle.vx_model.proofs.PatchLemmas.{ascend-within, ascend-index}
 use Rattle.vx_model.proofs.PatchedLemmas.{patched-place, patched-fill}
 use Rattle.vx_model.proofs.RleLemmas.{length-rle, row_at-rle, rle-some}
 use Rattle.vx_model.proofs.RunEndLemmas.{length-run_end, row_at-run_end, run_value-some, row_at-run, end-between, ends-rise}
-use Rattle.vx_model.proofs.SparseLemmas.{patched-found}
-use Rattle.vx_array.specs.TreeOf.{sparse_of}
+use Rattle.vx_model.proofs.SparseLemmas.{patched-found, length-sparse_of, row_at-sparse_of}
 use Rattle.vx_array.proofs.Holes.{hole-few, unpatched, few-hole}
 
 -- ---- a null row, or none
@@ -68,10 +66,10 @@ module _ (p : PlainPatches) (fill : PlainScalar) (h : IsPatches p.array_len p.of
   some_null = list_any is_null (rows p.values) || (is_null fill.value && nat_lt 0 (p.array_len - length (rows p.values)))
 
   length-own : length (rows (sparse_of p fill)) ≡ p.array_len
-  length-own = length-below row_of p.array_len
+  length-own = length-sparse_of p fill
 
   row-own : (i : ℕ) → i < p.array_len → row_at (rows (sparse_of p fill)) i ≡ row_of i
-  row-own i l = row_at-below row_of p.array_len i l
+  row-own i l = row_at-sparse_of p fill i l
 
   last : (b : Bool) → (b || true) ≡ true
   last true = refl

@@ -1,5 +1,5 @@
 -- Sparse and run-end nodes: what their constructors have to show, and the search for a row's run.
-use Rattle.std.proofs.Common.{◌≡◌, inl, inr, ◌<◌, ◌≤◌, ◌+◌, ◌-◌, ◌^◌, ◌∙◌, ℕ, List, length, Bool, None, Some, true, refl, sym, ap, arith}
+use Rattle.std.proofs.Common.{◌≡◌, inl, inr, ◌<◌, ◌≤◌, ◌+◌, ◌-◌, ◌^◌, ◌∙◌, ℕ, List, length, Bool, None, Some, true, sym, ap, arith}
 use Rattle.std.specs.Prelude.{◌&&◌, ◌==◌, not}
 use Rattle.std.proofs.lemmas.Bool.{cases_lt, and_parts}
 use Rattle.vx_base.specs.Answers.{unless}
@@ -9,18 +9,18 @@ use Rattle.vx_base.specs.PlainValue.{PlainValue}
 use Rattle.vx_base.specs.declared.error.VortexError.TheVariants.{MismatchedTypes, LengthMismatch, OutOfBounds}
 use Rattle.vx_model.specs.Refusals.{sparse_refusal, run_end_refusal}
 use Rattle.vx_model.specs.Rows.{rows, offset_at}
-use Rattle.vx_model.specs.Tree.{Tree, PlainPatches, run_end}
+use Rattle.vx_model.specs.Tree.{Tree, PlainPatches, sparse_of, run_end}
 use Rattle.vx_model.specs.TreeType.{tree_type}
 use Rattle.vx_model.specs.WellFormed.{WellFormed, WellFormedPatches, ascend}
 use Rattle.vx_model.proofs.PackedLemmas.{passed}
 use Rattle.vx_model.proofs.RunEndLemmas.{EndsBefore, EndsAbove, run_end_accepted, length-run_end, ends-rise, ends_before-start, ends_above-end, end-between}
-use Rattle.vx_model.proofs.SparseLemmas.{sparse_accepted, length-sparse}
+use Rattle.vx_model.proofs.SparseLemmas.{sparse_accepted, length-sparse_of}
 use Rattle.vx_array.specs.IsArray.{IsArray}
-use Rattle.vx_array.specs.TreeOf.{sparse_of}
+use Rattle.vx_array.proofs.SparseOf.{has_type-sparse_of}
 
 pub sparse_array : (p : PlainPatches) (fill : PlainScalar) (len : ℕ) → sparse_refusal p fill ≡ None → fits fill.dtype fill.value ≡ true → WellFormedPatches p → len ≡ p.array_len → IsArray (sparse_of p fill) None len
 sparse_array p fill len accepted fitting w len_is =
-    record { well_formed = sparse_accepted p fill accepted fitting w; own_type_is = refl; len_is = len_is ∙ sym (length-sparse p.array_len p.offset p.indices p.values fill) }
+    record { well_formed = sparse_accepted p fill accepted fitting w; own_type_is = has_type-sparse_of p fill; len_is = len_is ∙ sym (length-sparse_of p fill) }
 
 pub run_end_array : (ends values : Tree) (own : PlainType) (len : ℕ) → run_end_refusal ends values ≡ None → WellFormed ends → WellFormed values → own ≡ tree_type values → len ≡ offset_at (rows ends) (length (rows ends) - 1)
     → IsArray (run_end ends values) (Some own) len

@@ -1,5 +1,5 @@
 -- The extents of a tree are the rows of the columns that the ways within it lead to.
-use Rattle.std.proofs.Common.{◌≡◌, ◌+◌, ◌*◌, ◌++◌, ◌∙◌, ℕ, suc, List, [], ◌∷◌, length, map, true, refl, sym, ap, arith}
+use Rattle.std.proofs.Common.{◌≡◌, ◌+◌, ◌*◌, ◌++◌, ◌∙◌, ℕ, suc, List, [], ◌∷◌, length, map, true, refl, sym, ap, arith, Some}
 use Rattle.std.proofs.lemmas.List.{length-append, map-append}
 use Rattle.vx_base.specs.PlainScalar.{PlainScalar}
 use Rattle.vx_base.specs.PlainType.{PlainType, PlainFields, boolean, primitive, utf8, binary, is_flat}
@@ -8,14 +8,14 @@ use Rattle.vx_base.specs.PlainValue.{PlainValue, PlainValues}
 use Rattle.vx_model.specs.Extents.{counts, field_counts, both, repeated, extents}
 use Rattle.vx_model.specs.Nested.{first_within, rest_within, struct_rows, elements, fixed_elements}
 use Rattle.vx_model.specs.Rows.{rows}
-use Rattle.vx_model.specs.Tree.{Tree, constant, structure, list, fixed_size_list, sparse}
+use Rattle.vx_model.specs.Tree.{Tree, chunked, constant, structure, list, fixed_size_list, sparse, sparse_chunked}
 use Rattle.vx_model.specs.TreeType.{tree_type}
 use Rattle.vx_model.specs.WellFormed.{WellFormed}
 use Rattle.vx_model.proofs.FixedSizeListLemmas.{length-fixed_size_list}
 use Rattle.vx_model.proofs.ListLemmas.{length-list}
 use Rattle.vx_model.proofs.RowLemmas.{length-constant}
 use Rattle.vx_model.proofs.SparseCountLemmas.{ascend-few}
-use Rattle.vx_model.proofs.SparseLemmas.{length-sparse}
+use Rattle.vx_model.proofs.SparseLemmas.{length-sparse, length-sparse_of}
 use Rattle.vx_model.proofs.StructLemmas.{length-structure}
 use Rattle.vx_array.specs.TreeWays.{by_ways, by_fields, extent_at}
 use Rattle.vx_flat.specs.Ways.{PlainWay, here, field, inside, field_in, reached, count_at}
@@ -119,6 +119,11 @@ extent-here (sparse len offset indices values fill) w =
     let most = ascend-few offset (offset + len) (rows indices) w.2.ascending (omega arith) in
     let same = w.2.lengths in
     omega (arith, length-sparse len offset indices values fill)
+extent-here (sparse_chunked len offset indices values chunks fill) w =
+    let own = extent-here values w.1 in
+    let most = ascend-few offset (offset + len) (rows indices) w.3.ascending (omega arith) in
+    let same = w.3.lengths in
+    omega (arith, length-sparse_of (chunked len offset indices values (Some chunks)) fill)
 extent-here (structure names fields len valid n) w = sym (length-structure names fields len valid n w)
 extent-here (list elements offsets valid n) w = sym (length-list elements offsets valid n w)
 extent-here (fixed_size_list elements size len valid n) w = sym (length-fixed_size_list elements size len valid n w)

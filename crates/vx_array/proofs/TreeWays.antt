@@ -7,19 +7,23 @@ use Rattle.std.proofs.lemmas.Bool.Decides.{nat_tests}
 use Rattle.std.proofs.lemmas.List.{drop_more}
 use Rattle.std.proofs.lemmas.List.Folds.{list_all-append}
 use Rattle.vx_base.specs.declared.dtype.DType.{DType}
+use Rattle.vx_base.specs.PlainScalar.{PlainScalar}
 use Rattle.vx_base.specs.PlainType.{PlainType, is_flat, is_integer, integer_of, of_fields}
 use Rattle.vx_base.specs.PlainType as types
 use Rattle.vx_base.specs.PlainValue.{int}
 use Rattle.vx_base.specs.TypeOf.{type_of, field_of}
-use Rattle.vx_model.specs.Extents.{both, extents, all_extents, extents_fit, row_limit}
+use Rattle.vx_model.specs.Extents.{both, extents, repeated, all_extents, extents_fit, row_limit}
 use Rattle.vx_model.specs.Rows.{rows, offset_at, looked_up, rle_place, summed_up}
-use Rattle.vx_model.specs.Tree.{Tree, Trees, bool, var_bin_view, var_bin, constant, masked, bit_packed, bit_packed_with, frame_of_reference, zig_zag, dict, nulls, structure, list, fixed_size_list, list_of, sparse, run_end, rle, sequence, delta}
+use Rattle.vx_model.specs.Tree.{Tree, Trees, patches, bool, var_bin_view, var_bin, constant, masked, bit_packed, bit_packed_with, frame_of_reference, zig_zag, dict, nulls, structure, list, fixed_size_list, list_of, sparse, run_end, rle, sequence, delta, datetime_parts, bit_packed_v2, bit_packed_v2_with, frame_of_reference_v2, sparse_chunked}
 use Rattle.vx_model.specs.Tree as trees
 use Rattle.vx_model.specs.TreeType.{tree_type, field_types}
 use Rattle.vx_model.specs.WellFormed.{WellFormed, AllWellFormed}
+use Rattle.vx_model.proofs.BlocksLemmas.{length-blocks_of}
 use Rattle.vx_model.proofs.BoolLemmas.{length-bool}
+use Rattle.vx_model.proofs.DateTimePartsLemmas.{length-datetime_parts}
 use Rattle.vx_model.proofs.DictLemmas.{length-dict}
 use Rattle.vx_model.proofs.FlatTypeLemmas.{integer-flat, bytes-flat}
+use Rattle.vx_model.proofs.FrameOfReferenceV2Lemmas.{length-frame_of_reference_v2}
 use Rattle.vx_model.proofs.NullsLemmas.{length-nulls}
 use Rattle.vx_model.proofs.PackedLemmas.{length-below, length-valid_below, length-bit_packed, length-bit_packed_with, length-frame_of_reference}
 use Rattle.vx_model.proofs.RowLemmas.{length-primitive, length-masked}
@@ -31,6 +35,14 @@ use Rattle.vx_array.specs.TreeWays.{by_ways, by_fields, extent_at, extent_in}
 use Rattle.vx_flat.specs.Ways.{PlainWay, here, field, inside, count_at}
 use Rattle.vx_array.proofs.Flat.{dict_flat}
 use Rattle.vx_array.proofs.TreeWayLemmas.{both-ways, repeated-ways, of_flat, of_other}
+
+-- those of patches and a fill
+patches-ways : (len : ℕ) (values : Tree) (fill : PlainScalar) → extents values ≡ by_ways (tree_type values) (λ w. extent_at w values) → tree_type values ≡ fill.dtype
+    → both (extents values) (repeated (len - length (rows values)) fill) ≡ by_ways fill.dtype (λ w. extent_at w values + (len - length (rows values)) * count_at w fill.dtype (fill.value ∷ []))
+patches-ways len values fill own typed =
+    let k = len - length (rows values) in
+    (λ i. both (own i) (repeated-ways k fill i)) ∙ ap (λ t. both (by_ways t (λ v. extent_at v values)) (by_ways fill.dtype (λ v. k * count_at v fill.dtype (fill.value ∷ [])))) typed
+    ∙ both-ways fill.dtype (λ v. extent_at v values) (λ v. k * count_at v fill.dtype (fill.value ∷ []))
 
 mutual
   pub extents-ways : (t : Tree) → WellFormed t → extents t ≡ by_ways (tree_type t) (λ w. extent_at w t)
@@ -54,12 +66,16 @@ mutual
   extents-ways (list elements offsets valid n) w = ap (λ rest. (length (rows offsets) - 1) ∷ rest) (extents-ways elements w.0)
   extents-ways (fixed_size_list elements size len valid n) w = ap (λ rest. len ∷ rest) (extents-ways elements w.0)
   extents-ways (sparse len offset indices values fill) w =
-      let k = len - length (rows values) in
-      (λ i. both (extents-ways values w.1 i) (repeated-ways k fill i))
-      ∙ ap (λ t. both (by_ways t (λ v. extent_at v values)) (by_ways fill.dtype (λ v. k * count_at v fill.dtype (fill.value ∷ [])))) w.3.values_type
-      ∙ both-ways fill.dtype (λ v. extent_at v values) (λ v. k * count_at v fill.dtype (fill.value ∷ []))
+      patches-ways len values fill (extents-ways values w.1) w.3.values_type
   extents-ways (run_end ends values) w = of_flat (run_end ends values) (offset_at (rows ends) (length (rows ends) - 1)) w (integer-flat (tree_type values) w.2.values_type) (length-run_end ends values)
   extents-ways (rle values indices offsets len) w = of_flat (rle values indices offsets len) len w (integer-flat (tree_type values) w.3.values_type) (length-below (λ i. looked_up (rows values) (rle_place (rows offsets) (rows indices) i)) len)
+  extents-ways (datetime_parts k n days seconds subseconds) w =
+      of_other (datetime_parts k n days seconds subseconds) days w w.0 refl (ap is_flat w.3.days_type) (length-datetime_parts k n days seconds subseconds) (extents-ways days w.0)
+  extents-ways (bit_packed_v2 k offsets) w = of_flat (bit_packed_v2 k offsets) k.len w refl (length-blocks_of k offsets None w)
+  extents-ways (bit_packed_v2_with k offsets len offset indices values) w = of_flat (bit_packed_v2_with k offsets len offset indices values) k.len w refl (length-blocks_of k offsets (Some (patches len offset indices values)) w)
+  extents-ways (frame_of_reference_v2 encoded references) w =
+      of_other (frame_of_reference_v2 encoded references) encoded w w.0 refl (ap is_flat w.2.encoded_type) (length-frame_of_reference_v2 encoded references) (extents-ways encoded w.0)
+  extents-ways (sparse_chunked len offset indices values chunks fill) w = patches-ways len values fill (extents-ways values w.1) w.5.values_type
   extents-ways (sequence p n first step len) w = of_flat (sequence p n first step len) len w refl (length-below (λ i. int (first +ℤ pos i *ℤ step)) len)
   extents-ways (delta bases deltas len valid n) w = of_flat (delta bases deltas len valid n) len w refl (length-valid_below valid (summed_up (integer_of (tree_type bases)) (rows bases) (rows deltas)) len n w.2.validity)
 

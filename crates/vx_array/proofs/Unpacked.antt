@@ -18,7 +18,7 @@ pub patches_of_rows : (k : PlainPacked) (o : Option PlainPatches) (n : ℕ) → 
 patches_of_rows k None n e w = tt
 patches_of_rows k (Some p) n e w = e ∙ sym (patches_len-packed_of k p w)
 
-natural_bits-le : (p : PType) → natural_bits p ≤ 64
+pub natural_bits-le : (p : PType) → natural_bits p ≤ 64
 natural_bits-le U8 = omega arith
 natural_bits-le U16 = omega arith
 natural_bits-le U32 = omega arith

@@ -110,6 +110,10 @@ no_other (nodes.RunEnd ends values) w f a b c d e g = let flat = integer_flat (t
 no_other (nodes.Rle values indices offsets len) w f a b c d e g = let flat = integer_flat (tree_type values.array.value) w.3.values_type in absurd cc
 no_other (nodes.Sequence p m first step len) w f a b c d e g = absurd cc
 no_other (nodes.Delta bases deltas len valid m) w f a b c d e g = absurd cc
+no_other (nodes.BitPackedV2 p bs offsets len valid None m) w f a b c d e g = absurd cc
+no_other (nodes.BitPackedV2 p bs offsets len valid (Some patches) m) w f a b c d e g = absurd cc
+no_other (nodes.DateTimeParts k m days seconds subseconds) w f a b c d e g = absurd cc
+no_other (nodes.FoRV2 encoded references) w f a b c d e g = absurd cc
 
 -- ---- a scalar of a value that fits
 

@@ -1,7 +1,7 @@
 -- What is true of each array: its tree is well formed, and the type and length that it keeps are the tree's.
 use Rattle.std.specs.Prelude.{◌≡◌, ℕ, Bool, true, false, IsTrue, length, Option, Some, None}
 use Rattle.vx_base.specs.PlainType.{PlainType}
-use Rattle.vx_model.specs.Tree.{Tree, var_bin_view, var_bin, constant, sparse}
+use Rattle.vx_model.specs.Tree.{Tree, var_bin_view, var_bin, constant, sparse, sparse_chunked}
 use Rattle.vx_model.specs.Rows.{rows}
 use Rattle.vx_model.specs.TreeType.{tree_type}
 use Rattle.vx_model.specs.WellFormed.{WellFormed}
@@ -12,6 +12,7 @@ has_type (constant s len) = true
 has_type (var_bin_view vs valid t) = true
 has_type (var_bin offsets bytes valid t) = true
 has_type (sparse len offset indices values fill) = true
+has_type (sparse_chunked len offset indices values chunks fill) = true
 has_type _ = false
 
 -- the type that an array keeps is its tree's; it keeps none where the root has it

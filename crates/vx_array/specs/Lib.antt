@@ -1,5 +1,6 @@
 pub mod AsType
 pub mod Beneath
+pub mod HasNoChunks
 pub mod HasRuns
 pub mod IsArray
 pub mod IsDecoded

@@ -4,7 +4,7 @@ use Rattle.std.specs.Prelude.{ℕ, zero, suc, ◌+◌, ◌-◌, ◌*◌, List, [
 use Rattle.vx_base.specs.PlainType.{PlainType, PlainFields}
 use Rattle.vx_base.specs.PlainType as types
 use Rattle.vx_model.specs.Rows.{rows}
-use Rattle.vx_model.specs.Tree.{Tree, Trees, constant, structure, list, fixed_size_list, sparse, none, more}
+use Rattle.vx_model.specs.Tree.{Tree, Trees, constant, structure, list, fixed_size_list, sparse, sparse_chunked, none, more}
 use Rattle.vx_flat.specs.Ways.{PlainWay, here, field, inside, count_at}
 
 -- f at the way to each column of a type, in their order
@@ -30,6 +30,7 @@ abbrev mutual
   pub extent_at : PlainWay → Tree → ℕ
   extent_at w (constant s len) = len * count_at w s.dtype (s.value ∷ [])
   extent_at w (sparse len offset indices values fill) = extent_at w values + (len - length (rows values)) * count_at w fill.dtype (fill.value ∷ [])
+  extent_at w (sparse_chunked len offset indices values chunks fill) = extent_at w values + (len - length (rows values)) * count_at w fill.dtype (fill.value ∷ [])
   extent_at here (structure names fields len valid n) = len
   extent_at (field i w) (structure names fields len valid n) = extent_in i w fields
   extent_at (inside w) (structure names fields len valid n) = 0

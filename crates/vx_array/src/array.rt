@@ -47,7 +47,7 @@ pub enum Node {
     /// Fixed-size lists of child 0's rows: the size of each list, the number of lists, validity and nullability.
     FixedSizeList(Child, u32, u64, Option<Mask>, Nullability),
     /// The patches' values in their rows and the scalar in every other one. Children 0 and 1 are the patches' indices and
-    /// values.
+    /// values, child 2 their chunk offsets, where there are any.
     Sparse(Box<Patches>, Scalar),
     /// Runs of equal integers: child 0 has the exclusive end of each run, child 1 its value.
     RunEnd(Child, Child),
@@ -59,6 +59,14 @@ pub enum Node {
     /// Delta-encoded integers: row r of a block of 1,024 rows is child 0's base of the block plus child 1's differences 0 to
     /// r of the block. Then the number of rows, validity and nullability.
     Delta(Child, Child, u64, Option<Mask>, Nullability),
+    /// Integers bit-packed in blocks of 1,024 rows, each at a width of its own: type, packed bytes, child 0's block offsets
+    /// in units of 128 bytes, number of rows, validity, patches and nullability. Children 1 and 2 are the patches' indices
+    /// and values, where there are patches.
+    BitPackedV2(PType, Bytes, Child, u64, Option<Mask>, Option<Box<Patches>>, Nullability),
+    /// Timestamps of a kind and nullability in parts: child 0's days, child 1's seconds and child 2's subseconds.
+    DateTimeParts(TimestampType, Nullability, Child, Child, Child),
+    /// Child 0's integers, each plus child 1's reference of its block of 1,024 rows, wrapping in the references' type.
+    FoRV2(Child, Child),
 }
 
 /// A child tree, in a box. A type of its own, so that a proof over trees goes through the box once and not at each child of
@@ -70,14 +78,15 @@ pub struct Child {
     pub array: Box<ArrayRef>,
 }
 
-/// Values that replace an array's own in some rows: the patch with index `i` replaces row `i - offset`. Contracts see them
-/// as plain data.
+/// Values that replace an array's own in some rows: the patch with index `i` replaces row `i - offset`. Chunk offsets, if there
+/// are any, count the indices before each chunk of 1,024 indices. Contracts see all of them as plain data.
 #[cycle(tree)]
 pub struct Patches {
     pub(crate) array_len: u64,
     pub(crate) offset: u64,
     pub(crate) indices: ArrayRef,
     pub(crate) values: ArrayRef,
+    pub(crate) chunks: Option<ArrayRef>,
 }
 
 /// A well-formed tree of encodings. Contracts see it as plain data.
@@ -100,17 +109,18 @@ impl Model for ArrayRef {
 
     ghost use Rattle.vx_base.specs.TypeOf.{type_of};
     ghost use Rattle.vx_array.specs.TreeOf.{tree_of};
+    ghost use Rattle.vx_array.specs.HasNoChunks.{HasNoChunks};
     ghost use Rattle.vx_array.specs.IsArray.{IsArray};
 
     ghost view = { λ a. tree_of a.node };
 
-    ghost invariant = { λ a. IsArray (tree_of a.node) (option_map type_of a.own_type) a.len };
+    ghost invariant = { λ a. IsArray (tree_of a.node) (option_map type_of a.own_type) a.len × HasNoChunks a.node };
 
     ghost size = { node_count };
 
     ghost use Rattle.vx_array.specs.TreeFalls.{depth_le-node_count};
 
-    ghost size_decreases = { λ a h. depth_le-node_count a.node };
+    ghost size_decreases = { λ a h. depth_le-node_count a.node h.1 };
 }
 
 // By hand, so that dropping a tree is one call to prove. Derived, it would be written out at each exit of each function that
@@ -135,12 +145,13 @@ impl Drop for Patches {
             offset: _,
             indices: _,
             values: _,
+            chunks: _,
         } = self;
     }
 }
 
 impl Model for Patches {
-    ghost use Rattle.vx_model.specs.Tree.{PlainPatches, patches, patches_count};
+    ghost use Rattle.vx_model.specs.Tree.{PlainPatches, chunked, patches_count};
     ghost use Rattle.vx_model.specs.TreeCode.{patches_code};
 
     ghost Value = { PlainPatches };
@@ -149,15 +160,16 @@ impl Model for Patches {
 
     ghost use Rattle.vx_model.specs.WellFormed.{WellFormedPatches};
 
-    ghost view = { λ a. patches a.array_len a.offset a.indices a.values };
+    ghost view = { λ a. chunked a.array_len a.offset a.indices a.values a.chunks };
 
-    ghost invariant = { λ a. WellFormedPatches (patches a.array_len a.offset a.indices a.values) };
+    ghost invariant = { λ a. WellFormedPatches (chunked a.array_len a.offset a.indices a.values a.chunks) };
 
     ghost size = { patches_count };
 
     ghost use Rattle.std.proofs.Common.{arith};
+    ghost use Rattle.vx_array.specs.TreeFalls.{chunks-depth};
 
-    ghost size_decreases = { λ a h. omega arith };
+    ghost size_decreases = { λ a h. omega (arith, chunks-depth a.array_len a.offset a.indices a.values a.chunks) };
 }
 
 impl ArrayRef {
@@ -219,6 +231,7 @@ impl ArrayRef {
     }
 
     /// The root's encoding.
+    #[tactic(auto, using(crate::proofs::SparseOf::roots))]
     pub fn encoding_id(&self) -> ArrayId
         ensures { result ≡ encoding self.now }
     {
@@ -243,6 +256,9 @@ impl ArrayRef {
             Node::Rle(_, _, _, _) => ArrayId::Rle,
             Node::Sequence(_, _, _, _, _) => ArrayId::Sequence,
             Node::Delta(_, _, _, _, _) => ArrayId::Delta,
+            Node::BitPackedV2(_, _, _, _, _, _, _) => ArrayId::BitPackedV2,
+            Node::DateTimeParts(_, _, _, _, _) => ArrayId::DateTimeParts,
+            Node::FoRV2(_, _) => ArrayId::FoRV2,
         }
     }
 
@@ -261,8 +277,11 @@ impl ArrayRef {
             Node::Struct(_, fields, _, _, _) => fields.len() as usize,
             Node::List(_, _, _, _) => 2,
             Node::FixedSizeList(_, _, _, _, _) => 1,
-            Node::Sparse(_, _) | Node::RunEnd(_, _) | Node::Delta(_, _, _, _, _) => 2,
-            Node::Rle(_, _, _, _) => 3,
+            Node::Sparse(patches, _) => patches.num_children(),
+            Node::RunEnd(_, _) | Node::Delta(_, _, _, _, _) | Node::FoRV2(_, _) => 2,
+            Node::Rle(_, _, _, _) | Node::DateTimeParts(_, _, _, _, _) => 3,
+            Node::BitPackedV2(_, _, _, _, _, Some(_), _) => 3,
+            Node::BitPackedV2(_, _, _, _, _, None, _) => 1,
             Node::Sequence(_, _, _, _, _) => 0,
         }
     }
@@ -288,8 +307,7 @@ impl ArrayRef {
             Node::List(elements, _, _, _) if place == 0 => Some(&elements.array),
             Node::List(_, offsets, _, _) if place == 1 => Some(&offsets.array),
             Node::FixedSizeList(elements, _, _, _, _) if place == 0 => Some(&elements.array),
-            Node::Sparse(patches, _) if place == 0 => Some(&patches.indices),
-            Node::Sparse(patches, _) if place == 1 => Some(&patches.values),
+            Node::Sparse(patches, _) => patches.child(place),
             Node::RunEnd(ends, _) if place == 0 => Some(&ends.array),
             Node::RunEnd(_, values) if place == 1 => Some(&values.array),
             Node::Rle(values, _, _, _) if place == 0 => Some(&values.array),
@@ -297,6 +315,18 @@ impl ArrayRef {
             Node::Rle(_, _, offsets, _) if place == 2 => Some(&offsets.array),
             Node::Delta(bases, _, _, _, _) if place == 0 => Some(&bases.array),
             Node::Delta(_, deltas, _, _, _) if place == 1 => Some(&deltas.array),
+            Node::BitPackedV2(_, _, offsets, _, _, _, _) if place == 0 => Some(&offsets.array),
+            Node::BitPackedV2(_, _, _, _, _, Some(patches), _) if place == 1 => Some(
+                &patches.indices,
+            ),
+            Node::BitPackedV2(_, _, _, _, _, Some(patches), _) if place == 2 => Some(
+                &patches.values,
+            ),
+            Node::DateTimeParts(_, _, days, _, _) if place == 0 => Some(&days.array),
+            Node::DateTimeParts(_, _, _, seconds, _) if place == 1 => Some(&seconds.array),
+            Node::DateTimeParts(_, _, _, _, subseconds) if place == 2 => Some(&subseconds.array),
+            Node::FoRV2(encoded, _) if place == 0 => Some(&encoded.array),
+            Node::FoRV2(_, references) if place == 1 => Some(&references.array),
             _ => None,
         }
     }
@@ -312,6 +342,7 @@ impl Patches {
             offset: _,
             indices,
             values,
+            chunks: _,
         } = self;
         (indices, values)
     }

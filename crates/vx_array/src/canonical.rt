@@ -7,17 +7,17 @@ ghost use Rattle.vx_base.specs.PlainType.{is_flat};
 ghost use Rattle.vx_model.specs.Column.{column_of};
 ghost use Rattle.vx_model.specs.Plain.{IsPlain, plain};
 ghost use Rattle.vx_model.specs.TreeType.{tree_type};
-ghost use Rattle.vx_array.specs.HasRuns.{has_runs};
+ghost use Rattle.vx_array.specs.HasRuns.{has_blocks, has_columns, has_runs};
 ghost use Rattle.vx_array.specs.IsDecoded.{IsDecoded};
 
 use crate::array::{ArrayRef, Node};
-use crate::node::{as_type, decoded_packed, decoded_sparse};
+use crate::node::{as_type, decoded_in_blocks, decoded_packed, decoded_sparse};
 use std::alloc::Global;
 use vx_base::VortexResult;
 use vx_flat::{
-    block_places, decoded_bool, decoded_by_codes, decoded_constant, decoded_delta, decoded_masked,
-    decoded_moved, decoded_primitive, decoded_sequence, decoded_var_bin, decoded_view,
-    decoded_zig_zag, run_places,
+    block_places, decoded_bool, decoded_by_codes, decoded_constant, decoded_delta, decoded_frames,
+    decoded_masked, decoded_moved, decoded_parts, decoded_primitive, decoded_sequence,
+    decoded_var_bin, decoded_view, decoded_zig_zag, run_places,
 };
 use vx_values::{Decoded, Values};
 
@@ -102,8 +102,50 @@ impl ArrayRef {
             Node::Rle(_, _, _, _) => self.decoded_runs(alloc),
             Node::Delta(_, _, _, _, _) => self.decoded_runs(alloc),
             Node::Sequence(_, _, _, _, _) => self.decoded_runs(alloc),
+            Node::BitPackedV2(_, _, _, _, _, _, _) => self.decoded_blocks(alloc),
+            Node::DateTimeParts(_, _, _, _, _) => self.decoded_columns(alloc),
+            Node::FoRV2(_, _) => self.decoded_columns(alloc),
             Node::Null(_) | Node::Struct(_, _, _, _, _) => unreachable!(),
             Node::List(_, _, _, _) | Node::FixedSizeList(_, _, _, _, _) => unreachable!(),
+        }
+    }
+
+    // `decoded` where the root is BitPackedV2: a block of 1,024 rows after another.
+    #[cycle(decoded)]
+    fn decoded_blocks(&self, alloc: Global) -> VortexResult<Decoded>
+        requires flat { IsTrue (is_flat (tree_type self.now)) }
+        requires blocks { IsTrue (has_blocks self.now) }
+        ensures { OrMemory result (λ rows. IsDecoded self.now rows) }
+    {
+        match &self.node {
+            Node::BitPackedV2(ptype, packed, offsets, len, valid, patches, _) => {
+                let (offsets, _) = offsets.array.decoded(alloc)?.into_integers();
+                decoded_in_blocks(alloc, *ptype, packed, &offsets, *len, valid, patches)
+            }
+            _ => unreachable!(),
+        }
+    }
+
+    // `decoded` where the root is DateTimeParts or FoRV2: row by row of several columns.
+    #[cycle(decoded)]
+    fn decoded_columns(&self, alloc: Global) -> VortexResult<Decoded>
+        requires flat { IsTrue (is_flat (tree_type self.now)) }
+        requires columns { IsTrue (has_columns self.now) }
+        ensures { OrMemory result (λ rows. IsDecoded self.now rows) }
+    {
+        match &self.node {
+            Node::DateTimeParts(kind, _, days, seconds, subseconds) => {
+                let (days, valid) = days.array.decoded(alloc)?.into_integers();
+                let (seconds, _) = seconds.array.decoded(alloc)?.into_integers();
+                let (subseconds, _) = subseconds.array.decoded(alloc)?.into_integers();
+                decoded_parts(alloc, kind.unit(), &days, valid, &seconds, &subseconds)
+            }
+            Node::FoRV2(encoded, references) => {
+                let (differences, valid) = encoded.array.decoded(alloc)?.into_integers();
+                let (references, _) = references.array.decoded(alloc)?.into_integers();
+                decoded_frames(alloc, differences, valid, &references)
+            }
+            _ => unreachable!(),
         }
     }
 

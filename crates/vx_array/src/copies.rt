@@ -6,9 +6,10 @@ ghost use Rattle.vx_base.specs.TypeOf.{type_of};
 
 use crate::array::{ArrayRef, Node, Patches};
 use crate::node::{
-    copied_bool, copied_constant, copied_delta, copied_dict, copied_fixed, copied_frame,
-    copied_list, copied_masked, copied_packed, copied_primitive, copied_rle, copied_runs,
-    copied_sparse, copied_struct, copied_timestamp, copied_var_bin, copied_view, copied_zig_zag,
+    copied_blocks, copied_bool, copied_constant, copied_delta, copied_dict, copied_fixed,
+    copied_frame, copied_frames, copied_list, copied_masked, copied_packed, copied_parts,
+    copied_primitive, copied_rle, copied_runs, copied_sparse, copied_struct, copied_timestamp,
+    copied_var_bin, copied_view, copied_zig_zag, without_chunks,
 };
 use std::alloc::Global;
 use vx_base::{DType, VortexResult};
@@ -20,7 +21,7 @@ impl ArrayRef {
         ensures { Answers result self.now }
     {
         let own_type = copy_type(&self.own_type, alloc)?;
-        let node = self.node.copy(alloc)?;
+        let node = self.node.copy(alloc)?.without_chunks();
         Ok(ArrayRef {
             node,
             own_type,
@@ -30,7 +31,27 @@ impl ArrayRef {
 }
 
 impl Node {
+    ghost use Rattle.vx_array.specs.HasNoChunks.{HasNoChunks};
     ghost use Rattle.vx_array.specs.TreeOf.{tree_of};
+
+    // The node, with no chunk offsets of the patches of packed integers. A copy of a node in a tree has none either: said
+    // here once, and not at the copy of each node.
+    fn without_chunks(self) -> Node
+        ensures tree { tree_of result ≡ tree_of self }
+        ensures none { HasNoChunks result }
+    {
+        match self {
+            Node::BitPacked(ptype, width, packed, len, valid, patches, nulls) => {
+                let patches = without_chunks(patches);
+                Node::BitPacked(ptype, width, packed, len, valid, patches, nulls)
+            }
+            Node::BitPackedV2(ptype, packed, offsets, len, valid, patches, nulls) => {
+                let patches = without_chunks(patches);
+                Node::BitPackedV2(ptype, packed, offsets, len, valid, patches, nulls)
+            }
+            node => node,
+        }
+    }
 
     #[cycle(copy)]
     fn copy(&self, alloc: Global) -> VortexResult<Node>
@@ -116,6 +137,24 @@ impl Node {
                     *nulls,
                 )
             }
+            Node::BitPackedV2(ptype, packed, offsets, len, valid, patches, nulls) => {
+                let offsets = offsets.array.copy(alloc)?;
+                copied_blocks(alloc, *ptype, packed, *len, valid, patches, *nulls, offsets)
+            }
+            Node::DateTimeParts(kind, nulls, days, seconds, subseconds) => {
+                let seconds = seconds.array.copy(alloc)?;
+                copied_parts(
+                    alloc,
+                    kind,
+                    *nulls,
+                    &days.array,
+                    seconds,
+                    subseconds.array.copy(alloc)?,
+                )
+            }
+            Node::FoRV2(encoded, references) => {
+                copied_frames(alloc, &encoded.array, references.array.copy(alloc)?)
+            }
         }
     }
 }
@@ -128,12 +167,25 @@ impl Patches {
     {
         let indices = self.indices.copy(alloc)?;
         let values = self.values.copy(alloc)?;
+        let chunks = copied_chunks(alloc, &self.chunks)?;
         Ok(Patches {
             array_len: self.array_len,
             offset: self.offset,
             indices,
             values,
+            chunks,
         })
+    }
+}
+
+// A deep copy of chunk offsets, if there are any.
+#[cycle(copy)]
+fn copied_chunks(alloc: Global, chunks: &Option<ArrayRef>) -> VortexResult<Option<ArrayRef>>
+    ensures { Answers result chunks.now }
+{
+    match chunks {
+        Some(chunks) => Ok(Some(chunks.copy(alloc)?)),
+        None => Ok(None),
     }
 }
 

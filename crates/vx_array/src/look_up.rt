@@ -9,11 +9,11 @@ ghost use Rattle.vx_model.specs.TreeType.{tree_type};
 
 use crate::array::{ArrayRef, Node};
 use crate::node::{
-    BLOCK_ROWS, masked_at, picked_at, piece_at, rle_at, run_at, sparse_at, summed_at, unpacked_at,
-    whole_at,
+    BLOCK_ROWS, bits_at, block_row_at, combined_at, masked_at, picked_at, piece_at, rle_at, run_at,
+    sparse_at, summed_at, unpacked_at, whole_at,
 };
 use vx_base::Cell;
-use vx_flat::{moved_at, primitive_at, sequence_at, truth_at, unzigzagged_at, view_at};
+use vx_flat::{framed_at, moved_at, primitive_at, sequence_at, truth_at, unzigzagged_at, view_at};
 
 impl ArrayRef {
     /// The value in a row of a leaf type or of timestamps, without decoding the others. Texts and binaries are borrowed.
@@ -54,6 +54,20 @@ impl ArrayRef {
             Node::Delta(bases, deltas, _, valid, _) => {
                 let base = whole_at(&bases.array, row / BLOCK_ROWS);
                 summed_at(base, &deltas.array, valid, row)
+            }
+            Node::BitPackedV2(_, packed, offsets, _, valid, patches, _) => {
+                let bits = bits_at(packed, &offsets.array, row);
+                block_row_at(bits, valid, patches, row)
+            }
+            Node::DateTimeParts(kind, _, days, seconds, subseconds) => {
+                let second = whole_at(&seconds.array, row);
+                let subsecond = whole_at(&subseconds.array, row);
+                combined_at(kind, days.array.cell_at(row).integer(), second, subsecond)
+            }
+            Node::FoRV2(encoded, references) => {
+                let reference = whole_at(&references.array, row / BLOCK_ROWS);
+                let ptype = references.array.dtype().ptype();
+                framed_at(ptype, reference, encoded.array.cell_at(row))
             }
             Node::Null(_) | Node::Struct(_, _, _, _, _) => unreachable!(),
             Node::List(_, _, _, _) | Node::FixedSizeList(_, _, _, _, _) => unreachable!(),

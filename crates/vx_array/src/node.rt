@@ -1,17 +1,22 @@
 //! The nodes: a file each, with its constructor, its look-up, its bytes, its copy and its decoding.
 
 mod bit_packed;
+mod bit_packed_v2;
+mod bit_packed_v2_rows;
 mod bool;
 mod constant;
+mod datetime_parts;
 mod delta;
 mod delta_rows;
 mod dict;
 mod fixed_size_list;
 mod frame_of_reference;
+mod frame_of_reference_v2;
 mod list;
 mod masked;
 mod null;
 mod offsets;
+mod parts_rows;
 mod primitive;
 mod rle;
 mod rle_rows;
@@ -26,17 +31,24 @@ mod var_bin_view;
 mod zig_zag;
 
 use crate::array::ArrayRef;
-pub(crate) use bit_packed::{copied_packed, decoded_packed, packed_bytes, unpacked_at};
+pub(crate) use bit_packed::{
+    copied_packed, decoded_packed, packed_bytes, unpacked_at, without_chunks,
+};
+pub(crate) use bit_packed_v2::{blocks_bytes, copied_blocks};
+pub(crate) use bit_packed_v2_rows::{bits_at, block_row_at, decoded_in_blocks};
 pub(crate) use bool::{copied_bool, gathered_bool};
 pub(crate) use constant::copied_constant;
+pub(crate) use datetime_parts::copied_parts;
 pub(crate) use delta::copied_delta;
 pub(crate) use delta_rows::summed_at;
 pub(crate) use dict::{boxed, copied_dict, picked_at};
 pub(crate) use fixed_size_list::copied_fixed;
 pub(crate) use frame_of_reference::copied_frame;
+pub(crate) use frame_of_reference_v2::copied_frames;
 pub(crate) use list::copied_list;
 pub(crate) use masked::{copied_masked, masked_at};
-pub(crate) use offsets::{offset_at, row_count, whole_at};
+pub(crate) use offsets::{are_integers, offset_at, row_count, whole_at};
+pub(crate) use parts_rows::combined_at;
 pub(crate) use primitive::{copied_primitive, gathered_primitive};
 pub(crate) use rle::{BLOCK_ROWS, copied_rle};
 pub(crate) use rle_rows::rle_at;

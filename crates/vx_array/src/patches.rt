@@ -1,23 +1,30 @@
 //! Patches: construction, and writing them into integers.
 
-ghost use Rattle.std.specs.Prelude.{◌≡◌, ◌+◌, ℕ, ℤ, None, length, IsTrue};
+ghost use Rattle.std.specs.Prelude.{◌≡◌, ◌+◌, ℕ, ℤ, None, length, option_copied, slice_get, IsTrue};
 ghost use Rattle.vx_base.specs.Answers.{MakesSurely};
 ghost use Rattle.vx_base.specs.PlainType.{is_integer};
 ghost use Rattle.vx_base.specs.declared.dtype.Nullability.TheVariants.{NonNullable};
+ghost use Rattle.vx_base.specs.PlainScalar.{PlainScalar};
 ghost use Rattle.vx_base.specs.PlainType as types;
 ghost use Rattle.vx_base.specs.PlainValue.{cell, int, whole_or_zero};
+ghost use Rattle.vx_model.specs.Nodes.{children};
 ghost use Rattle.vx_model.specs.Refusals.{patches_refusal};
 ghost use Rattle.vx_model.specs.Rows.{rows, index_of, below, patched};
-ghost use Rattle.vx_model.specs.Tree.{patches};
+ghost use Rattle.vx_model.specs.Tree.{patches, sparse_of};
 ghost use Rattle.vx_model.specs.TreeType.{tree_type};
 ghost use Rattle.vx_model.specs.WellFormed.{WellFormedPatches, ascend};
 ghost use Rattle.vx_values.specs.IntsOf.{ptype_of, wholes_of};
 
+mod chunks;
 mod search;
 
 use crate::array::{ArrayRef, Patches};
+pub(crate) use chunks::is_count;
 use vx_base::{Refused, VortexError};
 use vx_values::Ints;
+
+// The indices of a chunk.
+const CHUNK_ROWS: u128 = 1_024;
 
 impl Patches {
     /// Patches of an array of `array_len` rows: `values[k]` stands in row `indices[k] - offset`.
@@ -66,6 +73,7 @@ impl Patches {
             offset,
             indices,
             values,
+            chunks: None,
         }
     }
 
@@ -106,6 +114,28 @@ impl Patches {
         ensures { result.now ≡ self.now.values }
     {
         &self.values
+    }
+
+    // The number of children of a fill and the patches.
+    pub(crate) fn num_children(&self) -> usize
+        ensures { (fill : PlainScalar) → result ≡ length (children (sparse_of self.now fill)) }
+    {
+        match &self.chunks {
+            Some(_) => 3,
+            None => 2,
+        }
+    }
+
+    // The child at a place of a fill and the patches, None where there is none.
+    pub(crate) fn child(&self, place: usize) -> Option<&ArrayRef>
+        ensures { (fill : PlainScalar) → option_copied result ≡ slice_get (children (sparse_of self.now fill)) place }
+    {
+        match place {
+            0 => Some(&self.indices),
+            1 => Some(&self.values),
+            2 => self.chunks.as_ref(),
+            _ => None,
+        }
     }
 
     // The integers, each patched row with its patch's value.

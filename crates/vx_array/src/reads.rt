@@ -45,6 +45,9 @@ impl ArrayRef {
             Node::Rle(values, _, _, _) => values.array.has_null() && self.has_null_row(),
             Node::Sequence(_, _, _, _, _) => false,
             Node::Delta(_, _, _, valid, _) => valid.is_some(),
+            Node::BitPackedV2(_, _, _, _, valid, _, _) => valid.is_some(),
+            Node::DateTimeParts(_, _, days, _, _) => days.array.has_null(),
+            Node::FoRV2(encoded, _) => encoded.array.has_null(),
         }
     }
 
@@ -82,7 +85,7 @@ impl ArrayRef {
     /// Whether the tree is the plain tree of its column: no encoding, the type's default beneath nulls (an empty list in
     /// columns of lists), and `u64` list offsets.
     #[cycle(is_plain)]
-    #[tactic(auto, using(vx_model::proofs::NullLemmas::plains))]
+    #[tactic(auto, using(vx_model::proofs::NullLemmas::plains, crate::proofs::SparseOf::no_plain))]
     pub fn is_plain(&self) -> bool
         ensures { IsTrue result ↔ IsPlain self.now }
     {

@@ -3,12 +3,12 @@
 ghost use Rattle.std.specs.Prelude.{◌≡◌, ◌-◌, ◌+◌, ◌^◌, min, nat_le};
 ghost use Rattle.std.specs.List.{list_all};
 ghost use Rattle.vx_model.specs.Extents.{all_extents, extents_fit, row_limit};
-ghost use Rattle.vx_model.specs.Size.{nbytes, size, sizes};
+ghost use Rattle.vx_model.specs.Size.{chunks_size, nbytes, size, sizes};
 ghost use Rattle.vx_model.specs.Tree.{of_list};
 
 use crate::array::{ArrayRef, Node, Patches};
 use crate::arrays::Arrays;
-use crate::node::{packed_bytes, sparse_bytes, var_bin_extents_fit};
+use crate::node::{blocks_bytes, packed_bytes, sparse_bytes, var_bin_extents_fit};
 use vx_flat::{
     bool_bytes, constant_bytes, constant_extents_fit, is_few, masked_bytes, primitive_bytes,
     var_bin_bytes, view_bytes, with_validity,
@@ -17,6 +17,7 @@ use vx_flat::{
 impl ArrayRef {
     /// The size of the tree in bytes. Saturates at 2^128 - 1.
     #[cycle(nbytes)]
+    #[tactic(auto, using(crate::proofs::SparseOf::roots))]
     pub fn nbytes(&self) -> u128
         ensures { result ≡ nbytes self.now }
     {
@@ -65,6 +66,19 @@ impl ArrayRef {
                     valid,
                 )
             }
+            Node::BitPackedV2(_, packed, offsets, _, valid, patches, _) => {
+                blocks_bytes(packed, offsets.array.nbytes(), valid, patches)
+            }
+            Node::DateTimeParts(_, _, days, seconds, subseconds) => {
+                let times = days.array.nbytes().saturating_add(seconds.array.nbytes());
+                times.saturating_add(subseconds.array.nbytes())
+            }
+            Node::FoRV2(encoded, references) => {
+                encoded
+                    .array
+                    .nbytes()
+                    .saturating_add(references.array.nbytes())
+            }
         }
     }
 
@@ -97,6 +111,9 @@ impl ArrayRef {
             Node::RunEnd(_, _) => is_few(self.len),
             Node::Rle(_, _, _, len) | Node::Sequence(_, _, _, _, len) => is_few(*len),
             Node::Delta(_, _, len, _, _) => is_few(*len),
+            Node::BitPackedV2(_, _, _, len, _, _, _) => is_few(*len),
+            Node::DateTimeParts(_, _, days, _, _) => days.array.extents_fit(),
+            Node::FoRV2(encoded, _) => encoded.array.extents_fit(),
         }
     }
 }
@@ -131,12 +148,23 @@ impl Arrays {
 }
 
 impl Patches {
-    // The bytes of the indices and the values. Saturates at 2^128 - 1.
+    // The bytes of the indices and the values, without those of chunk offsets. Saturates at 2^128 - 1.
     #[cycle(nbytes)]
     pub(crate) fn nbytes(&self) -> u128
         ensures { result ≡ min (size self.now.indices + size self.now.values) (2 ^ 128 - 1) }
     {
         let indices = self.indices.nbytes();
         indices.saturating_add(self.values.nbytes())
+    }
+
+    // The bytes of the chunk offsets, if there are any. Saturates at 2^128 - 1.
+    #[cycle(nbytes)]
+    pub(crate) fn chunks_bytes(&self) -> u128
+        ensures { result ≡ min (chunks_size self.now.chunks) (2 ^ 128 - 1) }
+    {
+        match &self.chunks {
+            Some(chunks) => chunks.nbytes(),
+            None => 0,
+        }
     }
 }

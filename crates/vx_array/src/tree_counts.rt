@@ -28,6 +28,7 @@ impl ArrayRef {
 
     // The extent of the column at the end of a way. Saturates at 2^64 - 1.
     #[cycle(extent_at)]
+    #[tactic(auto, using(crate::proofs::SparseOf::roots))]
     fn extent_at(&self, way: &Way<'_>) -> u64
         ensures { result ≡ min (extent_at (way_of way.now) self.now) (2 ^ 64 - 1) }
     {

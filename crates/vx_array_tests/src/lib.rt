@@ -4,6 +4,12 @@
 #[cfg(test)]
 mod bit_packed;
 #[cfg(test)]
+mod blocks;
+#[cfg(test)]
+mod chunks;
+#[cfg(test)]
+mod datetime_parts;
+#[cfg(test)]
 mod dict;
 #[cfg(test)]
 mod frame_of_reference;

@@ -23,7 +23,7 @@ fn found<L: Ledger>(patches: &Patches, row: u64, blank: Blank) -> Option<u64>
 }
 
 // `found` where there is such a row, else None.
-fn place_of(patches: &Patches, row: u64) -> Option<u64> {
+pub(crate) fn place_of(patches: &Patches, row: u64) -> Option<u64> {
     if row < patches.array_len() {
         found::<Brand>(patches, row, Blank::new(1))
     } else {

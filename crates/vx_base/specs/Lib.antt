@@ -16,6 +16,7 @@ pub mod Masks
 pub mod Narrow
 pub mod Ordered
 pub mod Packed
+pub mod PackedBlocks
 pub mod PlainScalar
 pub mod PlainType
 pub mod PlainValue

@@ -1,10 +1,10 @@
-use Rattle.std.proofs.Common.{◌≡◌, ℕ, ◌+◌, ◌-◌, ◌^◌, ◌<◌, ◌≤◌, Bool, true, false, List, [], ◌∷◌, ◌++◌, length, get_or, sum, set, take, replicate, cond, ap, ◌∙◌, refl, arith, get_or-set_other, get_or-set_same, eqb, inl, inr}
+use Rattle.std.proofs.Common.{◌≡◌, ℕ, zero, suc, ◌+◌, ◌-◌, ◌^◌, ◌<◌, ◌≤◌, Bool, true, false, List, [], ◌∷◌, ◌++◌, length, get_or, sum, set, take, drop, subst, replicate, cond, ap, ◌∙◌, refl, arith, get_or-set_other, get_or-set_same, eqb, inl, inr}
 use Rattle.std.proofs.Math.ListN.{length-set}
 use Rattle.std.proofs.lemmas.Bool.{cases_eq}
 use Rattle.std.proofs.lemmas.Bool.Decides.{nat_tests}
 use Rattle.std.proofs.lemmas.List.Sums.{sum_by-append, sum_by_push, sum_by-set, sum_by_more, sum_by-take-le}
 use Rattle.std.proofs.lemmas.List.Folds.{sum_by-replicate}
-use Rattle.std.proofs.lemmas.List.{length-append, set-get_or, take-set-le, get_or-replicate}
+use Rattle.std.proofs.lemmas.List.{length-append, length-take, length-drop, take-append-drop, length-take-le, set-get_or, take-set-le, get_or-take, get_or-replicate}
 use Rattle.std.proofs.lemmas.Nat.{leading_le}
 use Rattle.std.specs.Int.Count.{count_leading_zeros}
 use Rattle.vx_base.specs.Digits.{digits}
@@ -80,11 +80,31 @@ by_zeros-none width =
     }
 
 -- ---- by digits
+-- a write into the first items
+pub take-set_within : (n : ℕ) (xs : List ℕ) (i x : ℕ) → i < n → take n (set xs i x) ≡ set (take n xs) i x
+take-set_within zero xs i x h = absurd (omega arith)
+take-set_within (suc n) [] i x h = refl
+take-set_within (suc n) (y ∷ xs) zero x h = refl
+take-set_within (suc n) (y ∷ xs) (suc i) x h = ap (λ l. y ∷ l) (take-set_within n xs i x (omega arith))
+
+-- the first items still have the sum of all
+pub sum-front : (n : ℕ) (xs : List ℕ) (i x : ℕ) → i < n → n ≤ length xs → sum (take n xs) ≡ sum xs → sum (take n (set xs i x)) ≡ sum (set xs i x)
+sum-front n xs i x h room same =
+    let whole = sum_by-set (λ n. n) xs i x 0 (omega arith) in
+    let part = sum_by-set (λ n. n) (take n xs) i x 0 (omega (arith, length-take-le n xs room)) in
+    ap sum (take-set_within n xs i x h) ∙ omega (arith, whole, part, get_or-take n xs i 0 h, same)
+
 -- the entry of one width more, which is at k by leading zeros
 pub sums-more : (counts first second : List ℕ) (w j k total : ℕ) → w < length counts → get_or counts w 0 ≡ 0 → j ≡ k + 1 → k < length first → k < length second
     → sum counts + sum (take j first) + sum (take j second) ≡ total → sum (set counts w (get_or first k 0 + get_or second k 0)) + sum (take k first) + sum (take k second) ≡ total
-sums-more counts first second w j k total room zero is lt less before =
-    omega (arith, rw is at before, zero, sum_by-set (λ n. n) counts w (get_or first k 0 + get_or second k 0) 0 room, sum_by_more (λ n. n) first k 0 lt, sum_by_more (λ n. n) second k 0 less)
+sums-more counts first second w j k total room none is lt less before =
+    omega (arith, rw is at before, none, sum_by-set (λ n. n) counts w (get_or first k 0 + get_or second k 0) 0 room, sum_by_more (λ n. n) first k 0 lt, sum_by_more (λ n. n) second k 0 less)
+
+-- of rows that were counted in two halves
+pub halves-histogram : (width count start : ℕ) (rows first second counts : List ℕ) → ((front back : List ℕ) → AreByZeros width front first → AreByZeros width back second → length front + length back ≡ count → IsHistogram width (front ++ back) counts)
+    → AreByZeros width (take start rows) first → AreByZeros width (drop start rows) second → length rows ≡ count → IsHistogram width rows counts
+halves-histogram width count start rows first second counts made a b long =
+    subst (λ l. IsHistogram width l counts) (take-append-drop start rows) (made (take start rows) (drop start rows) a b (omega (arith, long, length-take start rows, length-drop start rows)))
 
 pub histogram-sum : (width : ℕ) (rows more first second counts : List ℕ) (count : ℕ) → AreByZeros width rows first → AreByZeros width more second → width ≤ 64 → length counts ≡ width + 1
     → ((w : ℕ) → w < width + 1 → get_or counts w 0 ≡ get_or first (64 - w) 0 + get_or second (64 - w) 0) → sum counts ≡ sum first + sum second → length rows + length more ≡ count

@@ -1,5 +1,5 @@
 -- Rows that are written eight at a time, and the bytes of them.
-use Rattle.std.proofs.Common.{◌≡◌, ◌∙◌, ℕ, ◌+◌, ◌-◌, ◌*◌, ◌^◌, ◌<◌, ◌≤◌, List, ◌++◌, length, get_or, take, drop, arith, ap, sym, refl, length-append, zero, suc}
+use Rattle.std.proofs.Common.{◌≡◌, ◌∙◌, ℕ, ◌+◌, ◌-◌, ◌*◌, ◌^◌, ◌<◌, ◌≤◌, List, ◌++◌, length, get_or, take, drop, arith, ap, sym, refl, zero, suc}
 use Rattle.std.proofs.lemmas.List.{take-take, length-take-le, length-drop, get_or-drop, drop-drop, take-append-drop}
 use Rattle.std.proofs.lemmas.Slice.{take-put_mid}
 use Rattle.std.proofs.Math.Seq.{take-append-add}
@@ -66,18 +66,3 @@ next-eight w rows start unit first m next buffer eight room few at long within t
     let sum : 8 * (unit + 1) ≡ 8 * unit + 8 = omega arith in
     ap (packed_number 8) (take-written first w m next buffer eight long within (omega arith)) ∙ packed_number-append 8 (take first buffer) (take w eight)
     ∙ rw (low, high, size, sum) (sym (packed_number-group w (drop start rows) (8 * unit) 8 (omega (arith, length-drop start rows))))
-
--- a group of 64 rows more, which are whole words
-pub next-group : (w : ℕ) (rows : List ℕ) (group : ℕ) (bytes more : List ℕ) → 64 * group + 64 ≤ length rows → length more ≡ 8 * w → packed_number 8 more ≡ packed_number w (take 64 (drop (64 * group) rows))
-    → Holds (packed_number w (take (64 * group) rows)) (w * (64 * group)) bytes 0 0 → Holds (packed_number w (take (64 * (group + 1)) rows)) (w * (64 * (group + 1))) (bytes ++ more) 0 0
-next-group w rows group bytes more room long is h =
-    let sum : 64 * (group + 1) ≡ 64 * group + 64 = omega arith in
-    let size : 8 * length bytes ≡ w * (64 * group) = omega (arith, h.end) in
-    let low : packed_number 8 bytes ≡ packed_number w (take (64 * group) rows) = omega (arith, h.value) in
-    record {
-      value = rw (packed_number-append, is, low, size, sum, packed_number-group w rows (64 * group) 64 (omega arith)) (omega arith);
-      end = rw (length-append, long) (omega (arith, h.end));
-      words = (h.words.0 + w, rw (length-append, long) (omega (arith, h.words.1)));
-      small = h.small;
-      room = h.room;
-    }

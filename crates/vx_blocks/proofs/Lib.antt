@@ -20,3 +20,8 @@ pub mod DeltaParts
 pub mod DeltasBack
 pub mod HeadsOfRuns
 pub mod Extremes
+pub mod Blocks
+pub mod BlockWidths
+pub mod PackedSoFar
+pub mod UnpackedSoFar
+pub mod ReadBackBlocks

@@ -1,12 +1,12 @@
-use Rattle.std.proofs.Common.{◌≡◌, ℕ, ◌+◌, ◌*◌, ◌/◌, ◌^◌, ◌<◌, ◌≤◌, ◌≢◌, Bool, true, false, List, [], ◌∷◌, length, get_or, take, refl, sym, ap, ◌∙◌, arith, suc, zero, map, inl, inr}
+use Rattle.std.proofs.Common.{◌≡◌, ℕ, ◌+◌, ◌*◌, ◌/◌, ◌%◌, ◌^◌, ◌<◌, ◌≤◌, ◌≢◌, Bool, true, false, List, [], ◌∷◌, ◌++◌, length, length-append, get_or, take, drop, subst, refl, sym, ap, ◌∙◌, arith, suc, zero, map, inl, inr}
 use Rattle.std.proofs.lemmas.List.{get_or-map, length-map, take_all}
 use Rattle.std.proofs.lemmas.Bool.Decides.{nat_tests}
 use Rattle.std.proofs.Math.Nat as nat
 use Rattle.std.proofs.lemmas.Bool.{cases_lt}
-use Rattle.std.proofs.lemmas.Nat.{pow_pos}
+use Rattle.std.proofs.lemmas.Nat.{pow_pos, pow-add}
 use Rattle.vx_blocks.specs.Holds.{Holds}
 use Rattle.vx_base.specs.Packed.{kept_row, kept_rows, packed_size, packed_number}
-use Rattle.vx_blocks.proofs.Joins.{packed_number_more}
+use Rattle.vx_blocks.proofs.Joins.{packed_number_more, packed_number-append, packed_number-group}
 
 pub kept_row-lt : (width bits : ℕ) (valid : Bool) → kept_row width bits valid < 2 ^ width
 kept_row-lt width bits true = grind (arith, nat_tests, pow_pos width)
@@ -63,6 +63,56 @@ next-row w rows i row bytes acc fill h is holds =
     let e : packed_number w (take i rows) + 2 ^ (w * i) * row ≡ packed_number w (take (i + 1) rows) = rw (is, packed_number_more w rows i h) refl in
     let p : w * i + w ≡ w * (i + 1) = omega arith in
     rw (e, p) at holds
+
+-- behind other rows, whose number takes `shift` bits
+shifted-sum : (base s a t row : ℕ) → base + s * a + s * t * row ≡ base + s * (a + t * row)
+shifted-sum base s a t row = omega arith
+
+-- what was there, before the first row
+pub holds-before : (w : ℕ) (bytes : List ℕ) → length bytes % 8 ≡ 0 → Holds (packed_number 8 bytes + 2 ^ (8 * length bytes) * 0) (8 * length bytes + w * 0) bytes 0 0
+holds-before w bytes even =
+    record {
+      value = omega arith;
+      end = omega arith;
+      words = (length bytes / 8, omega (arith, even));
+      small = omega arith;
+      room = omega arith;
+    }
+
+pub next-row-on : (base shift w : ℕ) (rows : List ℕ) (i row : ℕ) (bytes : List ℕ) (acc fill : ℕ) → i < length rows → row ≡ get_or rows i 0
+    → Holds (base + 2 ^ shift * packed_number w (take i rows) + 2 ^ (shift + w * i) * row) (shift + w * i + w) bytes acc fill → Holds (base + 2 ^ shift * packed_number w (take (i + 1) rows)) (shift + w * (i + 1)) bytes acc fill
+next-row-on base shift w rows i row bytes acc fill h is holds =
+    let power : 2 ^ (shift + w * i) ≡ 2 ^ shift * 2 ^ (w * i) = pow-add 2 shift (w * i) in
+    let sum : base + 2 ^ shift * packed_number w (take i rows) + 2 ^ (shift + w * i) * row ≡ base + 2 ^ shift * packed_number w (take (i + 1) rows) =
+    ap (λ p. base + 2 ^ shift * packed_number w (take i rows) + p * row) power ∙ shifted-sum base (2 ^ shift) (packed_number w (take i rows)) (2 ^ (w * i)) row
+    ∙ ap (λ n. base + 2 ^ shift * n) (ap (λ r. packed_number w (take i rows) + 2 ^ (w * i) * r) is ∙ sym (packed_number_more w rows i h))
+    in
+    let place : shift + w * i + w ≡ shift + w * (i + 1) = omega arith in
+    subst (λ p. Holds (base + 2 ^ shift * packed_number w (take (i + 1) rows)) p bytes acc fill) place (subst (λ n. Holds n (shift + w * i + w) bytes acc fill) sum holds)
+
+-- a group of 64 rows more, which are whole words
+pub next-group-on : (base shift w : ℕ) (rows : List ℕ) (group : ℕ) (bytes more : List ℕ) → 64 * group + 64 ≤ length rows → length more ≡ 8 * w → packed_number 8 more ≡ packed_number w (take 64 (drop (64 * group) rows))
+    → Holds (base + 2 ^ shift * packed_number w (take (64 * group) rows)) (shift + w * (64 * group)) bytes 0 0
+    → Holds (base + 2 ^ shift * packed_number w (take (64 * (group + 1)) rows)) (shift + w * (64 * (group + 1))) (bytes ++ more) 0 0
+next-group-on base shift w rows group bytes more room long is h =
+    let next : 64 * (group + 1) ≡ 64 * group + 64 = omega arith in
+    let place : 8 * length bytes ≡ shift + w * (64 * group) = omega (arith, h.end) in
+    let low : packed_number 8 bytes ≡ base + 2 ^ shift * packed_number w (take (64 * group) rows) = omega (arith, h.value) in
+    let power : 2 ^ (8 * length bytes) ≡ 2 ^ shift * 2 ^ (w * (64 * group)) = ap (λ k. 2 ^ k) place ∙ pow-add 2 shift (w * (64 * group)) in
+    let part = packed_number w (take 64 (drop (64 * group) rows)) in
+    let sum : packed_number 8 (bytes ++ more) ≡ base + 2 ^ shift * packed_number w (take (64 * (group + 1)) rows) =
+    packed_number-append 8 bytes more ∙ ap (λ n. n + 2 ^ (8 * length bytes) * packed_number 8 more) low
+    ∙ ap (λ n. base + 2 ^ shift * packed_number w (take (64 * group) rows) + 2 ^ (8 * length bytes) * n) is ∙ ap (λ p. base + 2 ^ shift * packed_number w (take (64 * group) rows) + p * part) power
+    ∙ shifted-sum base (2 ^ shift) (packed_number w (take (64 * group) rows)) (2 ^ (w * (64 * group))) part
+    ∙ ap (λ n. base + 2 ^ shift * n) (sym (packed_number-group w rows (64 * group) 64 (omega arith)) ∙ ap (λ n. packed_number w (take n rows)) (sym next))
+    in
+    record {
+      value = omega (arith, sum);
+      end = omega (arith, h.end, length-append bytes more, long);
+      words = (h.words.0 + w, omega (arith, h.words.1, length-append bytes more, long));
+      small = h.small;
+      room = h.room;
+    }
 
 pub place_within : (w n i size : ℕ) → i ≤ n → size ≡ packed_size w n → w * i ≤ 8 * size
 place_within w n i size h is = let m = nat.mul-le-mul_left w h in let le : n ≤ 1024 * ((n + 1023) / 1024) = omega arith in let m2 = nat.mul-le-mul_left w le in omega arith

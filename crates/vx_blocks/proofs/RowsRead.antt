@@ -1,7 +1,7 @@
 -- Rows that are read one after another.
-use Rattle.std.proofs.Common.{◌≡◌, ℕ, ◌+◌, ◌-◌, ◌*◌, ◌/◌, ◌^◌, ◌<◌, ◌≤◌, ℤ, pos, List, [], ◌∷◌, ◌++◌, length, map, get_or, ap, sym, ◌∙◌, arith, inl, inr, length-append}
+use Rattle.std.proofs.Common.{◌≡◌, ℕ, ◌+◌, ◌-◌, ◌*◌, ◌/◌, ◌^◌, ◌<◌, ◌≤◌, ℤ, pos, List, [], ◌∷◌, ◌++◌, length, map, get_or, ap, sym, ◌∙◌, arith, inl, inr, length-append, append_assoc, subst}
 use Rattle.std.proofs.lemmas.Bool.{cases_lt, lt-ltb}
-use Rattle.std.proofs.lemmas.List.{get_or_append_left, get_or-append_right, get_or-map, length-map}
+use Rattle.std.proofs.lemmas.List.{append-nil, get_or_append_left, get_or-append_right, get_or-map, length-map}
 use Rattle.std.proofs.lemmas.Nat.{pow_pos}
 use Rattle.std.proofs.Math.Nat as nat
 use Rattle.vx_base.specs.declared.ptype.PType.{PType}
@@ -10,6 +10,7 @@ use Rattle.vx_base.specs.Integers.{natural_bits}
 use Rattle.vx_base.specs.Packed.{packed_number, packed_row}
 use Rattle.vx_base.specs.Wrapping.{wrap}
 use Rattle.vx_base.proofs.WrapLemmas.{wrap-same}
+use Rattle.vx_blocks.specs.Appended.{AppendsRows}
 use Rattle.vx_blocks.specs.IsPacked.{IsUnpacked, IsUnpackedAs}
 
 module _ (value : ℕ → ℤ) (bytes : List ℕ) (width start : ℕ) where
@@ -33,15 +34,37 @@ module _ (value : ℕ → ℤ) (bytes : List ℕ) (width start : ℕ) where
         ];
       }
 
-  -- one row more
-  pub IsUnpackedAs-push : (row : ℕ) (rows : List ℤ) (x : ℤ) → start ≤ row → IsUnpackedAs value bytes width start row rows → x ≡ value (packed_row bytes width row) → IsUnpackedAs value bytes width start (row + 1) (rows ++ x ∷ [])
-  IsUnpackedAs-push row rows x h before is =
-      IsUnpackedAs-append row (row + 1) rows (x ∷ []) h (omega arith) before (omega arith)
+  -- ---- behind what was there
+  pub appends-none : (old : List ℤ) → AppendsRows value bytes width start start old old
+  appends-none old = record { part = []; behind = sym (append-nil old); rows = IsUnpackedAs-none start (omega arith) }
+
+  pub appends-more : (middle end : ℕ) (old new : List ℤ) (part : List ℤ) → start ≤ middle → middle ≤ end → AppendsRows value bytes width start middle old new → length part ≡ end - middle
+      → ((k : ℕ) → k < end - middle → get_or part k (pos 0) ≡ value (packed_row bytes width (middle + k))) → AppendsRows value bytes width start end old (new ++ part)
+  appends-more middle end old new part first second h long each =
+      record {
+        part = h.part ++ part;
+        behind = ap (λ l. l ++ part) h.behind ∙ append_assoc old h.part part;
+        rows = IsUnpackedAs-append middle end h.part part first second h.rows long each;
+      }
+
+  pub appends-push : (row : ℕ) (old new : List ℤ) (x : ℤ) → start ≤ row → AppendsRows value bytes width start row old new → x ≡ value (packed_row bytes width row) → AppendsRows value bytes width start (row + 1) old (new ++ x ∷ [])
+  appends-push row old new x h before is =
+      appends-more row (row + 1) old new (x ∷ []) h (omega arith) before (omega arith)
       (λ k below. let first : k ≡ 0 = omega arith in rw first (is ∙ ap (λ n. value (packed_row bytes width n)) (omega arith)))
+
+-- one call after another
+pub appends-then : (value : ℕ → ℤ) (bytes : List ℕ) (width start middle end : ℕ) (old new after : List ℤ) → start ≤ middle → middle ≤ end → AppendsRows value bytes width start middle old new → AppendsRows value bytes width middle end new after
+    → AppendsRows value bytes width start end old after
+appends-then value bytes width start middle end old new after first second h k =
+    subst (AppendsRows value bytes width start end old) (sym k.behind) (appends-more value bytes width start middle end old new k.part first second h k.rows.size k.rows.each)
+
+-- to no rows at all
+pub appends-alone : (value : ℕ → ℤ) (bytes : List ℕ) (width start end : ℕ) (new : List ℤ) → AppendsRows value bytes width start end [] new → IsUnpackedAs value bytes width start end new
+appends-alone value bytes width start end new h = subst (IsUnpackedAs value bytes width start end) (sym h.behind) h.rows
 
 -- ---- rows that are wrapped into a type of enough bits
 
-row-wrapped : (kind : PType) (bytes : List ℕ) (width i : ℕ) → width ≤ natural_bits kind → wrap kind (pos (packed_row bytes width i)) ≡ pos (packed_row bytes width i)
+pub row-wrapped : (kind : PType) (bytes : List ℕ) (width i : ℕ) → width ≤ natural_bits kind → wrap kind (pos (packed_row bytes width i)) ≡ pos (packed_row bytes width i)
 row-wrapped kind bytes width i h =
     let lt : packed_row bytes width i < 2 ^ width = nat.mod-lt (packed_number 8 bytes / 2 ^ (width * i)) (pow_pos width) in
     let le : 2 ^ width ≤ 2 ^ natural_bits kind = nat.pow-le-pow_right (omega arith) h in

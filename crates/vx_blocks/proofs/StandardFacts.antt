@@ -1,9 +1,11 @@
 -- Worked values, so that a wrong rule in the definitions does not check.
-use Rattle.std.specs.Prelude.{◌≡◌, ℤ, pos, negsuc, true, false, Option, Some, None, List, [], ◌∷◌, ◌++◌, map, refl}
+use Rattle.std.specs.Prelude.{◌≡◌, ℕ, ℤ, pos, negsuc, true, false, Option, Some, None, List, [], ◌∷◌, ◌++◌, map, refl}
 use Rattle.std.proofs.Common.{replicate}
 use Rattle.vx_base.specs.declared.ptype.PType.TheVariants.{U8, I8, I32}
 use Rattle.vx_base.specs.Undelta.{undelta}
+use Rattle.vx_base.specs.PackedBlocks.{block_of, block_offsets, block_row}
 use Rattle.vx_blocks.specs.Deltas.{filled, bases, delta, deltas}
+use Rattle.vx_blocks.specs.InBlocks.{block_bytes}
 use Rattle.vx_blocks.specs.Optional.{optional_rows}
 use Rattle.vx_blocks.specs.Runs.{run_ends, heads, offsets, run_number}
 use Rattle.vx_blocks.specs.Sequence.{sequence_of}
@@ -83,3 +85,26 @@ undelta-rows = refl
 
 pub undelta-wraps : undelta U8 (pos 250 ∷ []) (pos 1 ∷ pos 10 ∷ []) ≡ pos 251 ∷ pos 5 ∷ []
 undelta-wraps = refl
+
+-- ---- packing at a width for each block
+
+-- a block at 1 bit, of 0 and 1 in turn, and one at 8 bits that begins with 3, 1, 4
+abbrev two_blocks : List ℕ
+two_blocks = replicate 128 170 ++ 3 ∷ 1 ∷ 4 ∷ replicate 1021 0
+
+-- the second block has what is left
+pub block_of-long : block_of long 1 ≡ Some (pos 7) ∷ Some (pos 9) ∷ []
+block_of-long = refl
+
+pub block_offsets-two : (block_offsets (1 ∷ 8 ∷ []) ≡ 0 ∷ 1 ∷ 9 ∷ []) × (block_offsets [] ≡ 0 ∷ [])
+block_offsets-two = (refl, refl)
+
+pub block_row-two : map (block_row two_blocks (0 ∷ 1 ∷ 9 ∷ [])) (0 ∷ 1 ∷ 1023 ∷ 1024 ∷ 1025 ∷ 1026 ∷ 2047 ∷ []) ≡ 0 ∷ 1 ∷ 1 ∷ 3 ∷ 1 ∷ 4 ∷ 0 ∷ []
+block_row-two = refl
+
+-- a block of width 0 takes no byte, and its rows are 0
+pub block_row-none : map (block_row (3 ∷ 1 ∷ 4 ∷ []) (0 ∷ 0 ∷ 8 ∷ [])) (0 ∷ 5 ∷ 1024 ∷ 1026 ∷ []) ≡ 0 ∷ 0 ∷ 3 ∷ 4 ∷ []
+block_row-none = refl
+
+pub block_bytes-two : (block_bytes (1 ∷ 8 ∷ []) two_blocks 0 ≡ replicate 128 170) × (block_bytes (1 ∷ 8 ∷ []) two_blocks 1 ≡ 3 ∷ 1 ∷ 4 ∷ replicate 1021 0)
+block_bytes-two = (refl, refl)

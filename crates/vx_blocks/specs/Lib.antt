@@ -1,8 +1,10 @@
+pub mod Appended
 pub mod AreKept
 pub mod Cost
 pub mod GivesBack
 pub mod Histogram
 pub mod Holds
+pub mod InBlocks
 pub mod IsPacked
 pub mod Sequence
 pub mod Optional

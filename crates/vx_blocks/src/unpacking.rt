@@ -5,6 +5,7 @@ ghost use Rattle.vx_base.specs.Answers.{OrMemory};
 ghost use Rattle.vx_base.specs.Integers.{natural_bits};
 ghost use Rattle.vx_base.specs.Packed.{packed_size};
 ghost use Rattle.vx_base.specs.Wrapping.{wrap};
+ghost use Rattle.vx_blocks.specs.Appended.{AppendsRows};
 ghost use Rattle.vx_blocks.specs.IsPacked.{IsUnpacked, IsUnpackedAs};
 
 use crate::reading::{get, read_eights};
@@ -24,7 +25,7 @@ fn read_each<T: Integer>(
     requires width { width ≤ 64 }
     requires order { start ≤ end }
     requires room { start < end → packed_size width end ≤ length packed.now }
-    ensures { let Reads = IsUnpackedAs (λ n. wrap T.kind (pos n)) packed.now width in IfOk result (λ _. (from : ℕ) → from ≤ start → Reads from start (map T.whole rows.old.items) → Reads from end (map T.whole rows.new.items)) }
+    ensures { IfOk result (λ _. AppendsRows (λ n. wrap T.kind (pos n)) packed.now width start end (map T.whole rows.old.items) (map T.whole rows.new.items)) }
 {
     for row in start..end {
         rows.push(T::from_low_bits(get(packed, width, row)))?;
@@ -61,7 +62,7 @@ fn read_part<T: Integer, const W: usize>(
     requires width { W ≤ 64 }
     requires few { eights ≤ 32 }
     requires room { (eight + eights) * W + 8 ≤ length packed.now }
-    ensures { let Reads = IsUnpackedAs (λ n. wrap T.kind (pos n)) packed.now W in IfOk result (λ _. (from : ℕ) → from ≤ 8 * eight → Reads from (8 * eight) (map T.whole rows.old.items) → Reads from (8 * (eight + eights)) (map T.whole rows.new.items)) }
+    ensures { IfOk result (λ _. AppendsRows (λ n. wrap T.kind (pos n)) packed.now W (8 * eight) (8 * (eight + eights)) (map T.whole rows.old.items) (map T.whole rows.new.items)) }
 {
     let len = rows.len();
     rows.resize(len + 8 * eights, T::zero())?;
@@ -81,7 +82,7 @@ fn read_whole<T: Integer, const W: usize>(
     requires width { W ≤ 64 }
     requires order { first ≤ last }
     requires room { last * W + 8 ≤ length packed.now }
-    ensures { let Reads = IsUnpackedAs (λ n. wrap T.kind (pos n)) packed.now W in IfOk result (λ _. (from : ℕ) → from ≤ 8 * first → Reads from (8 * first) (map T.whole rows.old.items) → Reads from (8 * last) (map T.whole rows.new.items)) }
+    ensures { IfOk result (λ _. AppendsRows (λ n. wrap T.kind (pos n)) packed.now W (8 * first) (8 * last) (map T.whole rows.old.items) (map T.whole rows.new.items)) }
 {
     for part in 0..(last - first).div_ceil(32) {
         let eight = first + 32 * part;
@@ -90,55 +91,52 @@ fn read_whole<T: Integer, const W: usize>(
     Ok(())
 }
 
-fn unpack_by<T: Integer, const W: usize>(
-    alloc: Global,
+// Appends the rows `start` to `end - 1` at a width that is known at compile time.
+fn read_by<T: Integer, const W: usize>(
+    rows: &mut Vec<T>,
     packed: &[u8],
     start: u64,
     end: u64,
-) -> VortexResult<Vec<T>>
+) -> Result<(), AllocError>
     requires some { 0 < W }
     requires width { W ≤ 64 }
     requires order { start ≤ end }
     requires room { start < end → packed_size W end ≤ length packed.now }
-    ensures { OrMemory result (λ rows. IsUnpackedAs (λ n. wrap T.kind (pos n)) packed.now W start end (map T.whole rows.items)) }
+    ensures { IfOk result (λ _. AppendsRows (λ n. wrap T.kind (pos n)) packed.now W start end (map T.whole rows.old.items) (map T.whole rows.new.items)) }
 {
-    let mut rows = Vec::with_capacity(alloc, (end - start) as usize)?;
-    match eights_within(packed.len(), W, start, end) {
-        Some((first, last)) => {
-            read_each(&mut rows, packed, W as u32, start, 8 * first as u64)?;
-            read_whole::<T, W>(&mut rows, packed, first, last)?;
-            read_each(&mut rows, packed, W as u32, 8 * last as u64, end)?;
-        }
-        None => read_each(&mut rows, packed, W as u32, start, end)?,
-    }
-    Ok(rows)
+    let Some((first, last)) = eights_within(packed.len(), W, start, end) else {
+        return read_each(rows, packed, W as u32, start, end);
+    };
+    read_each(rows, packed, W as u32, start, 8 * first as u64)?;
+    read_whole::<T, W>(rows, packed, first, last)?;
+    read_each(rows, packed, W as u32, 8 * last as u64, end)?;
+    Ok(())
 }
 
-fn unpack_rows<T: Integer>(
-    alloc: Global,
+// A copy of `read_by` for each width from 1 to 64.
+macro_rules! by_width {
+    ($rows:ident, $packed:ident, $width:ident, $start:ident, $end:ident; $($w:literal),*) => {
+        match $width {
+            $($w => read_by::<T, $w>($rows, $packed, $start, $end),)*
+            _ => read_each($rows, $packed, $width, $start, $end),
+        }
+    };
+}
+
+/// Appends the rows `start` to `end - 1`, each wrapped into the type.
+pub(crate) fn read_rows<T: Integer>(
+    rows: &mut Vec<T>,
     packed: &[u8],
     width: u32,
     start: u64,
     end: u64,
-) -> VortexResult<Vec<T>>
+) -> Result<(), AllocError>
     requires width { width ≤ 64 }
     requires order { start ≤ end }
     requires room { start < end → packed_size width end ≤ length packed.now }
-    ensures { OrMemory result (λ rows. IsUnpackedAs (λ n. wrap T.kind (pos n)) packed.now width start end (map T.whole rows.items)) }
+    ensures { IfOk result (λ _. AppendsRows (λ n. wrap T.kind (pos n)) packed.now width start end (map T.whole rows.old.items) (map T.whole rows.new.items)) }
 {
-    let mut rows = Vec::with_capacity(alloc, (end - start) as usize)?;
-    read_each(&mut rows, packed, width, start, end)?;
-    Ok(rows)
-}
-
-// A copy of `unpack_by` for each width from 1 to 64.
-macro_rules! by_width {
-    ($type:ident, $alloc:ident, $packed:ident, $width:ident, $start:ident, $end:ident; $($w:literal),*) => {
-        match $width {
-            $($w => unpack_by::<$type, $w>($alloc, $packed, $start, $end),)*
-            _ => unpack_rows($alloc, $packed, $width, $start, $end),
-        }
-    };
+    by_width!(rows, packed, width, start, end; 1, 2, 3, 4, 5, 6, 7, 8, 9, 10, 11, 12, 13, 14, 15, 16, 17, 18, 19, 20, 21, 22, 23, 24, 25, 26, 27, 28, 29, 30, 31, 32, 33, 34, 35, 36, 37, 38, 39, 40, 41, 42, 43, 44, 45, 46, 47, 48, 49, 50, 51, 52, 53, 54, 55, 56, 57, 58, 59, 60, 61, 62, 63, 64)
 }
 
 // The rows `start` to `end - 1`, each wrapped into the type.
@@ -154,7 +152,9 @@ fn unpack_wrapped<T: Integer>(
     requires room { start < end → packed_size width end ≤ length packed.now }
     ensures { OrMemory result (λ rows. IsUnpackedAs (λ n. wrap T.kind (pos n)) packed.now width start end (map T.whole rows.items)) }
 {
-    by_width!(T, alloc, packed, width, start, end; 1, 2, 3, 4, 5, 6, 7, 8, 9, 10, 11, 12, 13, 14, 15, 16, 17, 18, 19, 20, 21, 22, 23, 24, 25, 26, 27, 28, 29, 30, 31, 32, 33, 34, 35, 36, 37, 38, 39, 40, 41, 42, 43, 44, 45, 46, 47, 48, 49, 50, 51, 52, 53, 54, 55, 56, 57, 58, 59, 60, 61, 62, 63, 64)
+    let mut rows = Vec::with_capacity(alloc, (end - start) as usize)?;
+    read_rows(&mut rows, packed, width, start, end)?;
+    Ok(rows)
 }
 
 /// The rows `start` to `end - 1`, each as `get` reads it. `width` is in bits, at most 64, and the blocks of the rows are in

@@ -8,7 +8,7 @@ use Rattle.std.proofs.lemmas.List.{length-map}
 use Rattle.std.proofs.lemmas.List.Folds.{list_all-append}
 use Rattle.vx_base.specs.declared.dtype.Nullability.{Nullability}
 use Rattle.vx_base.specs.declared.ptype.PType.TheVariants.{I64}
-use Rattle.vx_base.specs.PlainScalar.{fits, fields_fit}
+use Rattle.vx_base.specs.PlainScalar.{PlainScalar, fits, fields_fit}
 use Rattle.vx_base.specs.PlainType.{PlainType, PlainFields, boolean, primitive, utf8, binary, is_flat, is_integer, integer_of, nullability_of}
 use Rattle.vx_base.specs.PlainType as types
 use Rattle.vx_base.specs.PlainValue.{PlainValue, PlainValues, truth, int, bytes, items_or_empty}
@@ -16,12 +16,12 @@ use Rattle.vx_model.specs.Cascade.{Leaves, cascade, cascade_of, cascade_fields, 
 use Rattle.vx_model.specs.Column.{Column, IsColumn, column}
 use Rattle.vx_model.specs.Extents.{counts, field_counts, extents, all_extents, both, repeated, row_limit}
 use Rattle.vx_model.specs.Nested.{first_within, rest_within, struct_rows, list_rows, elements, fixed_elements}
-use Rattle.vx_model.specs.Rows.{rows, valid_rows, below, patched, packed_at, moved, unzigzagged, looked_up, cut_at, offset_at, run_value, rle_place, summed_up}
+use Rattle.vx_model.specs.Rows.{rows, valid_rows, below, patched, packed_at, moved, unzigzagged, looked_up, cut_at, offset_at, run_value, rle_place, summed_up, combined_at, packed_in_block, moved_in_block}
 use Rattle.vx_model.specs.Site.{fresh}
-use Rattle.vx_model.specs.Tree.{Tree, Validity, bool, var_bin_view, var_bin, timestamp, constant, masked, bit_packed, bit_packed_with, frame_of_reference, zig_zag, dict, nulls, structure, list, fixed_size_list, sparse, run_end, rle, sequence, delta}
+use Rattle.vx_model.specs.Tree.{Tree, Validity, bool, var_bin_view, var_bin, timestamp, constant, masked, bit_packed, bit_packed_with, frame_of_reference, zig_zag, dict, nulls, structure, list, fixed_size_list, sparse, sparse_chunked, run_end, rle, sequence, delta, datetime_parts, bit_packed_v2, bit_packed_v2_with, frame_of_reference_v2}
 use Rattle.vx_model.specs.Tree as trees
 use Rattle.vx_model.specs.TreeType.{tree_type}
-use Rattle.vx_model.specs.WellFormed.{WellFormed, IsValidityOf}
+use Rattle.vx_model.specs.WellFormed.{WellFormed, IsPatches, IsValidityOf}
 use Rattle.vx_model.proofs.CascadeLemmas.{AreFew, LeavesStand, narrow_offsets-fit}
 use Rattle.vx_model.proofs.CountLemmas.{counts-flat, rows-few}
 use Rattle.vx_model.proofs.FlatTypeLemmas.{integer-flat}
@@ -33,6 +33,7 @@ use Rattle.vx_model.proofs.PlainLemmas.{stamps_fit}
 use Rattle.vx_model.proofs.RowLemmas.{length-valid_rows, length-primitive, length-constant, length-masked}
 use Rattle.vx_model.proofs.SparseCountLemmas.{ascend-few}
 use Rattle.vx_model.proofs.VarBinLemmas.{length-cut_at}
+use Rattle.vx_time.specs.PartsOf.{units_per_second}
 
 -- ---- a tree whose values hold no others has its rows as its one extent
 
@@ -50,6 +51,17 @@ sparse-count t n len es rest few e r = (λ i. both (e i) (r i)) ∙ ap (λ k. k 
 
 copies-count : (t : PlainType) (v : PlainValue) (len : ℕ) → is_flat t ≡ true → map (λ count. len * count) (counts t (v ∷ [])) ≡ len ∷ []
 copies-count t v len f = ap (map (λ count. len * count)) (counts-flat t (v ∷ []) f) ∙ ap (λ k. k ∷ []) (let own : len * 1 ≡ len = omega arith in own)
+
+-- of patches that stand in the rows of a fill
+patched-count : (len offset : ℕ) (indices values : Tree) (fill : PlainScalar) → IsPatches len offset indices values → extents values ≡ length (rows values) ∷ [] → is_flat fill.dtype ≡ true
+    → both (extents values) (repeated (len - length (rows values)) fill) ≡ length (below (λ i. patched (rows indices) (rows values) fill.value (offset + i)) len) ∷ []
+patched-count len offset indices values fill p inside f =
+    let few = ascend-few offset (offset + len) (rows indices) p.ascending (omega arith) in
+    let n = length (rows values) in
+    let lengths = p.lengths in
+    let most : n ≤ len = omega (arith, few, lengths) in
+    sparse-count fill.dtype n len (extents values) (repeated (len - n) fill) most inside (copies-count fill.dtype fill.value (len - n) f)
+    ∙ below-count (λ i. patched (rows indices) (rows values) fill.value (offset + i)) len
 
 pub extents-flat : (t : Tree) → WellFormed t → is_flat (tree_type t) ≡ true → extents t ≡ length (rows t) ∷ []
 extents-flat (trees.primitive p xs valid n) w f = ap (λ k. k ∷ []) (sym (length-primitive p xs valid n w))
@@ -70,19 +82,24 @@ extents-flat (frame_of_reference encoded reference) w f = extents-flat encoded w
 extents-flat (zig_zag encoded) w f =
     extents-flat encoded w.0 (integer-flat (tree_type encoded) (and_parts (is_integer (tree_type encoded)) _ w.1.unsigned).0) ∙ ap (λ k. k ∷ []) (sym (length-map (rows encoded) unzigzagged))
 extents-flat (dict codes values) w f = extents-flat codes w.0 (integer-flat (tree_type codes) w.2.codes_type) ∙ ap (λ k. k ∷ []) (sym (length-map (rows codes) (looked_up (rows values))))
-extents-flat (sparse len offset indices values fill) w f =
-    let few = ascend-few offset (offset + len) (rows indices) w.2.ascending (omega arith) in
-    let n = length (rows values) in
-    let lengths = w.2.lengths in
-    let most : n ≤ len = omega (arith, few, lengths) in
-    sparse-count fill.dtype n len (extents values) (repeated (len - n) fill) most (extents-flat values w.1 (ap is_flat w.3.values_type ∙ f)) (copies-count fill.dtype fill.value (len - n) f)
-    ∙ below-count (λ i. patched (rows indices) (rows values) fill.value (offset + i)) len
+extents-flat (sparse len offset indices values fill) w f = patched-count len offset indices values fill w.2 (extents-flat values w.1 (ap is_flat w.3.values_type ∙ f)) f
+extents-flat (sparse_chunked len offset indices values chunks fill) w f = patched-count len offset indices values fill w.3 (extents-flat values w.1 (ap is_flat w.5.values_type ∙ f)) f
 extents-flat (run_end ends values) w f = below-count (run_value (rows ends) (rows values)) (offset_at (rows ends) (length (rows ends) - 1))
 extents-flat (rle values indices offsets len) w f = below-count (λ i. looked_up (rows values) (rle_place (rows offsets) (rows indices) i)) len
 extents-flat (sequence p n first step len) w f = below-count (λ i. int (first +ℤ pos i *ℤ step)) len
 extents-flat (delta bases deltas len valid n) w f =
     let row = summed_up (integer_of (tree_type bases)) (rows bases) (rows deltas) in
     valid-count valid (below row len) len n w.2.validity (length-below row len)
+extents-flat (datetime_parts k n days seconds subseconds) w f =
+    extents-flat days w.0 (ap is_flat w.3.days_type) ∙ below-count (combined_at (units_per_second k.unit) (rows days) (rows seconds) (rows subseconds)) (length (rows days))
+extents-flat (bit_packed_v2 k offsets) w f =
+    let row = packed_in_block k.bytes (rows offsets) in
+    valid-count k.valid (below row k.len) k.len k.nullability w.1.validity (length-below row k.len)
+extents-flat (bit_packed_v2_with k offsets len offset indices values) w f =
+    let row = λ (i : ℕ). patched (rows indices) (rows values) (packed_in_block k.bytes (rows offsets) i) (offset + i) in
+    valid-count k.valid (below row k.len) k.len k.nullability w.4.validity (length-below row k.len)
+extents-flat (frame_of_reference_v2 encoded references) w f =
+    extents-flat encoded w.0 (ap is_flat w.2.encoded_type) ∙ below-count (moved_in_block (integer_of (tree_type references)) (rows references) (rows encoded)) (length (rows encoded))
 extents-flat (nulls len) w f = absurd cc
 extents-flat (structure names fields len valid n) w f = absurd cc
 extents-flat (list elements offsets valid n) w f = absurd cc

@@ -103,7 +103,7 @@ pub begin-four_lists :
     ≡ (column (types.primitive U8 NonNullable) (whole 0 ∷ whole 2 ∷ whole 2 ∷ whole 2 ∷ whole 3 ∷ []), offsets_site) ∷ (column (types.primitive I32 Nullable) (whole 1 ∷ whole 2 ∷ whole 3 ∷ []), fresh) ∷ []
 begin-four_lists = refl
 
-pub offsets_stand : offsets_site ≡ record { budget = 2; sampled = false; history = (codes "vortex.compressor.root", 1) ∷ [] }
+pub offsets_stand : offsets_site ≡ record { budget = 3; sampled = false; history = (codes "vortex.compressor.root", 1) ∷ [] }
 offsets_stand = refl
 
 -- timestamps and their whole numbers, each in a field of its own; nulls alone are judged nowhere

@@ -1,5 +1,5 @@
 -- The node at the root of a plain tree whose type isn't flat.
-use Rattle.std.proofs.Common.{◌≡◌, refl, Bool, true, false, List, Some, None}
+use Rattle.std.proofs.Common.{◌≡◌, refl, ℕ, Bool, true, false, List, Option, Some, None}
 use Rattle.vx_base.specs.PlainType.{PlainType, is_flat}
 use Rattle.vx_base.specs.PlainType as types
 use Rattle.vx_base.specs.PlainValue.{PlainValue}
@@ -7,7 +7,8 @@ use Rattle.vx_array.specs.declared.array.Node.{Node}
 use Rattle.vx_array.specs.declared.array.Node.TheVariants as nodes
 use Rattle.vx_array.specs.TreeOf.{tree_of}
 use Rattle.vx_model.specs.Plain.{plain_of}
-use Rattle.vx_model.specs.Tree.{Tree}
+use Rattle.vx_base.specs.PlainScalar.{PlainScalar}
+use Rattle.vx_model.specs.Tree.{Tree, chunked, sparse_of}
 use Rattle.vx_model.specs.Tree as trees
 
 -- nulls, structs and lists, no encoding of them
@@ -25,6 +26,10 @@ plain_of-nest (types.list t n) vs e = refl
 plain_of-nest (types.fixed_size_list t size n) vs e = refl
 plain_of-nest t vs e = absurd cc
 
+nest-either : (len offset : ℕ) (indices values : Tree) (fill : PlainScalar) (o : Option Tree) → is_nest (sparse_of (chunked len offset indices values o) fill) ≡ true → ⊥
+nest-either len offset indices values fill None h = cc
+nest-either len offset indices values fill (Some chunks) h = cc
+
 -- any other node has another tree
 pub no_nest : (node : Node) → ((x : _) → node ≡ nodes.Null x → ⊥) → ((x : _) (y : _) (z : _) (v : _) (w : _) → node ≡ nodes.Struct x y z v w → ⊥)
     → ((x : _) (y : _) (z : _) (v : _) → node ≡ nodes.List x y z v → ⊥) → ((x : _) (y : _) (z : _) (v : _) (w : _) → node ≡ nodes.FixedSizeList x y z v w → ⊥)
@@ -35,4 +40,9 @@ no_nest (nodes.List x y z v) a b c d h = c x y z v refl
 no_nest (nodes.FixedSizeList x y z v w) a b c d h = d x y z v w refl
 no_nest (nodes.BitPacked p width bytes len valid None n) a b c d h = cc
 no_nest (nodes.BitPacked p width bytes len valid (Some patches) n) a b c d h = cc
+no_nest (nodes.BitPackedV2 p bytes offsets len valid None n) a b c d h = cc
+no_nest (nodes.BitPackedV2 p bytes offsets len valid (Some patches) n) a b c d h = cc
+no_nest (nodes.Sparse patches fill) a b c d h =
+    let p = patches.value in
+    nest-either p.array_len p.offset p.indices p.values fill p.chunks h
 no_nest node a b c d h = cc

@@ -208,9 +208,12 @@ pub each_once : (leaf_tree (among (by_part 0 without_first ∷ [])) six fresh �
     × (leaf_tree (among (by_part 0 without_first ∷ by_part 1 without_first ∷ [])) six fresh ≡ plain (bytes (3 ∷ 4 ∷ 5 ∷ 6 ∷ [])))
 each_once = (refl, refl)
 
--- of five that leave out a row four stand on one path
-pub four_levels : leaf_tree (among (map (λ n. by_part n without_first) (0 ∷ 1 ∷ 2 ∷ 3 ∷ 4 ∷ []))) six fresh ≡ plain (bytes (5 ∷ 6 ∷ []))
-four_levels = refl
+abbrev seven : Column
+seven = bytes (1 ∷ 2 ∷ 3 ∷ 4 ∷ 5 ∷ 6 ∷ 7 ∷ [])
+
+-- of six that leave out a row five stand on one path
+pub five_levels : leaf_tree (among (map (λ n. by_part n without_first) (0 ∷ 1 ∷ 2 ∷ 3 ∷ 4 ∷ 5 ∷ []))) seven fresh ≡ plain (bytes (6 ∷ 7 ∷ []))
+five_levels = refl
 
 -- below a budget of 2, three
 pub three_levels : leaf_tree (among (map (λ n. by_part n without_first) (0 ∷ 1 ∷ 2 ∷ 3 ∷ 4 ∷ []))) six (record fresh { budget = 2 }) ≡ plain (bytes (4 ∷ 5 ∷ 6 ∷ []))
@@ -280,8 +283,8 @@ of_stamps = (refl, refl, refl, refl, refl)
 -- ---- rows
 
 -- the greatest column and an offset, and 1,024 more at each level; at the last, parts are as long as schemes may be asked about
-pub most_rows_by_level : (map most_site_rows (3 ∷ 2 ∷ 1 ∷ 0 ∷ []) ≡ 2_147_483_649 ∷ 2_147_484_673 ∷ 2_147_485_697 ∷ 2_147_486_721 ∷ [])
-    × (map most_part_rows (3 ∷ 2 ∷ 1 ∷ 0 ∷ []) ≡ 2_147_484_673 ∷ 2_147_485_697 ∷ 2_147_486_721 ∷ 2_147_487_745 ∷ []) × (most_part_rows 0 ≡ most_rows)
+pub most_rows_by_level : (map most_site_rows (4 ∷ 3 ∷ 2 ∷ 1 ∷ 0 ∷ []) ≡ 2_147_483_649 ∷ 2_147_484_673 ∷ 2_147_485_697 ∷ 2_147_486_721 ∷ 2_147_487_745 ∷ [])
+    × (map most_part_rows (4 ∷ 3 ∷ 2 ∷ 1 ∷ 0 ∷ []) ≡ 2_147_484_673 ∷ 2_147_485_697 ∷ 2_147_486_721 ∷ 2_147_487_745 ∷ 2_147_488_769 ∷ []) × (most_part_rows 0 ≡ most_rows)
 most_rows_by_level = (refl, refl, refl)
 
 -- ---- names

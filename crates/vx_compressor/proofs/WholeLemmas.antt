@@ -58,6 +58,6 @@ narrowed_by end offsets t site l own e at =
     record {
       flat = ap (λ c. is_flat c.dtype) same;
       plain = plain-is t (narrowed end (rows offsets)) fit e;
-      reach = subst (λ s. IsInReach (column_of t) s.budget) (sym at) (subst (λ c. IsInReach c 2) (sym same) (record { few = omega (arith, few); within = omega arith }));
+      reach = subst (λ s. IsInReach (column_of t) s.budget) (sym at) (subst (λ c. IsInReach c offsets_site.budget) (sym same) (record { few = omega (arith, few); within = omega arith }));
       column = same;
     }

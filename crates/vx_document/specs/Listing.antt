@@ -3,8 +3,10 @@ use Rattle.std.specs.Prelude.{ℕ, List, [], ◌∷◌, ◌++◌, length, decima
 use Rattle.std.specs.Fmt.{signed_decimal}
 use Rattle.std.specs.List.{concat}
 use Rattle.vx_base.specs.IdName.{id_name}
+use Rattle.vx_base.specs.Packed.{block_count}
+use Rattle.vx_base.specs.PlainScalar.{PlainScalar}
 use Rattle.vx_base.specs.TypeText.{type_text, value_text}
-use Rattle.vx_model.specs.Tree.{Tree, Trees, bool, primitive, var_bin_view, var_bin, timestamp, constant, masked, bit_packed, bit_packed_with, frame_of_reference, zig_zag, dict, nulls, structure, list, fixed_size_list, none, more, sparse, run_end, rle, sequence, delta}
+use Rattle.vx_model.specs.Tree.{Tree, Trees, bool, primitive, var_bin_view, var_bin, timestamp, constant, masked, bit_packed, bit_packed_with, frame_of_reference, zig_zag, dict, nulls, structure, list, fixed_size_list, none, more, sparse, run_end, rle, sequence, delta, datetime_parts, bit_packed_v2, bit_packed_v2_with, frame_of_reference_v2, sparse_chunked}
 use Rattle.vx_model.specs.Nodes.{encoding}
 use Rattle.vx_model.specs.TreeType.{tree_type}
 use Rattle.vx_model.specs.Rows.{rows}
@@ -13,6 +15,14 @@ use Rattle.vx_model.specs.Size.{nbytes}
 -- the numbers of packed integers: bits of a row, number of patches
 abbrev pub packed_numbers : ℕ → ℕ → List ℕ
 packed_numbers width patches = codes " width=" ++ decimal width ++ codes " patches=" ++ decimal patches
+
+-- the numbers of integers packed in blocks: blocks of 1,024 rows, number of patches
+abbrev pub block_numbers : ℕ → ℕ → List ℕ
+block_numbers blocks patches = codes " blocks=" ++ decimal blocks ++ codes " patches=" ++ decimal patches
+
+-- the numbers of patches beside a fill: offset, fill, number of patches
+abbrev pub sparse_numbers : ℕ → PlainScalar → ℕ → List ℕ
+sparse_numbers offset fill patches = codes " offset=" ++ decimal offset ++ codes " fill=" ++ value_text fill.dtype fill.value ++ codes " patches=" ++ decimal patches
 
 -- the numbers that the root's encoding has beside those of every node
 abbrev pub own_numbers : Tree → List ℕ
@@ -32,11 +42,16 @@ own_numbers (nulls len) = []
 own_numbers (structure names fields len valid n) = []
 own_numbers (list elements offsets valid n) = []
 own_numbers (fixed_size_list elements size len valid n) = codes " list_size=" ++ decimal size
-own_numbers (sparse len offset indices values fill) = codes " offset=" ++ decimal offset ++ codes " fill=" ++ value_text fill.dtype fill.value ++ codes " patches=" ++ decimal (length (rows indices))
+own_numbers (sparse len offset indices values fill) = sparse_numbers offset fill (length (rows indices))
 own_numbers (run_end ends values) = []
 own_numbers (rle values indices offsets len) = []
 own_numbers (sequence p n first step len) = codes " first=" ++ signed_decimal first ++ codes " step=" ++ signed_decimal step
 own_numbers (delta bases deltas len valid n) = []
+own_numbers (datetime_parts k n days seconds subseconds) = []
+own_numbers (bit_packed_v2 k offsets) = block_numbers (block_count k.len) 0
+own_numbers (bit_packed_v2_with k offsets len offset indices values) = block_numbers (block_count k.len) (length (rows indices))
+own_numbers (frame_of_reference_v2 encoded references) = []
+own_numbers (sparse_chunked len offset indices values chunks fill) = sparse_numbers offset fill (length (rows indices))
 
 -- the root's encoding, type, rows and bytes; the bytes saturate at 2^128 - 1
 unfoldable pub heading : Tree → List ℕ
@@ -78,6 +93,15 @@ abbrev mutual
       line indent (rle values indices offsets len) ++ listing (deeper indent) values ++ listing (deeper indent) indices ++ listing (deeper indent) offsets
   listing indent (sequence p n first step len) = line indent (sequence p n first step len)
   listing indent (delta bases deltas len valid n) = line indent (delta bases deltas len valid n) ++ listing (deeper indent) bases ++ listing (deeper indent) deltas
+  listing indent (datetime_parts k n days seconds subseconds) =
+      line indent (datetime_parts k n days seconds subseconds) ++ listing (deeper indent) days ++ listing (deeper indent) seconds ++ listing (deeper indent) subseconds
+  listing indent (bit_packed_v2 k offsets) = line indent (bit_packed_v2 k offsets) ++ listing (deeper indent) offsets
+  listing indent (bit_packed_v2_with k offsets len offset indices values) =
+      line indent (bit_packed_v2_with k offsets len offset indices values) ++ listing (deeper indent) offsets ++ listing (deeper indent) indices ++ listing (deeper indent) values
+  listing indent (frame_of_reference_v2 encoded references) =
+      line indent (frame_of_reference_v2 encoded references) ++ listing (deeper indent) encoded ++ listing (deeper indent) references
+  listing indent (sparse_chunked len offset indices values chunks fill) =
+      line indent (sparse_chunked len offset indices values chunks fill) ++ listing (deeper indent) indices ++ listing (deeper indent) values ++ listing (deeper indent) chunks
 
   -- the listings of several trees, one after the other
   pub listings : List ℕ → Trees → List ℕ

@@ -1,6 +1,6 @@
 //! The text of a tree: a line for each node, and the line of sizes.
 
-ghost use Rattle.std.specs.Prelude.{◌≡◌, ◌++◌, IfOk, OnOk, string_bytes, []};
+ghost use Rattle.std.specs.Prelude.{◌≡◌, ◌++◌, IfOk, OnOk, string_bytes, [], option_map, unwrap_or};
 ghost use Rattle.vx_model.specs.Size.{nbytes};
 ghost use Rattle.vx_model.specs.Tree.{of_list};
 ghost use Rattle.vx_document.specs.Listing.{deeper, listing, listings, sizes_line};
@@ -44,20 +44,32 @@ fn push_tree(
             Some(patches) => push_patches(alloc, text, indent, patches),
             None => Ok(()),
         },
-        Node::Sparse(patches, _) => push_patches(alloc, text, indent, patches),
+        Node::Sparse(patches, _) => {
+            push_patches(alloc, text, indent, patches)?;
+            push_chunks(alloc, text, indent, patches)
+        }
+        Node::BitPackedV2(_, _, offsets, _, _, patches, _) => {
+            let next = deeper(alloc, indent)?;
+            push_tree(alloc, text, next.as_str(), &offsets.array)?;
+            match patches {
+                Some(patches) => push_patches(alloc, text, indent, patches),
+                None => Ok(()),
+            }
+        }
         Node::Dict(first, second)
         | Node::List(first, second, _, _)
         | Node::RunEnd(first, second)
+        | Node::FoRV2(first, second)
         | Node::Delta(first, second, _, _, _) => {
             let next = deeper(alloc, indent)?;
             push_tree(alloc, text, next.as_str(), &first.array)?;
             push_tree(alloc, text, next.as_str(), &second.array)
         }
-        Node::Rle(values, indices, offsets, _) => {
+        Node::Rle(first, second, third, _) | Node::DateTimeParts(_, _, first, second, third) => {
             let next = deeper(alloc, indent)?;
-            push_tree(alloc, text, next.as_str(), &values.array)?;
-            push_tree(alloc, text, next.as_str(), &indices.array)?;
-            push_tree(alloc, text, next.as_str(), &offsets.array)
+            push_tree(alloc, text, next.as_str(), &first.array)?;
+            push_tree(alloc, text, next.as_str(), &second.array)?;
+            push_tree(alloc, text, next.as_str(), &third.array)
         }
         Node::Struct(_, fields, _, _, _) => {
             let next = deeper(alloc, indent)?;
@@ -82,6 +94,25 @@ fn push_patches(
     let next = deeper(alloc, indent)?;
     push_tree(alloc, text, next.as_str(), patches.indices())?;
     push_tree(alloc, text, next.as_str(), patches.values())
+}
+
+// Appends the listing of the chunk offsets of patches, which are a child where there are any.
+#[cycle(push)]
+fn push_chunks(
+    alloc: Global,
+    text: &mut String,
+    indent: &str,
+    patches: &Patches,
+) -> Result<(), AllocError>
+    ensures { OnOk result (string_bytes text.new ≡ string_bytes text.old ++ unwrap_or (option_map (listing (deeper indent.now)) patches.now.chunks) []) }
+{
+    match patches.chunk_offsets() {
+        Some(chunks) => {
+            let next = deeper(alloc, indent)?;
+            push_tree(alloc, text, next.as_str(), chunks)
+        }
+        None => Ok(()),
+    }
 }
 
 // Appends the listings of several trees, one after the other.

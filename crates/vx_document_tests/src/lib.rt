@@ -2,6 +2,8 @@
 #![tactic(auto)]
 
 #[cfg(test)]
+mod encodings;
+#[cfg(test)]
 mod listings;
 #[cfg(test)]
 mod nested;

@@ -2,6 +2,7 @@ pub mod ByteLists
 pub mod ConstantExtents
 pub mod Copies
 pub mod FewWayLemmas
+pub mod PartRows
 pub mod PatchPlaces
 pub mod Payloads
 pub mod RunPlaces

@@ -1,3 +1,4 @@
+pub mod CanonicalRows
 pub mod Columns
 pub mod Places
 pub mod RunPlaces

@@ -9,11 +9,13 @@ mod bool;
 mod by_type;
 mod constant;
 mod counting;
+mod datetime_parts;
 mod delta;
 mod dict;
 mod elements;
 mod fixed_size_list;
 mod frame_of_reference;
+mod frame_of_reference_v2;
 mod lists;
 mod longer;
 mod masked;
@@ -35,11 +37,13 @@ pub use constant::{
     constant_bytes, constant_extents_fit, constant_has_null, constant_is_place, decoded_constant,
 };
 pub use counting::{Way, counts_fit, rows_within};
+pub use datetime_parts::{decoded_parts, parts_are_canonical};
 pub use delta::{decoded_delta, wrapped};
 pub use dict::{decoded_by_codes, is_place};
 pub use elements::{byte_elements, element_validity, values_of};
 pub use fixed_size_list::have_elements;
 pub use frame_of_reference::{decoded_moved, moved_at};
+pub use frame_of_reference_v2::{decoded_frames, framed_at};
 pub use lists::{byte_rows, has_null, is_null, truths, validity_of, wholes};
 pub use longer::{bits_with, values_with};
 pub use masked::{decoded_masked, masked_bytes};

@@ -5,14 +5,17 @@ use Rattle.std.proofs.lemmas.Bool.{eq-eqb}
 use Rattle.vx_base.specs.declared.dtype.Nullability.{Nullability}
 use Rattle.vx_base.specs.declared.ptype.PType.{PType}
 use Rattle.vx_base.specs.PlainScalar.{PlainScalar}
-use Rattle.vx_base.specs.PlainType.{is_integer, is_nullable, stored_type}
+use Rattle.vx_base.specs.PlainType.{is_integer, is_nullable, integer_of, stored_type}
+use Rattle.vx_base.specs.PlainType as types
+use Rattle.vx_base.specs.Timestamps.{PlainTimestamp}
 use Rattle.vx_base.specs.Storable.{same_refl}
-use Rattle.vx_model.specs.Refusals.{validity_allowed, kept, structure_refusal, list_refusal, fixed_size_list_refusal, patches_refusal, sparse_refusal, run_end_refusal, rle_refusal, sequence_refusal, delta_refusal}
-use Rattle.vx_model.specs.Tree.{Tree, Trees, Validity, PlainPatches, patches, structure, list, fixed_size_list, sparse, run_end, rle, sequence, delta}
-use Rattle.vx_model.specs.WellFormed.{WellFormed, WellFormedPatches, IsValidityOf}
+use Rattle.vx_model.specs.Refusals.{validity_allowed, kept, structure_refusal, list_refusal, fixed_size_list_refusal, patches_refusal, chunked_refusal, sparse_refusal, run_end_refusal, rle_refusal, sequence_refusal, delta_refusal, datetime_parts_refusal, for_v2_refusal}
+use Rattle.vx_model.specs.Tree.{Tree, Trees, Validity, PlainPatches, sparse_of, structure, list, fixed_size_list, run_end, rle, sequence, delta, datetime_parts, frame_of_reference_v2}
+use Rattle.vx_model.specs.WellFormed.{WellFormed, WellFormedPatches, IsValidityOf, differences_type}
 use Rattle.vx_model.specs.TreeType.{tree_type}
 use Rattle.vx_model.specs.Rows.{rows, block_rows}
 use Rattle.vx_model.proofs.MadeLemmas.{has_length}
+use Rattle.vx_model.proofs.SparseLemmas.{parts-sparse_of}
 
 -- ---- validity that is well formed
 
@@ -65,8 +68,42 @@ patches-admitted p w =
     let ascending = own.ascending in
     rw (typed, not_null, lengths, ascending) refl
 
-pub sparse-admitted : (len offset : ℕ) (indices values : Tree) (fill : PlainScalar) → WellFormed (sparse len offset indices values fill) → sparse_refusal (patches len offset indices values) fill ≡ None
-sparse-admitted len offset indices values fill w = rw (same_refl stored_type (tree_type values) fill.dtype w.3.values_type) refl
+pub chunked-admitted : (p : PlainPatches) (chunks : Tree) → WellFormedPatches (record p { chunks = Some chunks }) → chunked_refusal p chunks ≡ None
+chunked-admitted p chunks w =
+    let own = w.2 in
+    let beside = w.3.1 in
+    let typed = own.indices_type in
+    let not_null = own.not_null in
+    let chunks_typed = beside.chunks_type in
+    let lengths = eq-eqb _ _ own.lengths in
+    let chunks_lengths = eq-eqb _ _ beside.lengths in
+    let ascending = own.ascending in
+    let counted = beside.counted in
+    rw (typed, not_null, chunks_typed, lengths, chunks_lengths, ascending, counted) refl
+
+pub sparse-admitted : (p : PlainPatches) (fill : PlainScalar) → WellFormed (sparse_of p fill) → sparse_refusal p fill ≡ None
+sparse-admitted p fill w = rw (same_refl stored_type (tree_type p.values) fill.dtype (parts-sparse_of p fill w).1.values_type) refl
+
+-- ---- parts of timestamps, integers packed in blocks, and frames of reference
+
+pub datetime_parts-admitted : (k : PlainTimestamp) (n : Nullability) (days seconds subseconds : Tree) → WellFormed (datetime_parts k n days seconds subseconds) → datetime_parts_refusal k n days seconds subseconds ≡ None
+datetime_parts-admitted k n days seconds subseconds w =
+    let own = w.3 in
+    let typed = same_refl stored_type (tree_type days) (types.primitive (integer_of (tree_type days)) n) own.days_type in
+    let of_seconds = own.seconds_type in
+    let of_subseconds = own.subseconds_type in
+    let seconds_length = eq-eqb _ _ own.seconds_length in
+    let subseconds_length = eq-eqb _ _ own.subseconds_length in
+    let canonical = own.canonical in
+    rw (typed, of_seconds, of_subseconds, seconds_length, subseconds_length, canonical) refl
+
+pub for_v2-admitted : (encoded references : Tree) → WellFormed (frame_of_reference_v2 encoded references) → for_v2_refusal encoded references ≡ None
+for_v2-admitted encoded references w =
+    let own = w.2 in
+    let of_references = own.references_type in
+    let typed = same_refl stored_type (tree_type encoded) (differences_type (tree_type references) (tree_type encoded)) own.encoded_type in
+    let lengths = eq-eqb _ _ own.lengths in
+    rw (of_references, typed, lengths) refl
 
 pub run_end-admitted : (ends values : Tree) → WellFormed (run_end ends values) → run_end_refusal ends values ≡ None
 run_end-admitted ends values w =

@@ -13,11 +13,11 @@ use Rattle.vx_base.specs.PlainValue.{PlainValue, null, is_null}
 use Rattle.vx_base.specs.Storable.{same_path}
 use Rattle.vx_base.proofs.WrapLemmas.{wrap-held}
 use Rattle.vx_model.specs.Plain.{validity}
-use Rattle.vx_model.specs.Refusals.{kept, delta_refusal, is_whole_type}
+use Rattle.vx_model.specs.Refusals.{kept, delta_refusal}
 use Rattle.vx_model.specs.Rows.{rows, row_at, is_valid_at, below, summed_up, block_rows}
 use Rattle.vx_model.specs.Tree.{Tree, Validity, delta}
 use Rattle.vx_model.specs.TreeType.{tree_type}
-use Rattle.vx_model.specs.WellFormed.{WellFormed, IsValidityOf}
+use Rattle.vx_model.specs.WellFormed.{WellFormed, IsValidityOf, is_whole_type}
 use Rattle.vx_model.proofs.DecodeLemmas.{any_null-valid_rows, validity-valid_rows}
 use Rattle.vx_model.proofs.MadeLemmas.{kept_validity, valid_fit}
 use Rattle.vx_model.proofs.PackedLemmas.{length-valid_below, bits_of_below, row_at-valid_below, below-passes, passed}

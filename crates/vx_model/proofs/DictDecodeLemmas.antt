@@ -96,7 +96,7 @@ module _ (codes values : Tree) (h : WellFormed (dict codes values)) where
 no_null_at : (rs : List PlainValue) (k : ℕ) → k < length rs → list_any is_null rs ≡ false → true ≡ not (is_null (row_at rs k))
 no_null_at rs k l e = ap not (sym (valid_value rs k l e))
 
-valid_at : (rs : List PlainValue) (k : ℕ) → k < length rs → is_valid_at (validity rs) k ≡ not (is_null (row_at rs k))
+pub valid_at : (rs : List PlainValue) (k : ℕ) → k < length rs → is_valid_at (validity rs) k ≡ not (is_null (row_at rs k))
 valid_at rs k l =
     cond_both (list_any is_null rs) (Some (valid_bits rs)) None (λ valid. is_valid_at valid k ≡ not (is_null (row_at rs k)))
     (λ some. get_or-map (λ v. not (is_null v)) rs k null false l) (λ none. no_null_at rs k l none)

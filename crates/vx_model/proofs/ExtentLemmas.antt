@@ -9,9 +9,10 @@ use Rattle.vx_base.specs.PlainType.{PlainType, PlainFields, boolean, primitive, 
 use Rattle.vx_base.specs.PlainType as types
 use Rattle.vx_base.specs.PlainScalar.{fits}
 use Rattle.vx_base.specs.PlainValue.{PlainValue, PlainValues, null, truth, int, bytes, items, truth_or_false, whole_or_zero, bytes_or_empty, items_or_empty}
-use Rattle.vx_model.specs.Tree.{Tree, Trees, Validity, bool, var_bin_view, var_bin, constant, masked, bit_packed, bit_packed_with, frame_of_reference, zig_zag, dict, nulls, structure, list, fixed_size_list, list_of, sparse, run_end, rle, sequence, delta}
+use Rattle.vx_model.specs.Tree.{Tree, Trees, Validity, bool, var_bin_view, var_bin, constant, masked, bit_packed, bit_packed_with, frame_of_reference, zig_zag, dict, nulls, structure, list, fixed_size_list, list_of, sparse, run_end, rle, sequence, delta, datetime_parts, bit_packed_v2, bit_packed_v2_with, frame_of_reference_v2, sparse_chunked}
 use Rattle.vx_model.specs.Tree as trees
-use Rattle.vx_model.specs.Rows.{rows, masked_rows, valid_rows, below, patched, packed_at, moved, unzigzagged, looked_up, cut_at, parts_of, list_value, each_before, field_rows, offset_at, run_value, rle_place, summed_up}
+use Rattle.vx_model.specs.Rows.{rows, masked_rows, valid_rows, below, patched, packed_at, moved, unzigzagged, looked_up, cut_at, parts_of, list_value, each_before, field_rows, offset_at, run_value, rle_place, summed_up, combined_at, packed_in_block, moved_in_block}
+use Rattle.vx_time.specs.PartsOf.{units_per_second}
 use Rattle.vx_model.specs.Nested.{concatenated, first_within, rest_within}
 use Rattle.vx_model.specs.Nested as nested
 use Rattle.vx_model.specs.TreeType.{tree_type, field_types}
@@ -132,6 +133,19 @@ mutual
   counts_within_extents (rle values indices offsets len) w = counts-numbered (tree_type values) (λ i. looked_up (rows values) (rle_place (rows offsets) (rows indices) i)) len w.3.values_type
   counts_within_extents (sequence p n first step len) w = (counts-below None (λ i. int (first +ℤ pos i *ℤ step)) len, tt)
   counts_within_extents (delta bases deltas len valid n) w = (counts-below valid (summed_up (integer_of (tree_type bases)) (rows bases) (rows deltas)) len, tt)
+  counts_within_extents (datetime_parts k n days seconds subseconds) w =
+      let f = combined_at (units_per_second k.unit) (rows days) (rows seconds) (rows subseconds) in
+      counts-fewer (tree_type (datetime_parts k n days seconds subseconds)) (tree_type days) (below f (length (rows days))) (rows days) (extents days) refl (ap is_flat w.3.days_type)
+      (let same = length-map-range_with_len f 0 (length (rows days)) in omega arith) (counts_within_extents days w.0)
+  counts_within_extents (bit_packed_v2 k offsets) w = (counts-below k.valid (packed_in_block k.bytes (rows offsets)) k.len, tt)
+  counts_within_extents (bit_packed_v2_with k offsets len offset indices values) w =
+      (counts-below k.valid (λ i. patched (rows indices) (rows values) (packed_in_block k.bytes (rows offsets) i) (offset + i)) k.len, tt)
+  counts_within_extents (frame_of_reference_v2 encoded references) w =
+      let f = moved_in_block (integer_of (tree_type references)) (rows references) (rows encoded) in
+      counts-fewer (tree_type (frame_of_reference_v2 encoded references)) (tree_type encoded) (below f (length (rows encoded))) (rows encoded) (extents encoded) refl (ap is_flat w.2.encoded_type)
+      (let same = length-map-range_with_len f 0 (length (rows encoded)) in omega arith) (counts_within_extents encoded w.0)
+  counts_within_extents (sparse_chunked len offset indices values chunks fill) w =
+      sparse-within (rows indices) (rows values) fill len offset (extents values) w.3.ascending w.3.lengths (subst (λ t. AreWithin (counts t (rows values)) (extents values)) w.5.values_type (counts_within_extents values w.1))
 
   fields_within_extents : (names : List (List ℕ)) (fields : Trees) (len : ℕ) → length names ≡ length (list_of fields) → all_have_rows len fields ≡ true → AllWellFormed fields
       → AreWithin (field_counts (field_types names fields) (field_rows fields len)) (all_extents fields)

@@ -1,10 +1,14 @@
 pub mod AdmittedLemmas
 pub mod AscentLemmas
 pub mod BeginningLemmas
+pub mod BlockFacts
+pub mod BlocksLemmas
 pub mod BoolLemmas
 pub mod CascadeLemmas
 pub mod CellLemmas
+pub mod ChunkLemmas
 pub mod CountLemmas
+pub mod DateTimePartsLemmas
 pub mod DecodeLemmas
 pub mod DeltaLemmas
 pub mod DictDecodeLemmas
@@ -17,6 +21,7 @@ pub mod FixedSizeListLemmas
 pub mod FlatLemmas
 pub mod FlatTypeLemmas
 pub mod FrameOfReferenceLemmas
+pub mod FrameOfReferenceV2Lemmas
 pub mod GatheredLemmas
 pub mod ItemMapLemmas
 pub mod JoinedLemmas
@@ -31,6 +36,7 @@ pub mod NestedLemmas
 pub mod NestedTreeLemmas
 pub mod NullLemmas
 pub mod NullsLemmas
+pub mod NumberedLemmas
 pub mod OffsetColumnLemmas
 pub mod OffsetLemmas
 pub mod OneValueLemmas

@@ -11,7 +11,7 @@ use Rattle.vx_base.specs.PlainScalar.{PlainScalar, fits}
 use Rattle.vx_base.specs.PlainType.{PlainType, is_flat, is_nullable}
 use Rattle.vx_base.specs.PlainType as types
 use Rattle.vx_base.specs.PlainValue.{PlainValue, null, int, is_null}
-use Rattle.vx_model.specs.Tree.{Tree, Validity, bool, primitive, var_bin_view, var_bin, timestamp, constant, masked, bit_packed, bit_packed_with, frame_of_reference, zig_zag, dict, nulls, structure, list, fixed_size_list, sparse, run_end, rle, sequence, delta}
+use Rattle.vx_model.specs.Tree.{Tree, Validity, bool, primitive, var_bin_view, var_bin, timestamp, constant, masked, bit_packed, bit_packed_with, frame_of_reference, zig_zag, dict, nulls, structure, list, fixed_size_list, sparse, run_end, rle, sequence, delta, datetime_parts, bit_packed_v2, bit_packed_v2_with, frame_of_reference_v2, sparse_chunked}
 use Rattle.vx_model.specs.Refusals.{validity_length, validity_allowed, kept}
 use Rattle.vx_model.specs.Rows.{rows, masked_rows, valid_rows}
 use Rattle.vx_model.specs.TreeType.{tree_type}
@@ -83,6 +83,11 @@ rows_fit (run_end ends values) h = h.3
 rows_fit (rle values indices offsets len) h = h.4
 rows_fit (sequence p n first step len) h = h.1
 rows_fit (delta bases deltas len valid n) h = h.3
+rows_fit (datetime_parts k n days seconds subseconds) h = h.4
+rows_fit (bit_packed_v2 k offsets) h = h.2
+rows_fit (bit_packed_v2_with k offsets len offset indices values) h = h.6
+rows_fit (frame_of_reference_v2 encoded references) h = h.3
+rows_fit (sparse_chunked len offset indices values chunks fill) h = h.6
 
 pub masked_made : (child : Tree) (valid : List Bool) → is_flat (tree_type child) ≡ true → is_nullable (tree_type child) ≡ true → length valid ≡ length (rows child) → list_any is_null (rows child) ≡ false → WellFormed child → WellFormed (masked child valid)
 masked_made child valid flat nullable lengths no_null h =

@@ -10,7 +10,8 @@ use Rattle.vx_base.specs.PlainScalar.{PlainScalar}
 use Rattle.vx_base.specs.PlainType.{PlainType}
 use Rattle.vx_base.specs.PlainType as types
 use Rattle.vx_base.specs.PlainValue.{PlainValue, int, is_null}
-use Rattle.vx_model.specs.Tree.{Tree, Validity, PlainPacked, bool, primitive, var_bin_view, var_bin, timestamp, constant, masked, bit_packed, bit_packed_with, frame_of_reference, zig_zag, dict, structure, list, fixed_size_list, sparse, run_end, rle, sequence, delta}
+use Rattle.vx_model.specs.Tree.{Tree, Validity, PlainPacked, PlainBlocks, bool, primitive, var_bin_view, var_bin, timestamp, constant, masked, bit_packed, bit_packed_with, frame_of_reference, zig_zag, dict, structure, list, fixed_size_list, sparse, run_end, rle, sequence, delta, datetime_parts, bit_packed_v2, bit_packed_v2_with, frame_of_reference_v2, sparse_chunked}
+use Rattle.vx_base.specs.Timestamps.{PlainTimestamp}
 use Rattle.vx_model.specs.Tree as trees
 use Rattle.vx_model.specs.Decoded.{zeroed_by, zero_beneath_by, is_zero}
 use Rattle.vx_model.specs.Plain.{IsPlain, plain_of}
@@ -118,4 +119,19 @@ plain-sequence p n first step len h = let e = root_of (sequence p n first step l
 pub plain-delta : (bases deltas : Tree) (len : ℕ) (valid : Validity) (n : Nullability) → IsPlain (delta bases deltas len valid n) → ⊥
 plain-delta bases deltas len valid n h = let e = root_of (delta bases deltas len valid n) h in cc
 
-pub ruleset plains = (plain-constant, plain-masked, plain-bit_packed, plain-bit_packed_with, plain-frame_of_reference, plain-zig_zag, plain-dict, plain-var_bin, plain-sparse, plain-run_end, plain-rle, plain-sequence, plain-delta)
+pub plain-datetime_parts : (k : PlainTimestamp) (n : Nullability) (days seconds subseconds : Tree) → IsPlain (datetime_parts k n days seconds subseconds) → ⊥
+plain-datetime_parts k n days seconds subseconds h = let e = root_of (datetime_parts k n days seconds subseconds) h in cc
+
+pub plain-bit_packed_v2 : (k : PlainBlocks) (offsets : Tree) → IsPlain (bit_packed_v2 k offsets) → ⊥
+plain-bit_packed_v2 k offsets h = let e = root_of (bit_packed_v2 k offsets) h in cc
+
+pub plain-bit_packed_v2_with : (k : PlainBlocks) (offsets : Tree) (len offset : ℕ) (indices values : Tree) → IsPlain (bit_packed_v2_with k offsets len offset indices values) → ⊥
+plain-bit_packed_v2_with k offsets len offset indices values h = let e = root_of (bit_packed_v2_with k offsets len offset indices values) h in cc
+
+pub plain-frame_of_reference_v2 : (encoded references : Tree) → IsPlain (frame_of_reference_v2 encoded references) → ⊥
+plain-frame_of_reference_v2 encoded references h = let e = root_of (frame_of_reference_v2 encoded references) h in cc
+
+pub plain-sparse_chunked : (len offset : ℕ) (indices values chunks : Tree) (fill : PlainScalar) → IsPlain (sparse_chunked len offset indices values chunks fill) → ⊥
+plain-sparse_chunked len offset indices values chunks fill h = let e = root_of (sparse_chunked len offset indices values chunks fill) h in cc
+
+pub ruleset plains = (plain-constant, plain-masked, plain-bit_packed, plain-bit_packed_with, plain-frame_of_reference, plain-zig_zag, plain-dict, plain-var_bin, plain-sparse, plain-run_end, plain-rle, plain-sequence, plain-delta, plain-datetime_parts, plain-bit_packed_v2, plain-bit_packed_v2_with, plain-frame_of_reference_v2, plain-sparse_chunked)

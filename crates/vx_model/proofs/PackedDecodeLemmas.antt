@@ -18,11 +18,11 @@ use Rattle.vx_model.proofs.PackedLemmas.{bits_of_below, row_of}
 
 -- ---- rows by their number
 
-no_null-below : (f : ℕ → PlainValue) (start len : ℕ) → ((i : ℕ) → is_null (f i) ≡ false) → list_any is_null (map f (range_with_len start len)) ≡ false
+pub no_null-below : (f : ℕ → PlainValue) (start len : ℕ) → ((i : ℕ) → is_null (f i) ≡ false) → list_any is_null (map f (range_with_len start len)) ≡ false
 no_null-below f start zero h = refl
 no_null-below f start (suc len) h = or_from _ _ (h start) (no_null-below f (start + 1) len h)
 
-no_null-patched : (is vs : List PlainValue) (fill : PlainValue) (n : ℕ) → list_any is_null vs ≡ false → is_null fill ≡ false → is_null (patched is vs fill n) ≡ false
+pub no_null-patched : (is vs : List PlainValue) (fill : PlainValue) (n : ℕ) → list_any is_null vs ≡ false → is_null fill ≡ false → is_null (patched is vs fill n) ≡ false
 no_null-patched [] vs fill n e f = f
 no_null-patched (i ∷ is) [] fill n e f = f
 no_null-patched (i ∷ is) (v ∷ vs) fill n e f =

@@ -21,10 +21,10 @@ use Rattle.vx_base.specs.PlainValue.{PlainValue, null, int, is_null}
 use Rattle.vx_base.specs.Storable.{same_path}
 use Rattle.vx_base.proofs.WrapLemmas.{wrap-held}
 use Rattle.vx_model.specs.Tree.{Tree, Validity, PlainPacked, PlainPatches, packed_of, bit_packed, bit_packed_with, frame_of_reference}
-use Rattle.vx_model.specs.Refusals.{kept, validity_length, validity_allowed, patches_refusal, bit_packed_refusal, for_refusal, kept_packed}
+use Rattle.vx_model.specs.Refusals.{kept, validity_length, validity_allowed, patches_refusal, chunked_refusal, bit_packed_refusal, for_refusal, kept_packed}
 use Rattle.vx_model.specs.Rows.{rows, valid_rows, is_valid_at, row_at, below, patched, is_index, packed_at, summed, moved}
 use Rattle.vx_model.specs.TreeType.{tree_type}
-use Rattle.vx_model.specs.WellFormed.{WellFormed, WellFormedPatches, IsValidityOf, IsWellPacked, ascend, differences_type}
+use Rattle.vx_model.specs.WellFormed.{WellFormed, WellFormedPatches, WellFormedChunks, IsValidityOf, IsWellPacked, ascend, differences_type}
 use Rattle.vx_model.proofs.EachIntLemmas.{length-each_int, row_at-each_int, all_fit-each_int}
 use Rattle.vx_model.proofs.MadeLemmas.{kept_validity, valid_fit, rows_fit}
 use Rattle.vx_model.proofs.RowLemmas.{length-valid_rows, row_at-valid_rows}
@@ -103,7 +103,7 @@ module _ (p : PlainValue → Bool) where
       pick false a b = b
 
 -- values without nulls fit the nullable type too
-wider_fits : (p : PType) (n : Nullability) (rs : List PlainValue) → list_all (fits (types.primitive p NonNullable)) rs ≡ true → list_all (fits (types.primitive p n)) rs ≡ true
+pub wider_fits : (p : PType) (n : Nullability) (rs : List PlainValue) → list_all (fits (types.primitive p NonNullable)) rs ≡ true → list_all (fits (types.primitive p n)) rs ≡ true
 wider_fits p n [] h = refl
 wider_fits p n (int z ∷ rs) h = let b = and_parts _ _ h in and_from _ _ b.0 (wider_fits p n rs b.1)
 wider_fits p n (v ∷ rs) h = absurd cc
@@ -115,8 +115,8 @@ all_moved_fit t reference rs e h = absurd cc
 -- ---- a constructor's tree is well formed, from its tests
 
 pub patches_made : (p : PlainPatches) → is_integer (tree_type p.indices) ≡ true → is_nullable (tree_type p.indices) ≡ false → length (rows p.indices) ≡ length (rows p.values)
-    → ascend p.offset (p.offset + p.array_len) (rows p.indices) ≡ true → WellFormed p.indices → WellFormed p.values → WellFormedPatches p
-patches_made p integer not_null lengths ascending i v = (i, v, record { indices_type = integer; not_null = not_null; lengths = lengths; ascending = ascending })
+    → ascend p.offset (p.offset + p.array_len) (rows p.indices) ≡ true → WellFormed p.indices → WellFormed p.values → WellFormedChunks p.array_len p.offset p.indices p.chunks → WellFormedPatches p
+patches_made p integer not_null lengths ascending i v c = (i, v, record { indices_type = integer; not_null = not_null; lengths = lengths; ascending = ascending }, c)
 
 module _ (k : PlainPacked) (held : list_all (λ byte. nat_lt byte 256) k.bytes ≡ true) (sized : length k.bytes ≡ packed_size k.width k.len) (narrow : nat_le k.width (natural_bits k.ptype) ≡ true)
     (bits : validity_length k.valid k.len ≡ true) (allowed : validity_allowed k.valid k.nullability ≡ true) where
@@ -152,13 +152,24 @@ pub passed : (b : Bool) (e : VortexError) (o : Option VortexError) → unless b 
 passed true e o h = (refl, h)
 passed false e o h = absurd cc
 
-pub patches_accepted : (p : PlainPatches) → patches_refusal p ≡ None → WellFormed p.indices → WellFormed p.values → WellFormedPatches p
-patches_accepted p h i v =
+pub patches_accepted : (p : PlainPatches) → patches_refusal p ≡ None → WellFormed p.indices → WellFormed p.values → WellFormedChunks p.array_len p.offset p.indices p.chunks → WellFormedPatches p
+patches_accepted p h i v chunked =
     let a = passed _ _ _ h in
     let b = passed _ _ _ a.1 in
     let c = passed _ _ _ b.1 in
     let t = and_parts _ _ a.0 in
-    patches_made p t.0 (not-true _ t.1) (eqb-true _ _ b.0) c.0 i v
+    patches_made p t.0 (not-true _ t.1) (eqb-true _ _ b.0) c.0 i v chunked
+
+pub chunked_accepted : (p : PlainPatches) (chunks : Tree) → chunked_refusal p chunks ≡ None → WellFormed p.indices → WellFormed p.values → WellFormed chunks → WellFormedPatches (record p { chunks = Some chunks })
+chunked_accepted p chunks h i v w =
+    let a = passed _ _ _ h in
+    let b = passed _ _ _ a.1 in
+    let c = passed _ _ _ b.1 in
+    let d = passed _ _ _ c.1 in
+    let both = and_parts _ _ a.0 in
+    let t = and_parts _ _ both.0 in
+    let lengths = and_parts _ _ b.0 in
+    patches_made (record p { chunks = Some chunks }) t.0 (not-true _ t.1) (eqb-true _ _ lengths.0) c.0 i v (w, record { chunks_type = both.1; lengths = eqb-true _ _ lengths.1; counted = d.0 })
 
 pub packed_accepted : (k : PlainPacked) (o : Option PlainPatches) → bit_packed_refusal k o ≡ None → list_all (λ byte. nat_lt byte 256) k.bytes ≡ true → IfSome o WellFormedPatches → WellFormed (packed_of (kept_packed k) o)
 packed_accepted k None h held w =

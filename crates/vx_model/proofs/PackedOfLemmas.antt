@@ -14,7 +14,7 @@ use Rattle.vx_model.specs.Plain.{validity}
 use Rattle.vx_model.specs.Rows.{rows, row_at, is_valid_at, below, packed_or_patch}
 use Rattle.vx_model.specs.Size.{size, patches_size, validity_size}
 use Rattle.vx_model.specs.TreeType.{tree_type}
-use Rattle.vx_model.specs.WellFormed.{WellFormed, WellFormedPatches, IsWellPacked}
+use Rattle.vx_model.specs.WellFormed.{WellFormed, IsWellPacked}
 use Rattle.vx_model.proofs.PackedLemmas.{length-bit_packed, row_at-bit_packed, length-bit_packed_with, row_at-bit_packed_with}
 use Rattle.vx_model.proofs.PackedDecodeLemmas.{map-bit_packed, any_null-bit_packed, validity-bit_packed, map-bit_packed_with, any_null-bit_packed_with, validity-bit_packed_with}
 
@@ -49,9 +49,6 @@ pub ruleset packed_of_reads = (length-packed_of, row_at-packed_of, type-packed_o
 pub packed-packed_of : (k : PlainPacked) (o : Option PlainPatches) → WellFormed (packed_of k o) → IsWellPacked k
 packed-packed_of k None h = h.0
 packed-packed_of k (Some p) h = h.3
-
-pub patches-packed_of : (k : PlainPacked) (p : PlainPatches) → WellFormed (packed_of k (Some p)) → WellFormedPatches p
-patches-packed_of k p h = (h.0, h.1, h.2)
 
 pub patches_len-packed_of : (k : PlainPacked) (p : PlainPatches) → WellFormed (packed_of k (Some p)) → p.array_len ≡ k.len
 patches_len-packed_of k p h = h.4.lengths

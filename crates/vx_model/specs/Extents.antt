@@ -5,7 +5,7 @@ use Rattle.vx_base.specs.PlainScalar.{PlainScalar}
 use Rattle.vx_base.specs.PlainType.{PlainType, PlainFields, boolean, primitive, utf8, binary}
 use Rattle.vx_base.specs.PlainType as types
 use Rattle.vx_base.specs.PlainValue.{PlainValue, PlainValues}
-use Rattle.vx_model.specs.Tree.{Tree, Trees, bool, var_bin_view, var_bin, timestamp, constant, masked, bit_packed, bit_packed_with, frame_of_reference, zig_zag, dict, nulls, structure, list, fixed_size_list, none, more, sparse, run_end, rle, sequence, delta}
+use Rattle.vx_model.specs.Tree.{Tree, Trees, bool, var_bin_view, var_bin, timestamp, constant, masked, bit_packed, bit_packed_with, frame_of_reference, zig_zag, dict, nulls, structure, list, fixed_size_list, none, more, sparse, run_end, rle, sequence, delta, datetime_parts, bit_packed_v2, bit_packed_v2_with, frame_of_reference_v2, sparse_chunked}
 use Rattle.vx_model.specs.Nested.{first_within, rest_within, struct_rows, elements, fixed_elements}
 use Rattle.vx_model.specs.Tree as trees
 use Rattle.vx_model.specs.Rows.{rows, offset_at}
@@ -63,6 +63,11 @@ abbrev mutual
   extents (rle values indices offsets len) = len ∷ []
   extents (sequence p n first step len) = len ∷ []
   extents (delta bases deltas len valid n) = len ∷ []
+  extents (datetime_parts k n days seconds subseconds) = extents days
+  extents (bit_packed_v2 k offsets) = k.len ∷ []
+  extents (bit_packed_v2_with k offsets len offset indices values) = k.len ∷ []
+  extents (frame_of_reference_v2 encoded references) = extents encoded
+  extents (sparse_chunked len offset indices values chunks fill) = both (extents values) (repeated (len - length (rows values)) fill)
 
   -- of several trees, one after another
   pub all_extents : Trees → List ℕ

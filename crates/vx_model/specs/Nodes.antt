@@ -2,7 +2,7 @@
 use Rattle.std.specs.Prelude.{List, [], ◌∷◌}
 use Rattle.vx_base.specs.declared.array_id.ArrayId.{ArrayId}
 use Rattle.vx_base.specs.declared.array_id.ArrayId.TheVariants as ids
-use Rattle.vx_model.specs.Tree.{Tree, bool, primitive, var_bin_view, var_bin, timestamp, constant, masked, bit_packed, bit_packed_with, frame_of_reference, zig_zag, dict, nulls, structure, list, fixed_size_list, list_of, sparse, run_end, rle, sequence, delta}
+use Rattle.vx_model.specs.Tree.{Tree, bool, primitive, var_bin_view, var_bin, timestamp, constant, masked, bit_packed, bit_packed_with, frame_of_reference, zig_zag, dict, nulls, structure, list, fixed_size_list, list_of, sparse, run_end, rle, sequence, delta, datetime_parts, bit_packed_v2, bit_packed_v2_with, frame_of_reference_v2, sparse_chunked}
 
 -- the encoding of a tree's root
 abbrev pub encoding : Tree → ArrayId
@@ -27,6 +27,11 @@ encoding (run_end ends values) = ids.RunEnd
 encoding (rle values indices offsets len) = ids.Rle
 encoding (sequence p n first step len) = ids.Sequence
 encoding (delta bases deltas len valid n) = ids.Delta
+encoding (datetime_parts k n days seconds subseconds) = ids.DateTimeParts
+encoding (bit_packed_v2 k offsets) = ids.BitPackedV2
+encoding (bit_packed_v2_with k offsets len offset indices values) = ids.BitPackedV2
+encoding (frame_of_reference_v2 encoded references) = ids.FoRV2
+encoding (sparse_chunked len offset indices values chunks fill) = ids.Sparse
 
 -- the trees inside, in their order
 abbrev pub children : Tree → List Tree
@@ -51,3 +56,8 @@ children (run_end ends values) = ends ∷ values ∷ []
 children (rle values indices offsets len) = values ∷ indices ∷ offsets ∷ []
 children (sequence p n first step len) = []
 children (delta bases deltas len valid n) = bases ∷ deltas ∷ []
+children (datetime_parts k n days seconds subseconds) = days ∷ seconds ∷ subseconds ∷ []
+children (bit_packed_v2 k offsets) = offsets ∷ []
+children (bit_packed_v2_with k offsets len offset indices values) = offsets ∷ indices ∷ values ∷ []
+children (frame_of_reference_v2 encoded references) = encoded ∷ references ∷ []
+children (sparse_chunked len offset indices values chunks fill) = indices ∷ values ∷ chunks ∷ []

@@ -2,7 +2,7 @@
 use Rattle.std.specs.Prelude.{ℕ, ◌+◌, ◌*◌, ◌^◌, ℤ, pos, ◌+ℤ◌, ◌*ℤ◌, Bool, true, not, ◌&&◌, ◌||◌, ◌==◌, nat_le, if◌then◌else◌, List, length, map, ◌-◌, Option, Some, None}
 use Rattle.std.specs.List.{list_all, list_any}
 use Rattle.vx_base.specs.declared.error.VortexError.{VortexError}
-use Rattle.vx_base.specs.declared.error.VortexError.TheVariants.{MismatchedTypes, LengthMismatch, OutOfBounds, IndicesNotAscending, TooManyRows, ValueTooLong}
+use Rattle.vx_base.specs.declared.error.VortexError.TheVariants.{MismatchedTypes, LengthMismatch, OutOfBounds, IndicesNotAscending, TooManyRows, ValueTooLong, PartsNotCanonical}
 use Rattle.vx_base.specs.declared.ptype.PType.{PType}
 use Rattle.vx_base.specs.declared.ptype.PType.TheVariants.{I64}
 use Rattle.vx_base.specs.declared.dtype.Nullability.{Nullability}
@@ -11,14 +11,16 @@ use Rattle.vx_base.specs.Answers.{unless}
 use Rattle.vx_base.specs.Integers.{natural_bits, lies_in}
 use Rattle.vx_base.specs.Packed.{packed_size, block_count}
 use Rattle.vx_base.specs.PlainScalar.{PlainScalar, fits}
-use Rattle.vx_base.specs.PlainType.{PlainType, is_nullable, is_flat, is_integer, is_bytes, is_unsigned, allows_null, nullability_of, same_type}
+use Rattle.vx_base.specs.PlainType.{PlainType, is_nullable, is_flat, is_integer, is_bytes, is_unsigned, integer_of, allows_null, nullability_of, same_type}
 use Rattle.vx_base.specs.PlainType as types
 use Rattle.vx_base.specs.PlainValue.{is_null, bytes, is_short}
-use Rattle.vx_model.specs.Tree.{Tree, Trees, Validity, PlainPacked, PlainPatches, list_of}
-use Rattle.vx_model.specs.Rows.{rows, valid_rows, cut_at, below, block_rows, rle_place}
+use Rattle.vx_base.specs.Timestamps.{PlainTimestamp}
+use Rattle.vx_model.specs.Tree.{Tree, Trees, Validity, PlainPacked, PlainBlocks, PlainPatches, list_of}
+use Rattle.vx_model.specs.Rows.{rows, valid_rows, offset_at, cut_at, below, block_rows, rle_place}
 use Rattle.vx_model.specs.TreeType.{tree_type}
 use Rattle.vx_model.specs.Extents.{extents_fit}
-use Rattle.vx_model.specs.WellFormed.{ascend, are_offsets, differences_type, is_place, all_have_rows}
+use Rattle.vx_time.specs.PartsOf.{units_per_second}
+use Rattle.vx_model.specs.WellFormed.{ascend, are_offsets, differences_type, is_place, all_have_rows, is_whole_type, are_canonical, are_block_offsets, are_chunk_offsets}
 
 -- whether validity has `len` rows
 abbrev pub validity_length : Validity → ℕ → Bool
@@ -145,10 +147,6 @@ run_end_refusal ends values =
     (unless (length (rows ends) == length (rows values)) LengthMismatch
     (unless (ascend 1 (2 ^ 64) (rows ends)) OutOfBounds None))
 
--- whether a type is a non-nullable integer type
-abbrev pub is_whole_type : PlainType → Bool
-is_whole_type t = is_integer t && not (is_nullable t)
-
 -- why values, indices and offsets are refused as runs in blocks
 abbrev pub rle_refusal : Tree → Tree → Tree → ℕ → Option VortexError
 rle_refusal values indices offsets len =
@@ -167,6 +165,39 @@ delta_refusal bases deltas len valid n =
     unless (is_whole_type (tree_type bases) && same_type (tree_type deltas) (tree_type bases)) MismatchedTypes
     (unless (length (rows bases) == block_count len && (length (rows deltas) == block_rows * length (rows bases) && validity_length valid len)) LengthMismatch
     (unless (validity_allowed valid n) MismatchedTypes None))
+
+-- why parts are refused as timestamps of a kind and nullability
+abbrev pub datetime_parts_refusal : PlainTimestamp → Nullability → Tree → Tree → Tree → Option VortexError
+datetime_parts_refusal k n days seconds subseconds =
+    unless (same_type (tree_type days) (types.primitive (integer_of (tree_type days)) n) && (is_whole_type (tree_type seconds) && is_whole_type (tree_type subseconds))) MismatchedTypes
+    (unless (length (rows seconds) == length (rows days) && length (rows subseconds) == length (rows days)) LengthMismatch
+    (unless (are_canonical (units_per_second k.unit) (rows days) (rows seconds) (rows subseconds)) PartsNotCanonical None))
+
+-- why integers packed in blocks, with or without patches, are refused
+abbrev pub bit_packed_v2_refusal : PlainBlocks → Tree → Option PlainPatches → Option VortexError
+bit_packed_v2_refusal k offsets patches =
+    unless (is_whole_type (tree_type offsets) && patches_of_type k.ptype patches) MismatchedTypes
+    (unless (length (rows offsets) == block_count k.len + 1 && (validity_length k.valid k.len && patches_length k.len patches)) LengthMismatch
+    (unless (are_block_offsets (natural_bits k.ptype) (rows offsets) && length k.bytes == 128 * offset_at (rows offsets) (block_count k.len)) OutOfBounds
+    (unless (validity_allowed k.valid k.nullability) MismatchedTypes None)))
+
+-- integers packed in blocks with their validity in its one form
+abbrev pub kept_blocks : PlainBlocks → PlainBlocks
+kept_blocks k = record k { valid = kept k.valid }
+
+-- why differences and references are refused as frames of reference
+abbrev pub for_v2_refusal : Tree → Tree → Option VortexError
+for_v2_refusal encoded references =
+    unless (is_whole_type (tree_type references) && same_type (tree_type encoded) (differences_type (tree_type references) (tree_type encoded))) MismatchedTypes
+    (unless (length (rows references) == block_count (length (rows encoded))) LengthMismatch None)
+
+-- why chunk offsets are refused beside patches: their type, then their number, and, once the indices are looked at, what they count
+abbrev pub chunked_refusal : PlainPatches → Tree → Option VortexError
+chunked_refusal p chunks =
+    unless (is_whole_type (tree_type p.indices) && is_whole_type (tree_type chunks)) MismatchedTypes
+    (unless (length (rows p.indices) == length (rows p.values) && length (rows chunks) == block_count (p.offset + p.array_len)) LengthMismatch
+    (unless (ascend p.offset (p.offset + p.array_len) (rows p.indices)) IndicesNotAscending
+    (unless (are_chunk_offsets (rows p.indices) (rows chunks)) OutOfBounds None)))
 
 -- why compression refuses a tree: an extent exceeds the row limit
 abbrev pub compress_refusal : Tree → Option VortexError

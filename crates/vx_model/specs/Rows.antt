@@ -1,5 +1,5 @@
 -- The rows of a tree: the values that it stands for.
-use Rattle.std.specs.Prelude.{ℕ, zero, suc, ◌+◌, ◌/◌, ℤ, pos, unsigned_abs, ◌+ℤ◌, ◌*ℤ◌, int_lt, ◌-◌, Bool, true, false, ◌==◌, List, [], ◌∷◌, map, Option, None, Some, position, replicate, slice_index_or, unwrap_or, length, take, drop, cond}
+use Rattle.std.specs.Prelude.{ℕ, zero, suc, ◌+◌, ◌/◌, ◌*◌, ◌%◌, ℤ, pos, unsigned_abs, ◌+ℤ◌, ◌*ℤ◌, int_lt, ◌-◌, Bool, true, false, ◌==◌, List, [], ◌∷◌, map, Option, None, Some, position, replicate, slice_index_or, unwrap_or, length, take, drop, cond}
 use Rattle.std.specs.List.{range_with_len}
 use Rattle.vx_base.specs.Masks.{rows_between}
 use Rattle.vx_base.specs.Packed.{packed_row}
@@ -12,7 +12,8 @@ use Rattle.vx_base.specs.Wrapping.{wrap}
 use Rattle.vx_base.specs.ZigZag.{unzigzag}
 use Rattle.vx_base.specs.declared.ptype.PType.{PType}
 use Rattle.vx_model.specs.TreeType.{tree_type}
-use Rattle.vx_model.specs.Tree.{Tree, Trees, Validity, PlainPacked, PlainPatches, bool, primitive, var_bin_view, var_bin, timestamp, constant, masked, bit_packed, bit_packed_with, frame_of_reference, zig_zag, dict, nulls, structure, list, fixed_size_list, none, more, sparse, run_end, rle, sequence, delta}
+use Rattle.vx_time.specs.PartsOf.{parts, sum_of, units_per_second}
+use Rattle.vx_model.specs.Tree.{Tree, Trees, Validity, PlainPacked, PlainPatches, bool, primitive, var_bin_view, var_bin, timestamp, constant, masked, bit_packed, bit_packed_with, frame_of_reference, zig_zag, dict, nulls, structure, list, fixed_size_list, none, more, sparse, run_end, rle, sequence, delta, datetime_parts, bit_packed_v2, bit_packed_v2_with, frame_of_reference_v2, sparse_chunked}
 
 -- null where the mask is false
 abbrev pub masked_rows : List Bool → List PlainValue → List PlainValue
@@ -129,6 +130,23 @@ rle_place offsets indices i = int (whole_or_zero (row_at offsets (i / block_rows
 abbrev pub summed_up : PType → List PlainValue → List PlainValue → ℕ → PlainValue
 summed_up p bases deltas i = int (undelta_row p (map whole_or_zero bases) (map whole_or_zero deltas) i)
 
+-- row i of timestamps in parts, of which d make a second: days * (86,400 * d) + seconds * d + subseconds; null where the days are
+abbrev pub combined_at : ℤ → List PlainValue → List PlainValue → List PlainValue → ℕ → PlainValue
+combined_at d days seconds subseconds i =
+    each_int (λ day. sum_of d (parts day (whole_or_zero (row_at seconds i)) (whole_or_zero (row_at subseconds i)))) (row_at days i)
+
+-- row i of integers packed in blocks: with o the offset of its block and w the difference to the next, the row within the block at
+-- width w, from byte 128 * o on
+abbrev pub packed_in_block : List ℕ → List PlainValue → ℕ → PlainValue
+packed_in_block bs offsets i =
+    let block = i / block_rows in
+    let offset = offset_at offsets block in
+    int (pos (packed_row (drop (128 * offset) bs) (offset_at offsets (block + 1) - offset) (i % block_rows)))
+
+-- row i of differences plus the reference of its block, wrapped in the references' type
+abbrev pub moved_in_block : PType → List PlainValue → List PlainValue → ℕ → PlainValue
+moved_in_block p references encoded i = each_int (λ z. wrap p (whole_or_zero (row_at references (i / block_rows)) +ℤ z)) (row_at encoded i)
+
 -- the rows of a tree, node by node
 abbrev mutual
   pub rows : Tree → List PlainValue
@@ -153,11 +171,24 @@ abbrev mutual
   rows (rle values indices offsets len) = below (λ i. looked_up (rows values) (rle_place (rows offsets) (rows indices) i)) len
   rows (sequence p n first step len) = below (λ i. int (first +ℤ pos i *ℤ step)) len
   rows (delta bases deltas len valid n) = valid_rows valid (below (summed_up (integer_of (tree_type bases)) (rows bases) (rows deltas)) len)
+  rows (datetime_parts k n days seconds subseconds) =
+      below (combined_at (units_per_second k.unit) (rows days) (rows seconds) (rows subseconds)) (length (rows days))
+  rows (bit_packed_v2 k offsets) = valid_rows k.valid (below (packed_in_block k.bytes (rows offsets)) k.len)
+  rows (bit_packed_v2_with k offsets len offset indices values) =
+      valid_rows k.valid (below (λ i. patched (rows indices) (rows values) (packed_in_block k.bytes (rows offsets) i) (offset + i)) k.len)
+  rows (frame_of_reference_v2 encoded references) =
+      below (moved_in_block (integer_of (tree_type references)) (rows references) (rows encoded)) (length (rows encoded))
+  rows (sparse_chunked len offset indices values chunks fill) = below (λ i. patched (rows indices) (rows values) fill.value (offset + i)) len
 
   -- `len` rows, each the values of the fields
   pub field_rows : Trees → ℕ → List PlainValues
   field_rows none len = replicate len vals.none
   field_rows (more t ts) len = each_before (rows t) (field_rows ts len)
+
+-- a valid row of integers packed in blocks: the value of its patch, else its bits
+abbrev pub block_or_patch : List ℕ → List PlainValue → Option PlainPatches → ℕ → PlainValue
+block_or_patch bs offsets None i = packed_in_block bs offsets i
+block_or_patch bs offsets (Some p) i = patched (rows p.indices) (rows p.values) (packed_in_block bs offsets i) (p.offset + i)
 
 -- a valid row of packed integers: the value of its patch, else its bits
 abbrev pub packed_or_patch : PlainPacked → Option PlainPatches → ℕ → PlainValue

@@ -3,7 +3,7 @@ use Rattle.std.specs.Prelude.{ℕ, ◌-◌, Bool, false, List, [], ◌∷◌, �
 
 -- how many schemes may nest below the first
 abbrev pub max_cascade : ℕ
-max_cascade = 3
+max_cascade = 4
 
 -- how many schemes may still nest, whether the column is a sample, and the path from the root: the name of each scheme above,
 -- and the number of the child taken

@@ -6,7 +6,7 @@ use Rattle.vx_base.specs.PlainType.{PlainType, PlainFields, is_integer, integer_
 use Rattle.vx_base.specs.PlainType as types
 use Rattle.vx_base.specs.PlainValue.{PlainValue, PlainValues, null, truth, int, bytes, items}
 use Rattle.vx_base.specs.PlainValue as vals
-use Rattle.vx_model.specs.Tree.{Tree, Trees, Validity, PlainPatches, bool, var_bin_view, var_bin, timestamp, constant, masked, bit_packed, bit_packed_with, frame_of_reference, zig_zag, dict, nulls, structure, list, fixed_size_list, none, more, sparse, run_end, rle, sequence, delta}
+use Rattle.vx_model.specs.Tree.{Tree, Trees, Validity, PlainPatches, bool, var_bin_view, var_bin, timestamp, constant, masked, bit_packed, bit_packed_with, frame_of_reference, zig_zag, dict, nulls, structure, list, fixed_size_list, none, more, sparse, run_end, rle, sequence, delta, datetime_parts, bit_packed_v2, bit_packed_v2_with, frame_of_reference_v2, sparse_chunked}
 use Rattle.vx_model.specs.Tree as trees
 
 -- the bytes of a number of bits, rounded up
@@ -68,6 +68,11 @@ abbrev mutual
   size (rle values indices offsets len) = size values + size indices + size offsets
   size (sequence p n first step len) = 0
   size (delta bases deltas len valid n) = size bases + size deltas + validity_size valid
+  size (datetime_parts k n days seconds subseconds) = size days + size seconds + size subseconds
+  size (bit_packed_v2 k offsets) = length k.bytes + size offsets + validity_size k.valid
+  size (bit_packed_v2_with k offsets len offset indices values) = length k.bytes + (size offsets + (size indices + size values)) + validity_size k.valid
+  size (frame_of_reference_v2 encoded references) = size encoded + size references
+  size (sparse_chunked len offset indices values chunks fill) = size indices + size values + size chunks + (1 + payload fill.dtype fill.value)
 
   -- the sum over several trees
   pub sizes : Trees → ℕ
@@ -78,6 +83,11 @@ abbrev mutual
 abbrev pub patches_size : Option PlainPatches → ℕ
 patches_size None = 0
 patches_size (Some p) = size p.indices + size p.values
+
+-- the size of chunk offsets, if there are any
+abbrev pub chunks_size : Option Tree → ℕ
+chunks_size None = 0
+chunks_size (Some chunks) = size chunks
 
 -- the size, saturated at 128 bits
 abbrev pub nbytes : Tree → ℕ

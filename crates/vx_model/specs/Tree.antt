@@ -23,6 +23,18 @@ pub record PlainPacked : Type 0 where
 abbrev pub plain_packed : PType → ℕ → List ℕ → ℕ → Validity → Nullability → PlainPacked
 plain_packed p width bytes len valid n = record { ptype = p; width = width; bytes = bytes; len = len; valid = valid; nullability = n }
 
+-- integers of a type, packed in blocks of 1,024 rows, each block at a width of its own
+pub record PlainBlocks : Type 0 where
+  pub ptype : PType
+  pub bytes : List ℕ
+  pub len : ℕ
+  pub valid : Validity
+  pub nullability : Nullability
+
+-- integers packed in blocks from their parts
+abbrev pub plain_blocks : PType → List ℕ → ℕ → Validity → Nullability → PlainBlocks
+plain_blocks p bytes len valid n = record { ptype = p; bytes = bytes; len = len; valid = valid; nullability = n }
+
 mutual
   -- a tree of encodings, one constructor for each node
   pub data Tree : Type 0 where
@@ -69,6 +81,16 @@ mutual
     sequence : PType → Nullability → ℤ → ℤ → ℕ → Tree
     -- a base for each block, for each row the difference from the row before, the number of rows, their validity and nullability
     delta : Tree → Tree → ℕ → Validity → Nullability → Tree
+    -- timestamps of a kind and nullability in parts: days, seconds and subseconds
+    datetime_parts : PlainTimestamp → Nullability → Tree → Tree → Tree → Tree
+    -- integers packed in blocks, and the offsets between the blocks, in units of 128 bytes
+    bit_packed_v2 : PlainBlocks → Tree → Tree
+    -- integers packed in blocks, block offsets, and patches: their array length, offset, indices and values
+    bit_packed_v2_with : PlainBlocks → Tree → ℕ → ℕ → Tree → Tree → Tree
+    -- the differences of integers from the reference of their block, and the references
+    frame_of_reference_v2 : Tree → Tree → Tree
+    -- as `sparse`, where the patches have chunk offsets, which stand before the fill
+    sparse_chunked : ℕ → ℕ → Tree → Tree → Tree → PlainScalar → Tree
 
   -- trees inside a tree, in their order
   pub data Trees : Type 0 where
@@ -109,6 +131,11 @@ abbrev mutual
   node_count (rle values indices offsets len) = suc (node_count values + node_count indices + node_count offsets)
   node_count (sequence p n first step len) = 1
   node_count (delta bases deltas len valid n) = suc (node_count bases + node_count deltas)
+  node_count (datetime_parts k n days seconds subseconds) = suc (node_count days + node_count seconds + node_count subseconds)
+  node_count (bit_packed_v2 k offsets) = suc (node_count offsets)
+  node_count (bit_packed_v2_with k offsets len offset indices values) = suc (node_count offsets + suc (node_count indices + node_count values))
+  node_count (frame_of_reference_v2 encoded references) = suc (node_count encoded + node_count references)
+  node_count (sparse_chunked len offset indices values chunks fill) = suc (suc (node_count indices + node_count values + node_count chunks))
 
   pub nodes_count : Trees → ℕ
   nodes_count none = 0
@@ -118,22 +145,45 @@ abbrev mutual
 abbrev pub list_count : List Tree → ℕ
 list_count ts = nodes_count (of_list ts)
 
--- Patches of an array of `array_len` rows: the value with index x is row x - offset.
+-- Patches of an array of `array_len` rows: the value with index x is row x - offset. Chunk offsets, if there are any, count the
+-- indices before each chunk of 1,024 indices.
 pub record PlainPatches : Type 0 where
   pub array_len : ℕ
   pub offset : ℕ
   pub indices : Tree
   pub values : Tree
+  pub chunks : Option Tree
 
--- patches from their parts
+-- patches from their parts, without chunk offsets
 abbrev pub patches : ℕ → ℕ → Tree → Tree → PlainPatches
-patches len offset indices values = record { array_len = len; offset = offset; indices = indices; values = values }
+patches len offset indices values = record { array_len = len; offset = offset; indices = indices; values = values; chunks = None }
+
+-- patches from their parts, with the chunk offsets that there are
+abbrev pub chunked : ℕ → ℕ → Tree → Tree → Option Tree → PlainPatches
+chunked len offset indices values chunks = record { array_len = len; offset = offset; indices = indices; values = values; chunks = chunks }
 
 -- the measure of patches, by which recursion ends
 abbrev pub patches_count : PlainPatches → ℕ
-patches_count p = suc (node_count p.indices + node_count p.values)
+patches_count p = suc (node_count p.indices + node_count p.values + option_count p.chunks)
+  where
+    option_count : Option Tree → ℕ
+    option_count None = 0
+    option_count (Some t) = node_count t
 
 -- packed integers, with patches if there are any
 abbrev pub packed_of : PlainPacked → Option PlainPatches → Tree
 packed_of k None = bit_packed k
 packed_of k (Some p) = bit_packed_with k p.array_len p.offset p.indices p.values
+
+-- integers packed in blocks, with patches if there are any
+abbrev pub blocks_of : PlainBlocks → Tree → Option PlainPatches → Tree
+blocks_of k offsets None = bit_packed_v2 k offsets
+blocks_of k offsets (Some p) = bit_packed_v2_with k offsets p.array_len p.offset p.indices p.values
+
+-- patches and a scalar in every other row
+abbrev pub sparse_of : PlainPatches → PlainScalar → Tree
+sparse_of p fill = sparse_by p.chunks
+  where
+    sparse_by : Option Tree → Tree
+    sparse_by None = sparse p.array_len p.offset p.indices p.values fill
+    sparse_by (Some chunks) = sparse_chunked p.array_len p.offset p.indices p.values chunks fill

@@ -1,14 +1,14 @@
 -- How the logic stores a tree: a number for the node, its own data, and the trees inside.
-use Rattle.std.specs.Prelude.{◌≡◌, ℕ, ℤ, Bool, List, cond, ◌==◌, refl}
+use Rattle.std.specs.Prelude.{◌≡◌, ℕ, ℤ, Bool, List, Option, cond, ◌==◌, refl}
 use Rattle.std.proofs.Common.{ap}
 use Rattle.std.specs.Coded.{Coded, coded_list}
 use Rattle.vx_base.specs.declared.ptype.PType.{PType}
 use Rattle.vx_base.specs.declared.dtype.Nullability.{Nullability}
 use Rattle.vx_base.specs.PlainType.{PlainType, stored_ptype, stored_nullability, stored_type}
-use Rattle.vx_base.specs.Timestamps.{stored_kind}
+use Rattle.vx_base.specs.Timestamps.{PlainTimestamp, stored_kind}
 use Rattle.vx_base.specs.PlainScalar.{PlainScalar, stored_scalar}
 use Rattle.vx_base.specs.Storable.{Storable, code_of, first, rest, stored_ℕ, stored_ℤ, stored_bool, stored_bytes, stored_list, stored_option, stored×}
-use Rattle.vx_model.specs.Tree.{Tree, Trees, Validity, PlainPacked, PlainPatches, patches, bool, primitive, var_bin_view, var_bin, timestamp, constant, masked, bit_packed, bit_packed_with, frame_of_reference, zig_zag, dict, nulls, structure, list, fixed_size_list, none, more, sparse, run_end, rle, sequence, delta}
+use Rattle.vx_model.specs.Tree.{Tree, Trees, Validity, PlainPacked, PlainBlocks, PlainPatches, bool, primitive, var_bin_view, var_bin, timestamp, constant, masked, bit_packed, bit_packed_with, frame_of_reference, zig_zag, dict, nulls, structure, list, fixed_size_list, none, more, sparse, run_end, rle, sequence, delta, datetime_parts, bit_packed_v2, bit_packed_v2_with, frame_of_reference_v2, sparse_chunked}
 use base.Stored.{Gv, gnil, gnum, gcons, num}
 
 -- truth values are stored as a list
@@ -80,6 +80,34 @@ stored_packed =
 abbrev pub stored_packed_with : Storable (PlainPacked × (ℕ × ℕ))
 stored_packed_with = stored× stored_packed (stored× stored_ℕ stored_ℕ)
 
+-- the fields of integers packed in blocks, as pairs
+abbrev pub Blocks : Type 0
+Blocks = (PType × List ℕ) × (ℕ × (Validity × Nullability))
+
+abbrev pub stored_blocks_parts : Storable Blocks
+stored_blocks_parts = stored× (stored× stored_ptype (stored_list stored_ℕ)) (stored× stored_ℕ (stored× stored_validity stored_nullability))
+
+abbrev pub blocks_parts : PlainBlocks → Blocks
+blocks_parts k = ((k.ptype, k.bytes), (k.len, (k.valid, k.nullability)))
+
+abbrev pub blocks_by : Blocks → PlainBlocks
+blocks_by l = record { ptype = l.0.0; bytes = l.0.1; len = l.1.0; valid = l.1.1.0; nullability = l.1.1.1 }
+
+abbrev pub stored_blocks : Storable PlainBlocks
+stored_blocks =
+    record {
+      to = λ k. stored_blocks_parts.to (blocks_parts k);
+      from = λ g. blocks_by (stored_blocks_parts.from g);
+      back = λ k i. blocks_by (stored_blocks_parts.back (blocks_parts k) i);
+    }
+
+abbrev pub stored_blocks_with : Storable (PlainBlocks × (ℕ × ℕ))
+stored_blocks_with = stored× stored_blocks (stored× stored_ℕ stored_ℕ)
+
+-- what parts of timestamps have of their own, as a pair
+abbrev pub stored_datetime : Storable (PlainTimestamp × Nullability)
+stored_datetime = stored× stored_kind stored_nullability
+
 -- a number, a label and the trees inside, as one tree of numbers
 abbrev pub node : ℕ → Gv → Gv → Gv
 node number label inside = gcons (gcons (gnum number) label) inside
@@ -117,6 +145,12 @@ abbrev mutual
   to (rle values indices offsets len) = node 18 (stored_ℕ.to len) (three (to values) (to indices) (to offsets))
   to (sequence p n first step len) = node 19 (stored_sequence.to ((p, n), (first, (step, len)))) gnil
   to (delta bases deltas len valid n) = node 20 (stored_delta.to (len, (valid, n))) (two (to bases) (to deltas))
+  to (datetime_parts k n days seconds subseconds) = node 21 (stored_datetime.to (k, n)) (three (to days) (to seconds) (to subseconds))
+  to (bit_packed_v2 k offsets) = node 22 (stored_blocks.to k) (one (to offsets))
+  to (bit_packed_v2_with k offsets len offset indices values) =
+      node 23 (stored_blocks_with.to (k, (len, offset))) (three (to offsets) (to indices) (to values))
+  to (frame_of_reference_v2 encoded references) = node 24 gnil (two (to encoded) (to references))
+  to (sparse_chunked len offset indices values chunks fill) = node 25 (stored_sparse.to (len, (offset, fill))) (three (to indices) (to values) (to chunks))
 
   pub to_all : Trees → Gv
   to_all none = gnil
@@ -174,6 +208,15 @@ sequence_by l = sequence l.0.0 l.0.1 l.1.0 l.1.1.0 l.1.1.1
 abbrev pub delta_by : ℕ × (Validity × Nullability) → Tree → Tree → Tree
 delta_by l bases deltas = delta bases deltas l.0 l.1.0 l.1.1
 
+abbrev pub datetime_by : PlainTimestamp × Nullability → Tree → Tree → Tree → Tree
+datetime_by l days seconds subseconds = datetime_parts l.0 l.1 days seconds subseconds
+
+abbrev pub blocks_with_by : PlainBlocks × (ℕ × ℕ) → Tree → Tree → Tree → Tree
+blocks_with_by l offsets indices values = bit_packed_v2_with l.0 offsets l.1.0 l.1.1 indices values
+
+abbrev pub chunked_by : ℕ × (ℕ × PlainScalar) → Tree → Tree → Tree → Tree
+chunked_by l indices values chunks = sparse_chunked l.0 l.1.0 indices values chunks l.1.1
+
 abbrev pub tree_at : ℕ → Gv → Trees → Tree
 tree_at number label inside =
     cond (number == 0) (primitive_by (stored_primitive.from label))
@@ -196,7 +239,12 @@ tree_at number label inside =
     (cond (number == 17) (run_end (tree_1 inside) (tree_2 inside))
     (cond (number == 18) (rle (tree_1 inside) (tree_2 inside) (tree_3 inside) (stored_ℕ.from label))
     (cond (number == 19) (sequence_by (stored_sequence.from label))
-    (delta_by (stored_delta.from label) (tree_1 inside) (tree_2 inside)))))))))))))))))))))
+    (cond (number == 20) (delta_by (stored_delta.from label) (tree_1 inside) (tree_2 inside))
+    (cond (number == 21) (datetime_by (stored_datetime.from label) (tree_1 inside) (tree_2 inside) (tree_3 inside))
+    (cond (number == 22) (bit_packed_v2 (stored_blocks.from label) (tree_1 inside))
+    (cond (number == 23) (blocks_with_by (stored_blocks_with.from label) (tree_1 inside) (tree_2 inside) (tree_3 inside))
+    (cond (number == 24) (frame_of_reference_v2 (tree_1 inside) (tree_2 inside))
+    (chunked_by (stored_sparse.from label) (tree_1 inside) (tree_2 inside) (tree_3 inside))))))))))))))))))))))))))
 
 -- a stored tree of numbers read as a tree, and as trees
 abbrev pub read : Gv → Tree × Trees
@@ -230,6 +278,13 @@ mutual
   from-to (rle values indices offsets len) = λ i. rle (from-to values i) (from-to indices i) (from-to offsets i) (stored_ℕ.back len i)
   from-to (sequence p n first step len) = λ i. sequence_by (stored_sequence.back ((p, n), (first, (step, len))) i)
   from-to (delta bases deltas len valid n) = λ i. delta_by (stored_delta.back (len, (valid, n)) i) (from-to bases i) (from-to deltas i)
+  from-to (datetime_parts k n days seconds subseconds) = λ i. datetime_by (stored_datetime.back (k, n) i) (from-to days i) (from-to seconds i) (from-to subseconds i)
+  from-to (bit_packed_v2 k offsets) = λ i. bit_packed_v2 (stored_blocks.back k i) (from-to offsets i)
+  from-to (bit_packed_v2_with k offsets len offset indices values) =
+      λ i. blocks_with_by (stored_blocks_with.back (k, (len, offset)) i) (from-to offsets i) (from-to indices i) (from-to values i)
+  from-to (frame_of_reference_v2 encoded references) = λ i. frame_of_reference_v2 (from-to encoded i) (from-to references i)
+  from-to (sparse_chunked len offset indices values chunks fill) =
+      λ i. chunked_by (stored_sparse.back (len, (offset, fill)) i) (from-to indices i) (from-to values i) (from-to chunks i)
 
   pub from-to_all : (ts : Trees) → (read (to_all ts)).1 ≡ ts
   from-to_all none = refl
@@ -249,14 +304,17 @@ trees_code = coded_list tree_code
 
 -- ---- and patches
 
-abbrev pub stored_patches_parts : Storable ((ℕ × ℕ) × (Tree × Tree))
-stored_patches_parts = stored× (stored× stored_ℕ stored_ℕ) (stored× stored_tree stored_tree)
+abbrev pub Patches : Type 0
+Patches = (ℕ × ℕ) × (Tree × (Tree × Option Tree))
 
-abbrev pub patches_parts : PlainPatches → (ℕ × ℕ) × (Tree × Tree)
-patches_parts p = ((p.array_len, p.offset), (p.indices, p.values))
+abbrev pub stored_patches_parts : Storable Patches
+stored_patches_parts = stored× (stored× stored_ℕ stored_ℕ) (stored× stored_tree (stored× stored_tree (stored_option stored_tree)))
 
-abbrev pub patches_by : (ℕ × ℕ) × (Tree × Tree) → PlainPatches
-patches_by l = patches l.0.0 l.0.1 l.1.0 l.1.1
+abbrev pub patches_parts : PlainPatches → Patches
+patches_parts p = ((p.array_len, p.offset), (p.indices, (p.values, p.chunks)))
+
+abbrev pub patches_by : Patches → PlainPatches
+patches_by l = record { array_len = l.0.0; offset = l.0.1; indices = l.1.0; values = l.1.1.0; chunks = l.1.1.1 }
 
 -- patches are stored as their numbers and their trees
 abbrev pub stored_patches : Storable PlainPatches

@@ -3,7 +3,7 @@ use Rattle.std.specs.Prelude.{ℕ, List, ◌∷◌}
 use Rattle.vx_base.specs.Integers.{signed_of}
 use Rattle.vx_base.specs.PlainType.{PlainType, PlainFields, integer_of, nullability_of, or_nullable, with_nullability}
 use Rattle.vx_base.specs.PlainType as types
-use Rattle.vx_model.specs.Tree.{Tree, Trees, bool, primitive, var_bin_view, var_bin, timestamp, constant, masked, bit_packed, bit_packed_with, frame_of_reference, zig_zag, dict, nulls, structure, list, fixed_size_list, more, sparse, run_end, rle, sequence, delta}
+use Rattle.vx_model.specs.Tree.{Tree, Trees, bool, primitive, var_bin_view, var_bin, timestamp, constant, masked, bit_packed, bit_packed_with, frame_of_reference, zig_zag, dict, nulls, structure, list, fixed_size_list, more, sparse, run_end, rle, sequence, delta, datetime_parts, bit_packed_v2, bit_packed_v2_with, frame_of_reference_v2, sparse_chunked}
 
 -- the signed type of an integer type's width, with its nullability
 abbrev pub zig_zag_type : PlainType → PlainType
@@ -37,6 +37,11 @@ abbrev mutual
   tree_type (rle values indices offsets len) = tree_type values
   tree_type (sequence p n first step len) = types.primitive p n
   tree_type (delta bases deltas len valid n) = types.primitive (integer_of (tree_type bases)) n
+  tree_type (datetime_parts k n days seconds subseconds) = types.timestamp k n
+  tree_type (bit_packed_v2 k offsets) = types.primitive k.ptype k.nullability
+  tree_type (bit_packed_v2_with k offsets len offset indices values) = types.primitive k.ptype k.nullability
+  tree_type (frame_of_reference_v2 encoded references) = types.primitive (integer_of (tree_type references)) (nullability_of (tree_type encoded))
+  tree_type (sparse_chunked len offset indices values chunks fill) = fill.dtype
 
   -- the fields: each name, and the type of its tree
   pub field_types : List (List ℕ) → Trees → PlainFields

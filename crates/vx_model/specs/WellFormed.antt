@@ -1,6 +1,6 @@
 -- Well-formed trees: the invariant of an array. Each node's own conditions hold, and every row is of the tree's type.
-use Rattle.std.specs.Prelude.{◌≡◌, ℕ, ◌+◌, ◌*◌, ◌^◌, ℤ, pos, ◌+ℤ◌, ◌*ℤ◌, ◌-◌, Bool, true, false, ◌&&◌, ◌||◌, ◌==◌, nat_lt, nat_le, int_le, int_lt, IsTrue, List, [], ◌∷◌, length, Some, None}
-use Rattle.std.specs.List.{list_all, list_any}
+use Rattle.std.specs.Prelude.{◌≡◌, ℕ, ◌+◌, ◌*◌, ◌/◌, ◌^◌, ℤ, pos, ◌+ℤ◌, ◌*ℤ◌, ◌-◌, Bool, true, false, ◌&&◌, ◌||◌, ◌==◌, nat_lt, nat_le, int_le, int_lt, not, IsTrue, List, [], ◌∷◌, length, filter, Option, Some, None}
+use Rattle.std.specs.List.{list_all, list_any, range_with_len}
 use Rattle.vx_base.specs.declared.ptype.PType.{PType}
 use Rattle.vx_base.specs.declared.ptype.PType.TheVariants.{I64}
 use Rattle.vx_base.specs.declared.dtype.Nullability.{Nullability}
@@ -11,9 +11,12 @@ use Rattle.vx_base.specs.PlainType.{PlainType, is_nullable, is_flat, is_integer,
 use Rattle.vx_base.specs.PlainType as types
 use Rattle.vx_base.specs.PlainScalar.{PlainScalar, fits}
 use Rattle.vx_base.specs.PlainValue.{PlainValue, null, int, is_null, is_short, whole_or_zero}
-use Rattle.vx_model.specs.Tree.{Tree, Trees, Validity, PlainPacked, PlainPatches, bool, primitive, var_bin_view, var_bin, timestamp, constant, masked, bit_packed, bit_packed_with, frame_of_reference, zig_zag, dict, nulls, structure, list, fixed_size_list, none, more, list_of, sparse, run_end, rle, sequence, delta}
-use Rattle.vx_model.specs.Rows.{rows, offset_at, cut_at, below, block_rows, rle_place}
+use Rattle.vx_model.specs.Tree.{Tree, Trees, Validity, PlainPacked, PlainBlocks, PlainPatches, bool, primitive, var_bin_view, var_bin, timestamp, constant, masked, bit_packed, bit_packed_with, frame_of_reference, zig_zag, dict, nulls, structure, list, fixed_size_list, none, more, list_of, sparse, run_end, rle, sequence, delta, datetime_parts, bit_packed_v2, bit_packed_v2_with, frame_of_reference_v2, sparse_chunked}
+use Rattle.vx_model.specs.Rows.{rows, row_at, offset_at, is_index, cut_at, below, block_rows, rle_place}
 use Rattle.vx_model.specs.TreeType.{tree_type}
+use Rattle.vx_time.specs.CanonicalParts.{is_canonical}
+use Rattle.vx_time.specs.PartsOf.{parts, units_per_second}
+use Rattle.vx_base.specs.Timestamps.{PlainTimestamp}
 
 -- validity in its one form, of `len` rows: bits only in a nullable node, one per row, and one of them false
 abbrev pub IsValidityOf : Validity → ℕ → Nullability → Type 0
@@ -183,6 +186,75 @@ pub record IsDelta (bases deltas : Tree) (len : ℕ) (valid : Validity) (n : Nul
   pub deltas_length : length (rows deltas) ≡ block_rows * block_count len
   pub validity : IsValidityOf valid len n
 
+-- whether row i of parts is null, or canonical: the split of a timestamp of 64 signed bits, where d make a second
+abbrev pub is_canonical_at : ℤ → List PlainValue → List PlainValue → List PlainValue → ℕ → Bool
+is_canonical_at d days seconds subseconds i =
+    is_null (row_at days i)
+    || is_canonical d (parts (whole_or_zero (row_at days i)) (whole_or_zero (row_at seconds i)) (whole_or_zero (row_at subseconds i)))
+
+-- whether each row of parts is null, or canonical
+abbrev pub are_canonical : ℤ → List PlainValue → List PlainValue → List PlainValue → Bool
+are_canonical d days seconds subseconds = list_all (is_canonical_at d days seconds subseconds) (range_with_len 0 (length days))
+
+-- whether a type is a non-nullable integer type
+abbrev pub is_whole_type : PlainType → Bool
+is_whole_type t = is_integer t && not (is_nullable t)
+
+-- days of the nullability, non-nullable seconds and subseconds, all integers and equally long, and canonical in each valid row
+pub record IsDateTimeParts (k : PlainTimestamp) (n : Nullability) (days seconds subseconds : Tree) : Type 0 where
+  pub days_type : tree_type days ≡ types.primitive (integer_of (tree_type days)) n
+  pub seconds_type : IsTrue (is_whole_type (tree_type seconds))
+  pub subseconds_type : IsTrue (is_whole_type (tree_type subseconds))
+  pub seconds_length : length (rows seconds) ≡ length (rows days)
+  pub subseconds_length : length (rows subseconds) ≡ length (rows days)
+  pub canonical : IsTrue (are_canonical (units_per_second k.unit) (rows days) (rows seconds) (rows subseconds))
+
+-- whether offset b + 1 is offset b plus a width of 0 to `most`
+abbrev pub is_block_width : ℕ → List PlainValue → ℕ → Bool
+is_block_width most offsets b = lies_between (offset_at offsets b) (offset_at offsets b + most + 1) (row_at offsets (b + 1))
+
+-- whether values are block offsets: the first is 0, and each is its predecessor plus a width of 0 to `most`
+abbrev pub are_block_offsets : ℕ → List PlainValue → Bool
+are_block_offsets most offsets = is_index (row_at offsets 0) 0 && list_all (is_block_width most offsets) (range_with_len 0 (length offsets - 1))
+
+-- integers packed in blocks: one block offset more than there are blocks, and 128 bytes for each unit of the last one
+pub record IsWellBlocked (k : PlainBlocks) (offsets : Tree) : Type 0 where
+  pub held : IsTrue (list_all (λ byte. nat_lt byte 256) k.bytes)
+  pub offsets_type : IsTrue (is_whole_type (tree_type offsets))
+  pub lengths : length (rows offsets) ≡ block_count k.len + 1
+  pub widths : IsTrue (are_block_offsets (natural_bits k.ptype) (rows offsets))
+  pub sized : length k.bytes ≡ 128 * offset_at (rows offsets) (block_count k.len)
+  pub validity : IsValidityOf k.valid k.len k.nullability
+
+-- patches of an array of `len` rows belong to integers packed in blocks
+pub record IsBlockPatched (k : PlainBlocks) (len : ℕ) (values : Tree) : Type 0 where
+  pub lengths : len ≡ k.len
+  pub values_type : tree_type values ≡ types.primitive k.ptype NonNullable
+
+-- non-nullable integers as references, one for each block of differences, which are of the unsigned type of their width
+pub record IsFrames (encoded references : Tree) : Type 0 where
+  pub references_type : IsTrue (is_whole_type (tree_type references))
+  pub encoded_type : tree_type encoded ≡ differences_type (tree_type references) (tree_type encoded)
+  pub lengths : length (rows references) ≡ block_count (length (rows encoded))
+
+-- the number of indices below n
+abbrev pub indices_below : ℕ → List PlainValue → ℕ
+indices_below n indices = length (filter (λ v. int_lt (whole_or_zero v) (pos n)) indices)
+
+-- the number of indices in chunk c: from 1,024 * c up to before 1,024 * (c + 1)
+abbrev pub indices_in_chunk : ℕ → List PlainValue → ℕ
+indices_in_chunk c indices = indices_below (block_rows * (c + 1)) indices - indices_below (block_rows * c) indices
+
+-- whether the value of chunk c counts the indices below 1,024 * c, for each chunk
+abbrev pub are_chunk_offsets : List PlainValue → List PlainValue → Bool
+are_chunk_offsets indices chunks = list_all (λ c. is_index (row_at chunks c) (indices_below (block_rows * c) indices)) (range_with_len 0 (length chunks))
+
+-- chunk offsets of patches: non-nullable integers, one for each chunk of 1,024 indices below offset + `len`
+pub record IsChunked (len offset : ℕ) (indices chunks : Tree) : Type 0 where
+  pub chunks_type : IsTrue (is_whole_type (tree_type chunks))
+  pub lengths : length (rows chunks) ≡ block_count (offset + len)
+  pub counted : IsTrue (are_chunk_offsets (rows indices) (rows chunks))
+
 -- every row is of the tree's type
 abbrev pub RowsFit : Tree → Type 0
 RowsFit t = IsTrue (list_all (fits (tree_type t)) (rows t))
@@ -216,12 +288,39 @@ abbrev mutual
       WellFormed values × WellFormed indices × WellFormed offsets × IsRle values indices offsets len × RowsFit (rle values indices offsets len)
   WellFormed (sequence p n first step len) = IsSequence p first step len × RowsFit (sequence p n first step len)
   WellFormed (delta bases deltas len valid n) = WellFormed bases × WellFormed deltas × IsDelta bases deltas len valid n × RowsFit (delta bases deltas len valid n)
+  WellFormed (datetime_parts k n days seconds subseconds) =
+      WellFormed days × WellFormed seconds × WellFormed subseconds × IsDateTimeParts k n days seconds subseconds
+      × RowsFit (datetime_parts k n days seconds subseconds)
+  WellFormed (bit_packed_v2 k offsets) = WellFormed offsets × IsWellBlocked k offsets × RowsFit (bit_packed_v2 k offsets)
+  WellFormed (bit_packed_v2_with k offsets len offset indices values) =
+      WellFormed offsets × WellFormed indices × WellFormed values × IsPatches len offset indices values × IsWellBlocked k offsets
+      × IsBlockPatched k len values × RowsFit (bit_packed_v2_with k offsets len offset indices values)
+  WellFormed (frame_of_reference_v2 encoded references) =
+      WellFormed encoded × WellFormed references × IsFrames encoded references × RowsFit (frame_of_reference_v2 encoded references)
+  WellFormed (sparse_chunked len offset indices values chunks fill) =
+      WellFormed indices × WellFormed values × WellFormed chunks × IsPatches len offset indices values × IsChunked len offset indices chunks
+      × IsSparse values fill × RowsFit (sparse_chunked len offset indices values chunks fill)
 
   -- each of several trees is well formed
   pub AllWellFormed : Trees → Type 0
   AllWellFormed none = Unit {0}
   AllWellFormed (more t ts) = WellFormed t × AllWellFormed ts
 
+-- the number of patches that a search for a row looks through: those of the row's chunk where there are chunk offsets, else all
+abbrev pub searched : PlainPatches → ℕ → ℕ
+searched p row = look_through p.chunks
+  where
+    look_through : Option Tree → ℕ
+    look_through None = length (rows p.indices)
+    look_through (Some chunks) = indices_in_chunk ((p.offset + row) / block_rows) (rows p.indices)
+
+-- chunk offsets are well formed and count the indices before each chunk, if there are any
+abbrev pub WellFormedChunks : ℕ → ℕ → Tree → Option Tree → Type 0
+WellFormedChunks len offset indices None = Unit {0}
+WellFormedChunks len offset indices (Some chunks) = WellFormed chunks × IsChunked len offset indices chunks
+
 -- the trees of the patches are well formed, and their indices strictly increase within the bounds of the array
 abbrev pub WellFormedPatches : PlainPatches → Type 0
-WellFormedPatches p = WellFormed p.indices × WellFormed p.values × IsPatches p.array_len p.offset p.indices p.values
+WellFormedPatches p =
+    WellFormed p.indices × WellFormed p.values × IsPatches p.array_len p.offset p.indices p.values
+    × WellFormedChunks p.array_len p.offset p.indices p.chunks

@@ -1,20 +1,20 @@
 -- What a scheme may be asked about.
-use Rattle.std.specs.Prelude.{◌≡◌, ◌<◌, ◌≤◌, ◌+◌, ◌^◌, ℕ, true, false, List, length, map}
+use Rattle.std.specs.Prelude.{◌≡◌, ◌<◌, ◌≤◌, ◌+◌, ◌*◌, ◌^◌, ℕ, true, false, List, length, map}
 use Rattle.std.specs.List.{list_all}
 use Rattle.vx_base.specs.PlainValue.{is_null}
 use Rattle.vx_model.specs.Column.{Column, IsColumn, column_of}
 use Rattle.vx_model.specs.Plain.{IsPlain}
 use Rattle.vx_model.specs.Rows.{rows}
-use Rattle.vx_model.specs.Site.{Site}
+use Rattle.vx_model.specs.Site.{Site, max_cascade}
 use Rattle.vx_model.specs.Tree.{Tree}
 use Rattle.vx_scheme.specs.Meaning.{Meaning, PlainSplit, kept, finished, parts, parts_of}
 use Rattle.vx_scheme.specs.declared.estimate.CompressionEstimate.TheVariants.{Deferred}
 use Rattle.vx_scheme.specs.declared.estimate.DeferredEstimate.TheVariants.{Callback}
 
 -- the row limit of a column at any site: the row limit of compression, 2^31, 1 for the offsets of a list, and 1,024 for each of
--- 3 + 1 levels of parts
+-- max_cascade + 1 levels of parts
 abbrev pub most_rows : ℕ
-most_rows = 2 ^ 31 + 4097
+most_rows = 2 ^ 31 + 1 + 1024 * (max_cascade + 1)
 
 -- a plain tree that a scheme may be given
 pub record IsSiteTree (tree : Tree) : Type 0 where

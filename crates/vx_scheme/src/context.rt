@@ -1,6 +1,7 @@
 //! Where in the cascade a column stands.
 
 ghost use Rattle.std.specs.Prelude.{◌≤◌, ◌+◌};
+ghost use Rattle.vx_model.specs.Site.{max_cascade};
 
 use crate::MAX_CASCADE;
 use crate::scheme_id::SchemeId;
@@ -17,12 +18,12 @@ pub struct CompressorContext {
     history: [(SchemeId, usize); MAX_CASCADE],
     depth: usize,
     options: GenerateStatsOptions,
-    ghost room: { depth + budget ≤ 3 },
+    ghost room: { depth + budget ≤ max_cascade },
 }
 
 impl CompressorContext {
     ghost use Rattle.std.specs.Prelude.{◌≡◌, ◌==◌, ◌<◌, ◌≤◌, ◌+◌, false, length};
-    ghost use Rattle.vx_model.specs.Site.{fresh, down};
+    ghost use Rattle.vx_model.specs.Site.{fresh, down, max_cascade};
     ghost use Rattle.vx_scheme.specs.Contexts.{site_of, options_of, entries_of, leaf_site, sample_site};
     ghost use Rattle.vx_scheme.specs.Names.{name_of};
 
@@ -57,7 +58,7 @@ impl CompressorContext {
     /// The history: the schemes above, outermost first, each with the number of its child on the way down.
     pub fn cascade_history(&self) -> &[(SchemeId, usize)]
         ensures history { entries_of result.now ≡ (site_of self.now).history }
-        ensures within { length result.now + (site_of self.now).budget ≤ 3 }
+        ensures within { length result.now + (site_of self.now).budget ≤ max_cascade }
     {
         &self.history[..self.depth]
     }
@@ -72,7 +73,7 @@ impl CompressorContext {
     /// How many schemes may still stand one below another below the one chosen here; at most `MAX_CASCADE`.
     pub fn budget(&self) -> usize
         ensures budget { result ≡ (site_of self.now).budget }
-        ensures within { result ≤ 3 }
+        ensures within { result ≤ max_cascade }
     {
         self.budget
     }

@@ -29,5 +29,5 @@ pub use vx_stats::{
     laws_of_distinct, laws_of_merge,
 };
 
-/// The budget of a fresh site: this many schemes may stand one below another below the first, so at most four on one path.
-pub const MAX_CASCADE: usize = 3;
+/// The budget of a fresh site: this many schemes may stand one below another below the first, so at most five on one path.
+pub const MAX_CASCADE: usize = 4;

@@ -41,7 +41,7 @@ use vx_stats::GenerateStatsOptions;
 /// whichever statistics are kept already and whichever options were merged. Each scheme proves the laws `lawful` and
 /// `keeps_name`, on which code over `S: Scheme` relies.
 ///
-/// A column comes with its statistics, whose options include the scheme's own. It is plain, and has 1 to 2^31 + 4,097
+/// A column comes with its statistics, whose options include the scheme's own. It is plain, and has 1 to 2^31 + 5,121
 /// rows. The answers below are promised where the scheme matches its type, and a call that takes memory refuses NoMemory
 /// alone; on any other type nothing is promised. No call changes the array, its options or the sample words.
 pub trait Scheme: Copy {

@@ -1,4 +1,4 @@
-//! Compressed patches: the type of the indices, and what becomes of the values.
+//! Compressed patches: the type of the indices, and what becomes of the values and of chunk offsets.
 
 use crate::shapes::{Shape, has_shape};
 use std::alloc::Global;
@@ -13,7 +13,7 @@ use vx_schemes::compress_patches;
 // The rows that are patched.
 const ROWS: u64 = 5_000_000_000;
 
-// Whether compressed patches of five billion rows have their rows and offset, and these indices and values.
+// Whether compressed patches of five billion rows have their rows and offset, these indices and values, and no chunk offsets.
 fn shortens(alloc: Global, offset: u64, indices: Shape, values: Shape) -> VortexResult<bool> {
     let (_, _, _, places) = indices;
     let (_, _, _, items) = values;
@@ -25,7 +25,8 @@ fn shortens(alloc: Global, offset: u64, indices: Shape, values: Shape) -> Vortex
         short.array_len() == ROWS
             && short.offset() == offset
             && has_shape(short.indices(), &indices)
-            && has_shape(short.values(), &values),
+            && has_shape(short.values(), &values)
+            && short.chunk_offsets().is_none(),
     )
 }
 
@@ -99,5 +100,30 @@ fn equal_lists_are_one_scalar(rt: HostRuntime) -> Result<(), Fail> {
     let other = pairs(rt.alloc(), &[7, 8, 7, 9])?;
     let of_other = shared_bytes(rt.alloc(), other)?;
     assert!(rt; of_same == Some(3) && of_other.is_none());
+    Ok(())
+}
+
+// Patches of 2,500 rows at offset 500, in three chunks: two indices in the first, one in the second and none in the third.
+fn chunked(alloc: Global) -> VortexResult<Patches> {
+    let indices = column(alloc, U64, &[Some(505), Some(1023), Some(2047)])?;
+    let values = column(alloc, I16, &[Some(9), Some(8), Some(9)])?;
+    let chunks = column(alloc, U64, &[Some(0), Some(2), Some(3)])?;
+    accepted(Patches::new_chunked(2500, 500, indices, values, chunks))
+}
+
+// Whether these patches, compressed, have two bytes for each index and one for each chunk offset.
+fn narrows_chunks(alloc: Global) -> VortexResult<bool> {
+    let short = compress_patches(&chunked(alloc)?, &mut context(alloc)?)?;
+    let indices = (Primitive, U16, 6, &[Some(505), Some(1023), Some(2047)][..]);
+    let offsets = (Primitive, U8, 3, &[Some(0), Some(2), Some(3)][..]);
+    match short.chunk_offsets() {
+        Some(chunks) => Ok(has_shape(chunks, &offsets) && has_shape(short.indices(), &indices)),
+        None => Ok(false),
+    }
+}
+
+#[test]
+fn chunk_offsets_are_narrowed(rt: HostRuntime) -> Result<(), Fail> {
+    assert!(rt; narrows_chunks(rt.alloc())?);
     Ok(())
 }

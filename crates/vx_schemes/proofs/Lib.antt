@@ -1,6 +1,7 @@
 pub mod BitPacking
 pub mod Dictionary
 pub mod FrameOfReference
+pub mod IndexTypeLemmas
 pub mod MadeLemmas
 pub mod PatchLemmas
 pub mod Produced

@@ -9,7 +9,7 @@ use Rattle.vx_base.specs.PlainValue.{null, int}
 use Rattle.vx_blocks.specs.Cost.{cost}
 use Rattle.vx_model.specs.Column.{column}
 use Rattle.vx_model.specs.Site.{Site}
-use Rattle.vx_model.specs.Tree.{patches, primitive, constant, dict, packed_of, plain_packed}
+use Rattle.vx_model.specs.Tree.{patches, chunked, primitive, constant, dict, packed_of, plain_packed}
 use Rattle.vx_scheme.specs.Meaning.{kept}
 use Rattle.vx_scheme.specs.declared.estimate.CompressionEstimate.TheVariants.{Verdict, Deferred}
 use Rattle.vx_scheme.specs.declared.estimate.DeferredEstimate.TheVariants.{Sample}
@@ -45,6 +45,12 @@ pub compressed_patches-nines :
     compressed_patches (patches 400 0 (primitive U64 (pos 1 ∷ pos 300 ∷ []) None NonNullable) (primitive U8 (pos 9 ∷ pos 9 ∷ []) None NonNullable))
     ≡ patches 400 0 (primitive U16 (pos 1 ∷ pos 300 ∷ []) None NonNullable) (constant (scalar (types.primitive U8 NonNullable) (int (pos 9))) 2)
 compressed_patches-nines = refl
+
+-- offset 500 and 2,500 rows are three chunks; two indices are below 1,024 and three below 2,048, so three offsets of one byte
+pub compressed_patches-chunks :
+    compressed_patches (chunked 2500 500 (primitive U64 (pos 505 ∷ pos 1023 ∷ pos 2047 ∷ []) None NonNullable) (primitive I16 (pos 9 ∷ pos 8 ∷ pos 9 ∷ []) None NonNullable) (Some (primitive U64 (pos 0 ∷ pos 2 ∷ pos 3 ∷ []) None NonNullable)))
+    ≡ chunked 2500 500 (primitive U16 (pos 505 ∷ pos 1023 ∷ pos 2047 ∷ []) None NonNullable) (primitive I16 (pos 9 ∷ pos 8 ∷ pos 9 ∷ []) None NonNullable) (Some (primitive U8 (pos 0 ∷ pos 2 ∷ pos 3 ∷ []) None NonNullable))
+compressed_patches-chunks = refl
 
 -- null is equal to null, and to no number
 pub shared_value-nulls : (shared_value (null ∷ null ∷ []) ≡ Some null) × (shared_value (null ∷ int (pos 0) ∷ []) ≡ None) × (shared_value [] ≡ None) × (index_type [] ≡ U8)

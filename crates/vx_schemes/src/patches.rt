@@ -1,4 +1,4 @@
-//! Compressed patches: narrow indices, and one scalar for values that are all equal.
+//! Compressed patches: narrow indices and chunk offsets, and one scalar for values that are all equal.
 
 ghost use Rattle.std.specs.Prelude.{◌≡◌, ◌<◌, IsTrue, if◌then◌else◌, length, option_map, false, Some, None};
 ghost use Rattle.vx_base.specs.Answers.{Answers, OrMemory};
@@ -12,7 +12,7 @@ ghost use Rattle.vx_model.specs.Plain.{IsPlain};
 ghost use Rattle.vx_model.specs.Rows.{rows, row_at};
 ghost use Rattle.vx_model.specs.TreeType.{tree_type};
 ghost use Rattle.vx_schemes_common.specs.Narrowed.{index_type};
-ghost use Rattle.vx_schemes.specs.Patches.Compressed.{narrowed, shared_value, constant_or_plain, compressed_patches, PatchAlike};
+ghost use Rattle.vx_schemes.specs.Patches.Compressed.{IsRising, narrowed, shared_value, constant_or_plain, compressed_patches, PatchAlike};
 
 use std::alloc::Global;
 use vx_array::{ArrayRef, Patches};
@@ -22,47 +22,61 @@ use vx_schemes_common::whole_tree;
 
 /// Patches with the same rows and values, compressed: plain indices of the narrowest unsigned type that holds them (U8
 /// where there are none); values as a constant where there are some and all are equal, null equal to null, else plain.
-/// The only error is NoMemory.
+/// Chunk offsets are narrowed like the indices; patches without them get none. The only error is NoMemory.
 pub fn compress_patches(patches: &Patches, ctx: &mut ExecutionCtx) -> VortexResult<Patches>
     ensures answer { Answers result (compressed_patches patches.now) }
     ensures kept { OrMemory result (PatchAlike patches.now) }
     ensures ctx { ctx.new ≡ ctx.old }
 {
     let alloc = ctx.alloc();
-    let indices = narrowed(alloc, patches)?;
-    let values = constant_or_plain(alloc, patches.values())?;
     patches.known();
-    match Patches::new(patches.array_len(), patches.offset(), indices, values) {
+    let indices = narrowed(alloc, patches.indices())?;
+    let values = constant_or_plain(alloc, patches.values())?;
+    let Some(offsets) = patches.chunk_offsets() else {
+        return match Patches::new(patches.array_len(), patches.offset(), indices, values) {
+            Ok(short) => Ok(short),
+            Err(refused) => Err(refused.error),
+        };
+    };
+    let chunks = narrowed(alloc, offsets)?;
+    match Patches::new_chunked(
+        patches.array_len(),
+        patches.offset(),
+        indices,
+        values,
+        chunks,
+    ) {
         Ok(short) => Ok(short),
         Err(refused) => Err(refused.error),
     }
 }
 
-// The narrowest type of the indices. They ascend, so the last is the greatest.
-fn index_type(patches: &Patches) -> PType
-    ensures { result ≡ index_type (rows patches.now.indices) }
+// The narrowest type of the numbers. They never decrease, so the last is the greatest.
+fn index_type(numbers: &ArrayRef) -> PType
+    requires { IsRising numbers.now }
+    ensures { result ≡ index_type (rows numbers.now) }
 {
-    patches.known();
-    let count = patches.num_patches();
+    let count = numbers.len();
     if count == 0 {
         return PType::U8;
     }
-    let Some(last) = patches.indices().integer_at(count - 1) else {
+    let Some(last) = numbers.integer_at(count - 1) else {
         unreachable!();
     };
     narrow_type(0, last)
 }
 
-// The indices in their narrowest type.
+// Indices or chunk offsets in their narrowest type.
 #[tactic(auto, using(vx_model::proofs::PrimitiveLemmas::plain_roots))]
-fn narrowed(alloc: Global, patches: &Patches) -> VortexResult<ArrayRef>
-    ensures { Answers result (narrowed patches.now.indices) }
+fn narrowed(alloc: Global, numbers: &ArrayRef) -> VortexResult<ArrayRef>
+    requires { IsRising numbers.now }
+    ensures { Answers result (narrowed numbers.now) }
 {
-    patches.known();
-    let ptype = index_type(patches);
-    let plain = patches.indices().canonical(alloc)?;
-    let (indices, _, _) = plain.as_primitive();
-    whole_tree(indices.in_unsigned(alloc, ptype)?, Nullability::NonNullable)
+    numbers.known();
+    let ptype = index_type(numbers);
+    let plain = numbers.canonical(alloc)?;
+    let (wholes, _, _) = plain.as_primitive();
+    whole_tree(wholes.in_unsigned(alloc, ptype)?, Nullability::NonNullable)
 }
 
 // The value of `row`, which isn't null, where every other row is null or equal to it.

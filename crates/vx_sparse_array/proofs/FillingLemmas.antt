@@ -135,4 +135,4 @@ module _ (f : Filling) (c : Column) (indices values : Tree) (h : ArePatches f c 
   filled-column stands = λ i. column c.dtype (((λ j. below (λ k. patched (h.row_numbers j) (value_rows j) f.fill (0 + k)) (length c.values)) ∙ rows-back f stands c.values) i)
 
   pub filled-well : fits c.dtype f.fill ≡ true → WellFormed indices → WellFormed values → WellFormed (filled_over f c indices values)
-  filled-well fitting wi wv = sparse_accepted (patches (length c.values) 0 indices values) (scalar c.dtype f.fill) filled-admitted fitting (wi, wv, patches-fit)
+  filled-well fitting wi wv = sparse_accepted (patches (length c.values) 0 indices values) (scalar c.dtype f.fill) filled-admitted fitting (wi, wv, patches-fit, tt)

@@ -7,9 +7,8 @@ use Rattle.vx_base.specs.declared.error.VortexError.{VortexError}
 use Rattle.vx_base.specs.declared.error.VortexError.TheVariants.{MismatchedTypes}
 use Rattle.vx_base.specs.PlainScalar.{PlainScalar}
 use Rattle.vx_base.specs.PlainType.{same_type}
-use Rattle.vx_array.specs.TreeOf.{sparse_of}
 use Rattle.vx_model.specs.Refusals.{patches_refusal, sparse_refusal}
-use Rattle.vx_model.specs.Tree.{Tree, PlainPatches, patches, sparse}
+use Rattle.vx_model.specs.Tree.{Tree, PlainPatches, patches, sparse, sparse_of}
 use Rattle.vx_model.specs.TreeType.{tree_type}
 use Rattle.vx_sparse_array.specs.Refused.{parts_refusal}
 

@@ -4,11 +4,12 @@ use Rattle.vx_base.specs.declared.dtype.Nullability.TheVariants.{NonNullable}
 use Rattle.vx_base.specs.declared.ptype.PType.TheVariants.{U64}
 use Rattle.vx_base.specs.PlainValue.{whole_or_zero}
 use Rattle.vx_model.specs.Rows.{rows}
-use Rattle.vx_model.specs.Tree.{Tree, PlainPatches, patches, primitive, sparse}
+use Rattle.vx_model.specs.Tree.{Tree, PlainPatches, patches, chunked, primitive, sparse, sparse_chunked}
 
 -- the patches of a tree whose root is a Sparse
 abbrev pub patches_in : Tree → Option PlainPatches
 patches_in (sparse len offset indices values fill) = Some (patches len offset indices values)
+patches_in (sparse_chunked len offset indices values chunks fill) = Some (chunked len offset indices values (Some chunks))
 patches_in t = None
 
 -- the patched rows: `index - offset`

@@ -3,10 +3,9 @@
 ghost use Rattle.std.specs.Prelude.{◌≡◌, None};
 ghost use Rattle.vx_base.specs.Answers.{Makes};
 ghost use Rattle.vx_base.specs.PlainType.{same_type};
-ghost use Rattle.vx_array.specs.TreeOf.{sparse_of};
 ghost use Rattle.vx_sparse_array.specs.Refused.{parts_refusal};
 ghost use Rattle.vx_model.specs.Refusals.{sparse_refusal};
-ghost use Rattle.vx_model.specs.Tree.{sparse};
+ghost use Rattle.vx_model.specs.Tree.{sparse, sparse_of};
 ghost use Rattle.vx_model.specs.TreeType.{tree_type};
 
 use crate::array::SparseArray;

@@ -5,12 +5,11 @@ ghost use Rattle.vx_base.specs.Answers.{Answers, SurelyDecided};
 ghost use Rattle.vx_base.specs.PlainScalar.{PlainScalar};
 ghost use Rattle.vx_base.specs.PlainType.{same_type};
 ghost use Rattle.vx_base.specs.TypeOf.{type_of};
-ghost use Rattle.vx_array.specs.TreeOf.{sparse_of};
 ghost use Rattle.vx_sparse_array.specs.Data.{AreData, data_refusal, fill_text};
 ghost use Rattle.vx_sparse_array.specs.Encoded.{AnswersAs, encoded};
 ghost use Rattle.vx_model.specs.Column.{column_of};
 ghost use Rattle.vx_model.specs.Refusals.{sparse_refusal};
-ghost use Rattle.vx_model.specs.Tree.{PlainPatches};
+ghost use Rattle.vx_model.specs.Tree.{PlainPatches, sparse_of};
 ghost use Rattle.vx_model.specs.TreeType.{tree_type};
 
 use crate::array::SparseArray;

@@ -4,9 +4,10 @@ ghost use Rattle.std.specs.Prelude.{◌≡◌, ◌<◌, ◌^◌, ◌<ℤ◌, pos
 ghost use Rattle.vx_base.specs.declared.ptype.PType.TheVariants.{I64};
 ghost use Rattle.vx_base.specs.Integers.{lies_in};
 ghost use Rattle.vx_time.specs.CanonicalParts.{is_canonical, share_sign};
-ghost use Rattle.vx_time.specs.PartsOf.{parts, sum_of};
+ghost use Rattle.vx_time.specs.PartsOf.{parts, sum_of, units_per_second};
 
 use crate::parts::SECONDS_PER_DAY;
+use vx_base::TimeUnit;
 
 /// Whether the parts are the split of a timestamp of 64 signed bits, in a unit of which `divisor` make a second: no two have
 /// opposite signs, |seconds| < 86,400, |subseconds| < `divisor`, and the sum fits 64 signed bits.
@@ -32,6 +33,13 @@ pub fn sum_of(days: i128, seconds: i128, subseconds: i128, divisor: i64) -> i64
 {
     let divisor = i128::from(divisor);
     (days * (i128::from(SECONDS_PER_DAY) * divisor) + seconds * divisor + subseconds) as i64
+}
+
+/// The units in a second, 0 where the unit is days.
+pub fn units_in_second(unit: TimeUnit) -> i64
+    ensures { result ≡ units_per_second unit }
+{
+    unit.divisor().unwrap_or(0)
 }
 
 // The sum, None where it doesn't fit 64 signed bits. Seconds and subseconds are small enough that a product of the days that

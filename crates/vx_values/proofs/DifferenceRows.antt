@@ -11,7 +11,7 @@ use Rattle.vx_blocks.proofs.Rows.{kept_rows-length, kept_rows_all}
 use Rattle.vx_values.specs.Differences.{difference_bits, packed_differences}
 use Rattle.vx_values.proofs.DifferenceBlocks.{kept-part}
 
-map-part : {X Y : Type 0} (f : X → Y) (s n : ℕ) (xs : List X) → map f (take n (drop s xs)) ≡ take n (drop s (map f xs))
+pub map-part : {X Y : Type 0} (f : X → Y) (s n : ℕ) (xs : List X) → map f (take n (drop s xs)) ≡ take n (drop s (map f xs))
 map-part f s n xs = sym (ap (take n) (drop-map f s xs) ∙ take-map f n (drop s xs))
 
 pub part-long : {X : Type 0} (xs : List X) (s n : ℕ) → s + n ≤ length xs → length (take (s + n - s) (drop s xs)) ≡ n

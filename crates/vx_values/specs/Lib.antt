@@ -1,4 +1,6 @@
 pub mod Codes
+pub mod Combined
 pub mod Differences
+pub mod InBlocks
 pub mod IntsOf
 pub mod ValuesOf

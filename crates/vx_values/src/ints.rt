@@ -88,6 +88,7 @@ macro_rules! ints_of {
 pub(crate) use with_ints;
 
 mod bit_packing;
+mod combining;
 mod converting;
 mod deltas;
 mod dictionary;
@@ -95,8 +96,10 @@ mod difference_blocks;
 mod frame_of_reference;
 mod gathering;
 mod one_value;
+mod reference_blocks;
 mod runs;
 mod sequences;
+mod unpacking_in_blocks;
 mod zeroing;
 mod zig_zag;
 

@@ -4,6 +4,7 @@ use Rattle.std.specs.Prelude.{nat_lt, replicate, ◌&&◌, ◌||◌}
 use Rattle.std.proofs.lemmas.Bool.{lt-ltb}
 use Rattle.vx_base.specs.PlainValue.{null, is_null}
 use Rattle.vx_model.specs.Rows.{rows}
+use Rattle.vx_model.proofs.BlocksLemmas.{any_null-blocks_of}
 use Rattle.vx_model.proofs.BoolLemmas.{any_null-bool}
 use Rattle.vx_model.proofs.DictDecodeLemmas.{any_null-codes, any_null-dict}
 use Rattle.vx_model.proofs.DeltaLemmas.{any_null-delta}
@@ -12,6 +13,7 @@ use Rattle.vx_model.proofs.ListLemmas.{any_null-list}
 use Rattle.vx_model.proofs.NullLemmas.{any_null-primitive}
 use Rattle.vx_model.proofs.SequenceLemmas.{any_null-sequence}
 use Rattle.vx_model.proofs.StructLemmas.{any_null-structure}
+use Rattle.vx_model.specs.Tree.{sparse_of}
 use Rattle.vx_model.specs.TreeType.{tree_type}
 use Rattle.vx_model.proofs.PackedDecodeLemmas.{any_null-frame_of_reference}
 use Rattle.vx_model.proofs.PackedOfLemmas.{any_null-packed_of}
@@ -19,7 +21,8 @@ use Rattle.vx_model.proofs.VarBinLemmas.{any_null-var_bin}
 use Rattle.vx_model.proofs.ViewLemmas.{any_null-var_bin_view}
 use Rattle.vx_model.proofs.ZigZagLemmas.{any_null-zig_zag}
 use Rattle.vx_model.specs.WellFormed.{IsPatches}
-use Rattle.vx_array.specs.TreeOf.{sparse_of}
+use Rattle.vx_model.proofs.DateTimePartsLemmas.{any_null-datetime_parts}
+use Rattle.vx_model.proofs.FrameOfReferenceV2Lemmas.{any_null-frame_of_reference_v2}
 use Rattle.vx_array.proofs.AtNode.{at_node}
 use Rattle.vx_array.proofs.Flat.{dict_flat}
 use Rattle.vx_array.proofs.RunNulls.{any_null-sparse, any_null-run_end, no_null-rle}
@@ -121,6 +124,18 @@ array::ArrayRef::has_null-returns-in-Sequence t c =
     let here = c.in-Sequence in
     rw a.is (sym (any_null-sequence here.field-0 here.field-1 here.field-2 here.field-3 here.field-4))
 
+pub array::ArrayRef::has_null-returns-in-DateTimeParts : goal.array::ArrayRef::has_null-returns-in-DateTimeParts
+array::ArrayRef::has_null-returns-in-DateTimeParts t c =
+    let here = c.in-DateTimeParts in
+    let a = at_node c.self.view_is c.self.invariant here.is in
+    rw a.is (c.has_null-in-DateTimeParts.ensures ∙ ap (λ t. list_any is_null (rows t)) c.deref-in-DateTimeParts.ensures ∙ sym (any_null-datetime_parts here.field-0 here.field-1 here.days.array.value here.field-3.array.value here.field-4.array.value))
+
+pub array::ArrayRef::has_null-returns-in-FoRV2 : goal.array::ArrayRef::has_null-returns-in-FoRV2
+array::ArrayRef::has_null-returns-in-FoRV2 t c =
+    let here = c.in-FoRV2 in
+    let a = at_node c.self.view_is c.self.invariant here.is in
+    rw a.is (c.has_null-in-FoRV2.ensures ∙ ap (λ t. list_any is_null (rows t)) c.deref-in-FoRV2.ensures ∙ sym (any_null-frame_of_reference_v2 here.encoded.array.value here.field-1.array.value))
+
 pub array::ArrayRef::has_null-returns-in-Delta : goal.array::ArrayRef::has_null-returns-in-Delta
 array::ArrayRef::has_null-returns-in-Delta t c =
     let a = at_node c.self.view_is c.self.invariant c.in-Delta.is in
@@ -159,3 +174,8 @@ node::sparse::sparse_has_null-returns-else-is_null t c =
     let none = ap (λ q. list_any is_null (rows q.values)) (sym c.patches.view_is) ∙ sym c.has_null.ensures ∙ c.if-has_null.false in
     let fill_some = sym c.is_null.ensures ∙ c.if-is_null.false in
     c.if-is_null.false ∙ sym (any_null-sparse p fill held ∙ (λ i. none i || (fill_some i && nat_lt 0 (p.array_len - length (rows p.values)))))
+
+pub array::ArrayRef::has_null-returns-in-BitPackedV2 : goal.array::ArrayRef::has_null-returns-in-BitPackedV2
+array::ArrayRef::has_null-returns-in-BitPackedV2 t c =
+    let a = at_node c.self.view_is c.self.invariant c.in-BitPackedV2.is in
+    rw a.is (c.is_some-in-BitPackedV2.ensures ∙ sym (any_null-blocks_of _ _ _ a.well_formed))

@@ -98,7 +98,7 @@ pub array::ArrayRef::is_default_at-returns-in_default :
     goal.array::ArrayRef::is_default_at-returns-in_default
 array::ArrayRef::is_default_at-returns-in_default t c =
     let never : is_nullable (tree_type c.args.self.now) ≡ false = sym (c.is_nullable.ensures ∙ ap is_nullable c.dtype.ensures) ∙ c.if-is_nullable.false in
-    let flat = flat_other c.self.inside.node c.self.invariant.well_formed c.in_default.not-Constant c.in_default.not-Null c.in_default.not-Struct c.in_default.not-List c.in_default.not-FixedSizeList c.in_default.not-Sparse in
+    let flat = flat_other c.self.inside.node c.self.invariant.0.well_formed c.in_default.not-Constant c.in_default.not-Null c.in_default.not-Struct c.in_default.not-List c.in_default.not-FixedSizeList c.in_default.not-Sparse in
     let own = ap (λ tree. is_flat (tree_type tree)) (sym c.self.view_is) ∙ flat in
     let fit = row_fits c.args.self.now c.args.row c.known.ensures c.requires.in_range in
     rw (c.is_zero.ensures, c.cell_at.ensures) (flat-default (tree_type c.args.self.now) (row_at (rows c.args.self.now) c.args.row) own never fit)
@@ -131,5 +131,5 @@ arrays::Arrays::are_default_at-is_default_at-requires t c =
 -- a node that has none of these roots is of a flat type
 pub array::ArrayRef::is_default_at-cell_at-requires : goal.array::ArrayRef::is_default_at-cell_at-requires
 array::ArrayRef::is_default_at-cell_at-requires t c =
-    let flat = flat_other c.self.inside.node c.self.invariant.well_formed c.in_default.not-Constant c.in_default.not-Null c.in_default.not-Struct c.in_default.not-List c.in_default.not-FixedSizeList c.in_default.not-Sparse in
+    let flat = flat_other c.self.inside.node c.self.invariant.0.well_formed c.in_default.not-Constant c.in_default.not-Null c.in_default.not-Struct c.in_default.not-List c.in_default.not-FixedSizeList c.in_default.not-Sparse in
     record { flat = ap (λ tree. is_flat (tree_type tree)) (sym c.self.view_is) ∙ flat; in_range = c.requires.in_range }

@@ -7,7 +7,7 @@ use Rattle.vx_model.specs.TreeType.{tree_type}
 use Rattle.vx_model.proofs.FixedSizeListLemmas.{length-fixed_size_list, row_at-fixed_size_list}
 use Rattle.vx_model.proofs.ListLemmas.{length-list, row_at-list}
 use Rattle.vx_model.proofs.PatchedLemmas.{patched-place, patched-fill}
-use Rattle.vx_model.proofs.SparseLemmas.{length-sparse, row_at-sparse}
+use Rattle.vx_model.proofs.SparseLemmas.{length-sparse_of, row_at-sparse_of}
 use Rattle.vx_model.proofs.StructLemmas.{length-structure, row_at-structure}
 use Rattle.vx_array.proofs.AtNode.{at_node}
 use Rattle.vx_array.proofs.DefaultLemmas.{flat_other, null-where}
@@ -15,7 +15,7 @@ use Rattle.vx_array.proofs.+is_null_at.Goals as goal
 
 pub array::ArrayRef::is_null_at-cell_at-requires : goal.array::ArrayRef::is_null_at-cell_at-requires
 array::ArrayRef::is_null_at-cell_at-requires t c =
-    let flat = flat_other c.self.inside.node c.self.invariant.well_formed c.in_default.not-Constant c.in_default.not-Null c.in_default.not-Struct c.in_default.not-List c.in_default.not-FixedSizeList c.in_default.not-Sparse in
+    let flat = flat_other c.self.inside.node c.self.invariant.0.well_formed c.in_default.not-Constant c.in_default.not-Null c.in_default.not-Struct c.in_default.not-List c.in_default.not-FixedSizeList c.in_default.not-Sparse in
     record { flat = ap (λ tree. is_flat (tree_type tree)) (sym c.self.view_is) ∙ flat; in_range = c.requires }
 
 pub array::ArrayRef::is_null_at-returns-in-Struct : goal.array::ArrayRef::is_null_at-returns-in-Struct
@@ -46,7 +46,7 @@ pub array::ArrayRef::is_null_at-sparse_is_null_at-requires : goal.array::ArrayRe
 array::ArrayRef::is_null_at-sparse_is_null_at-requires t c =
     let a = at_node c.self.view_is c.self.invariant c.in-Sparse.is in
     let p = c.in-Sparse.patches.value in
-    let l = length-sparse p.array_len p.offset p.indices p.values c.in-Sparse.fill in
+    let l = length-sparse_of p c.in-Sparse.fill in
     let within : c.args.row < p.array_len = omega (arith, l, rw a.is at c.requires) in
     (search rules, rw c.deref.ensures within)
 
@@ -54,9 +54,9 @@ pub array::ArrayRef::is_null_at-returns-in-Sparse : goal.array::ArrayRef::is_nul
 array::ArrayRef::is_null_at-returns-in-Sparse t c =
     let a = at_node c.self.view_is c.self.invariant c.in-Sparse.is in
     let p = c.in-Sparse.patches.value in
-    let l = length-sparse p.array_len p.offset p.indices p.values c.in-Sparse.fill in
+    let l = length-sparse_of p c.in-Sparse.fill in
     let within : c.args.row < p.array_len = omega (arith, l, rw a.is at c.requires) in
-    rw a.is (rw c.deref.ensures at c.sparse_is_null_at.ensures ∙ sym (ap is_null (row_at-sparse p.array_len p.offset p.indices p.values c.in-Sparse.fill c.args.row within)))
+    rw a.is (rw c.deref.ensures at c.sparse_is_null_at.ensures ∙ sym (ap is_null (row_at-sparse_of p c.in-Sparse.fill c.args.row within)))
 
 -- ---- a fill and patches
 

@@ -15,9 +15,10 @@ use Rattle.vx_model.proofs.FixedSizeListLemmas.{length-fixed_size_list, row_at-f
 use Rattle.vx_model.proofs.ListLemmas.{length-list, row_at-list}
 use Rattle.vx_model.proofs.OffsetLemmas.{offset_step}
 use Rattle.vx_model.proofs.PatchedLemmas.{patched-place, patched-fill}
-use Rattle.vx_model.proofs.SparseLemmas.{length-sparse, row_at-sparse}
+use Rattle.vx_model.proofs.SparseLemmas.{length-sparse_of, row_at-sparse_of}
 use Rattle.vx_model.proofs.StructLemmas.{length-structure, row_at-structure}
 use Rattle.vx_model.proofs.TreesLemmas.{list_of-of_list, item_falls_at}
+use Rattle.vx_array.specs.TreeFalls.{sparse-depth}
 use Rattle.vx_array.proofs.AtNode.{at_node}
 use Rattle.vx_array.proofs.ValueAt.{between_next, sized-within, passes_at, in_rows, no_other}
 use Rattle.vx_array.proofs.+value_at.Goals as goal
@@ -27,7 +28,7 @@ use Rattle.vx_array.proofs.+value_at.Goals as goal
 pub array::ArrayRef::value_at-unreachable-requires : goal.array::ArrayRef::value_at-unreachable-requires
 array::ArrayRef::value_at-unreachable-requires t c =
     let flat : is_flat (tree_type c.args.self.now) ≡ false = sym (c.is_flat.ensures ∙ ap is_flat c.dtype.ensures) ∙ c.if-is_flat.false in
-    no_other c.self.inside.node c.self.invariant.well_formed (ap (λ tree. is_flat (tree_type tree)) c.self.view_is ∙ flat)
+    no_other c.self.inside.node c.self.invariant.0.well_formed (ap (λ tree. is_flat (tree_type tree)) c.self.view_is ∙ flat)
     c.in_default.not-Constant c.in_default.not-Null c.in_default.not-Struct c.in_default.not-List c.in_default.not-FixedSizeList c.in_default.not-Sparse
 
 pub array::ArrayRef::value_at-struct_at-requires : goal.array::ArrayRef::value_at-struct_at-requires
@@ -127,17 +128,17 @@ pub array::ArrayRef::value_at-sparse_value_at-requires : goal.array::ArrayRef::v
 array::ArrayRef::value_at-sparse_value_at-requires t c =
     let a = at_node c.self.view_is c.self.invariant c.in-Sparse.is in
     let p = c.in-Sparse.patches.value in
-    let l = length-sparse p.array_len p.offset p.indices p.values c.in-Sparse.fill in
+    let l = length-sparse_of p c.in-Sparse.fill in
     let within : c.args.row < p.array_len = omega (arith, l, rw a.is at c.requires.in_range) in
-    (omega (arith, ap node_count a.is, ap patches_count c.deref-in-Sparse.ensures), rw c.deref-in-Sparse.ensures within)
+    (omega (arith, ap node_count a.is, ap patches_count c.deref-in-Sparse.ensures, sparse-depth p c.in-Sparse.fill), rw c.deref-in-Sparse.ensures within)
 
 pub array::ArrayRef::value_at-returns-in-Sparse : goal.array::ArrayRef::value_at-returns-in-Sparse
 array::ArrayRef::value_at-returns-in-Sparse t c =
     let a = at_node c.self.view_is c.self.invariant c.in-Sparse.is in
     let p = c.in-Sparse.patches.value in
-    let l = length-sparse p.array_len p.offset p.indices p.values c.in-Sparse.fill in
+    let l = length-sparse_of p c.in-Sparse.fill in
     let within : c.args.row < p.array_len = omega (arith, l, rw a.is at c.requires.in_range) in
-    let own = ap (λ tree. row_at (rows tree) c.args.row) a.is ∙ row_at-sparse p.array_len p.offset p.indices p.values c.in-Sparse.fill c.args.row within in
+    let own = ap (λ tree. row_at (rows tree) c.args.row) a.is ∙ row_at-sparse_of p c.in-Sparse.fill c.args.row within in
     let read = ap (λ q. patched (rows q.indices) (rows q.values) c.in-Sparse.fill.value (q.offset + c.args.row)) c.deref-in-Sparse.ensures in
     subst (λ v. OrMemory c.sparse_value_at.result (λ value. value_of value ≡ v)) (read ∙ sym own) c.sparse_value_at.ensures
 

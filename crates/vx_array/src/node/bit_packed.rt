@@ -1,6 +1,6 @@
 //! Bit-packed integers, with patches for the values that are wider.
 
-ghost use Rattle.std.specs.Prelude.{◌≡◌, length, true, MatchResult, IfSome, IsTrue, map, nat_le, pos, ◌≤◌, ◌+◌, ◌-◌, ◌^◌, min, option_map, unwrap_or, if◌then◌else◌};
+ghost use Rattle.std.specs.Prelude.{◌≡◌, ℕ, List, length, true, None, MatchResult, IfSome, IsTrue, map, nat_le, pos, ◌≤◌, ◌+◌, ◌-◌, ◌^◌, min, option_map, unwrap_or, if◌then◌else◌};
 ghost use Rattle.vx_array.specs.TreeOf.{unboxed, tree_of};
 ghost use Rattle.vx_base.specs.Answers.{Makes, OrMemory};
 ghost use Rattle.vx_base.specs.CellValue.{cell_value};
@@ -8,13 +8,13 @@ ghost use Rattle.vx_base.specs.Integers.{natural_bits};
 ghost use Rattle.vx_base.specs.Packed.{packed_row, packed_size};
 ghost use Rattle.vx_base.specs.PlainType.{is_flat};
 ghost use Rattle.vx_base.specs.PlainType as types;
-ghost use Rattle.vx_base.specs.PlainValue.{int, whole_or_zero, null};
+ghost use Rattle.vx_base.specs.PlainValue.{PlainValue, int, whole_or_zero, null};
 ghost use Rattle.vx_base.specs.declared.dtype.Nullability.TheVariants.{NonNullable};
 ghost use Rattle.vx_model.specs.Decoded.{zeroed_by};
 ghost use Rattle.vx_model.specs.Refusals.{bit_packed_refusal, kept_packed, validity_length, patches_of_type, patches_length};
-ghost use Rattle.vx_model.specs.Rows.{below, is_valid_at, packed_at, packed_or_patch};
+ghost use Rattle.vx_model.specs.Rows.{below, block_or_patch, is_valid_at, packed_at, packed_in_block, packed_or_patch};
 ghost use Rattle.vx_model.specs.Size.{patches_size, validity_size};
-ghost use Rattle.vx_model.specs.Tree.{PlainPacked, plain_packed, packed_of};
+ghost use Rattle.vx_model.specs.Tree.{PlainBlocks, PlainPacked, Tree, blocks_of, plain_packed, packed_of};
 ghost use Rattle.vx_model.specs.TreeType.{tree_type};
 ghost use Rattle.vx_model.specs.WellFormed.{WellFormedPatches};
 ghost use Rattle.vx_values.specs.IntsOf.{ptype_of, wholes_of};
@@ -33,7 +33,8 @@ use vx_values::{
 
 impl ArrayRef {
     /// Integers of `width` bits each, null where `valid` is false; in a patched row the patch's value. The bytes are those
-    /// of whole blocks of 1,024 rows. Children 0 and 1: the patches' indices and values, where there are patches.
+    /// of whole blocks of 1,024 rows. Children 0 and 1: the patches' indices and values, where there are patches. Chunk
+    /// offsets of the patches are dropped.
     ///
     /// Refuses MismatchedTypes where the patches' values aren't non-nullable integers of the type; then LengthMismatch
     /// where the bytes, the mask or the patches are of another number of rows; then OutOfBounds where the width is above
@@ -61,7 +62,15 @@ impl ArrayRef {
         known_patches(&patches);
         match boxed(alloc, patches) {
             Ok(patches) => Ok(ArrayRef {
-                node: Node::BitPacked(ptype, width, packed, len, keep(valid), patches, nullability),
+                node: Node::BitPacked(
+                    ptype,
+                    width,
+                    packed,
+                    len,
+                    keep(valid),
+                    without_chunks(patches),
+                    nullability,
+                ),
                 own_type: Some(DType::primitive(ptype, nullability)),
                 len,
             }),
@@ -102,7 +111,7 @@ fn refusal(
 }
 
 // Whether the patches, if any, have values of the type.
-fn has_values_of(patches: &Option<Patches>, ptype: PType) -> bool
+pub(super) fn has_values_of(patches: &Option<Patches>, ptype: PType) -> bool
     ensures { result ≡ patches_of_type ptype patches.now }
 {
     match patches {
@@ -114,7 +123,7 @@ fn has_values_of(patches: &Option<Patches>, ptype: PType) -> bool
 }
 
 // Whether the patches, if any, are of an array of this length.
-fn is_of_length(patches: &Option<Patches>, len: u64) -> bool
+pub(super) fn is_of_length(patches: &Option<Patches>, len: u64) -> bool
     ensures { result ≡ patches_length len patches.now }
 {
     match patches {
@@ -124,7 +133,10 @@ fn is_of_length(patches: &Option<Patches>, len: u64) -> bool
 }
 
 // The patches, if any, in a box; handed back where memory is wanting.
-fn boxed(alloc: Global, patches: Option<Patches>) -> Result<Option<Box<Patches>>, Option<Patches>>
+pub(super) fn boxed(
+    alloc: Global,
+    patches: Option<Patches>,
+) -> Result<Option<Box<Patches>>, Option<Patches>>
     ensures { MatchResult result (λ boxed. unboxed boxed ≡ patches) (λ back. back ≡ patches) }
 {
     match patches {
@@ -136,8 +148,23 @@ fn boxed(alloc: Global, patches: Option<Patches>) -> Result<Option<Box<Patches>>
     }
 }
 
+// The patches, if any, without chunk offsets, which packed integers don't keep.
+pub(crate) fn without_chunks(patches: Option<Box<Patches>>) -> Option<Box<Patches>>
+    ensures same { (k : PlainPacked) → packed_of k (unboxed result) ≡ packed_of k (unboxed patches) }
+    ensures same_blocks { (k : PlainBlocks) (offsets : Tree) → blocks_of k offsets (unboxed result) ≡ blocks_of k offsets (unboxed patches) }
+    ensures none { IfSome (unboxed result) (λ p. p.chunks ≡ None) }
+{
+    match patches {
+        Some(mut patches) => {
+            patches.drop_chunks();
+            Some(patches)
+        }
+        None => None,
+    }
+}
+
 // Tells a proof that the patches, if any, are well formed.
-fn known_patches(patches: &Option<Patches>)
+pub(super) fn known_patches(patches: &Option<Patches>)
     ensures { IfSome patches.now WellFormedPatches }
 {
     if let Some(patches) = patches {
@@ -147,9 +174,10 @@ fn known_patches(patches: &Option<Patches>)
 
 // The patch of a row, None where the row has none.
 #[cycle(cell_at)]
-fn patch_at(patches: &Option<Box<Patches>>, row: u64) -> Option<Cell<'_>>
+pub(super) fn patch_at(patches: &Option<Box<Patches>>, row: u64) -> Option<Cell<'_>>
     requires { IfSome (unboxed patches.now) (λ p. IsTrue (is_flat (tree_type p.values))) }
-    ensures { (k : PlainPacked) → unwrap_or (option_map cell_value result) (packed_at k row) ≡ packed_or_patch k (unboxed patches.now) row }
+    ensures packed { (k : PlainPacked) → unwrap_or (option_map cell_value result) (packed_at k row) ≡ packed_or_patch k (unboxed patches.now) row }
+    ensures in_block { (bs : List ℕ) (offsets : List PlainValue) → unwrap_or (option_map cell_value result) (packed_in_block bs offsets row) ≡ block_or_patch bs offsets (unboxed patches.now) row }
 {
     match patches {
         Some(patches) => patches.cell_at(row),
@@ -182,7 +210,7 @@ pub(crate) fn unpacked_at<'a>(
 
 // The bytes of the patches, if any. Saturates at 2^128 - 1.
 #[cycle(nbytes)]
-fn patches_bytes(patches: &Option<Box<Patches>>) -> u128
+pub(super) fn patches_bytes(patches: &Option<Box<Patches>>) -> u128
     ensures { result ≡ min (patches_size (unboxed patches.now)) (2 ^ 128 - 1) }
 {
     match patches {
@@ -207,7 +235,7 @@ pub(crate) fn packed_bytes(
 
 // A deep copy of the patches, if any.
 #[cycle(copy)]
-fn copied_patches(
+pub(super) fn copied_patches(
     alloc: Global,
     patches: &Option<Box<Patches>>,
 ) -> VortexResult<Option<Box<Patches>>>
@@ -240,7 +268,7 @@ pub(crate) fn copied_packed(
 }
 
 // The integers, each patched row with its patch's value.
-fn written(values: Ints, patches: &Option<Box<Patches>>) -> Ints
+pub(super) fn written(values: Ints, patches: &Option<Box<Patches>>) -> Ints
     requires integers { IfSome (unboxed patches.now) (λ p. tree_type p.values ≡ types.primitive (ptype_of values) NonNullable) }
     requires rows { IfSome (unboxed patches.now) (λ p. length (wholes_of values) ≡ p.array_len) }
     ensures ptype { ptype_of result ≡ ptype_of values }

@@ -126,7 +126,7 @@ pub(crate) fn fill_blocks(blocks: u64) -> u128
 }
 
 // The three in boxes; handed back where memory is wanting.
-fn three_boxed(
+pub(crate) fn three_boxed(
     alloc: Global,
     values: ArrayRef,
     indices: ArrayRef,

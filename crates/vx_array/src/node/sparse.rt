@@ -2,7 +2,7 @@
 
 ghost use Rattle.std.specs.List.{list_any};
 ghost use Rattle.std.specs.Prelude.{◌≡◌, ◌<◌, ◌+◌, ◌-◌, ◌^◌, IsTrue, min};
-ghost use Rattle.vx_array.specs.TreeOf.{sparse_of, tree_of};
+ghost use Rattle.vx_array.specs.TreeOf.{tree_of};
 ghost use Rattle.vx_base.specs.Answers.{Makes, OrMemory};
 ghost use Rattle.vx_base.specs.CellValue.{cell_value};
 ghost use Rattle.vx_base.specs.PlainType.{is_flat};
@@ -10,7 +10,8 @@ ghost use Rattle.vx_base.specs.PlainValue.{is_null};
 ghost use Rattle.vx_base.specs.TypeOf.{value_of};
 ghost use Rattle.vx_model.specs.Refusals.{sparse_refusal};
 ghost use Rattle.vx_model.specs.Rows.{rows, patched};
-ghost use Rattle.vx_model.specs.Size.{size, payload};
+ghost use Rattle.vx_model.specs.Size.{chunks_size, size, payload};
+ghost use Rattle.vx_model.specs.Tree.{sparse_of};
 ghost use Rattle.vx_model.specs.TreeType.{tree_type};
 
 use crate::array::{ArrayRef, Node, Patches};
@@ -21,7 +22,8 @@ use vx_flat::constant_bytes;
 
 impl ArrayRef {
     /// The patches' values in their rows, and `fill` in every other row. Child 0: the patches' indices; child 1: their
-    /// values. The type is the fill's. Refuses MismatchedTypes where the patches' values are of another type.
+    /// values; child 2: their chunk offsets, where there are any. The type is the fill's. Refuses MismatchedTypes where the
+    /// patches' values are of another type.
     #[tactic(auto, using(crate::proofs::Runs::sparse_array))]
     pub fn sparse(alloc: Global, patches: Patches, fill: Scalar) -> Made<(Patches, Scalar)>
         ensures { Makes (sparse_refusal patches fill) (sparse_of patches fill) (patches, fill) result }
@@ -113,9 +115,10 @@ pub(crate) fn sparse_value_at(
 // The bytes of the node: the fill's as of a constant, and the patches'. Saturates at 2^128 - 1.
 #[cycle(nbytes)]
 pub(crate) fn sparse_bytes(patches: &Patches, fill: &Scalar) -> u128
-    ensures { result ≡ min (size patches.now.indices + size patches.now.values + (1 + payload fill.now.dtype fill.now.value)) (2 ^ 128 - 1) }
+    ensures { result ≡ min (size patches.now.indices + size patches.now.values + chunks_size patches.now.chunks + (1 + payload fill.now.dtype fill.now.value)) (2 ^ 128 - 1) }
 {
-    patches.nbytes().saturating_add(constant_bytes(fill))
+    let inside = patches.nbytes().saturating_add(patches.chunks_bytes());
+    inside.saturating_add(constant_bytes(fill))
 }
 
 // A deep copy of the node.

@@ -1,14 +1,18 @@
 //! The line of a node.
 
 ghost use Rattle.std.specs.Prelude.{◌≡◌, ◌++◌, OnOk, string_bytes, codes};
+ghost use Rattle.vx_base.specs.Packed.{block_count};
 ghost use Rattle.vx_base.specs.TypeText.{value_text};
-ghost use Rattle.vx_model.specs.Tree.{PlainPacked, packed_of};
-ghost use Rattle.vx_array.specs.TreeOf.{sparse_of, tree_of, unboxed};
-ghost use Rattle.vx_document.specs.Listing.{packed_numbers, own_numbers, heading, line};
+ghost use Rattle.vx_model.specs.Tree.{PlainBlocks, PlainPacked, Tree, blocks_of, packed_of, sparse_of};
+ghost use Rattle.vx_array.specs.TreeOf.{tree_of, unboxed};
+ghost use Rattle.vx_document.specs.Listing.{block_numbers, packed_numbers, own_numbers, heading, line};
 
 use std::alloc::{AllocError, Global};
 use vx_array::{ArrayRef, Node, Patches};
 use vx_base::Scalar;
+
+// The rows of a block of packed integers.
+const BLOCK_ROWS: u64 = 1_024;
 
 // Appends ` name=value`, the value of a scalar as compact JSON.
 fn push_named(
@@ -30,7 +34,8 @@ fn push_named(
 
 // The number of patches, 0 where there are none.
 fn patch_count(patches: &Option<Box<Patches>>) -> u64
-    ensures { (k : PlainPacked) → own_numbers (packed_of k (unboxed patches.now)) ≡ packed_numbers k.width result }
+    ensures packed { (k : PlainPacked) → own_numbers (packed_of k (unboxed patches.now)) ≡ packed_numbers k.width result }
+    ensures blocks { (k : PlainBlocks) (offsets : Tree) → own_numbers (blocks_of k offsets (unboxed patches.now)) ≡ block_numbers (block_count k.len) result }
 {
     match patches {
         Some(patches) => patches.num_patches(),
@@ -56,6 +61,21 @@ fn push_patched(
     Ok(())
 }
 
+// Appends the number of blocks of packed rows, and the number of patches.
+fn push_blocks(
+    text: &mut String,
+    len: u64,
+    patches: &Option<Box<Patches>>,
+) -> Result<(), AllocError>
+    ensures { OnOk result ((k : PlainBlocks) (offsets : Tree) → k.len ≡ len → string_bytes text.new
+        ≡ string_bytes text.old ++ own_numbers (blocks_of k offsets (unboxed patches.now))) }
+{
+    let blocks = len.div_ceil(BLOCK_ROWS);
+    let count = patch_count(patches);
+    write!(text, " blocks={blocks} patches={count}")?;
+    Ok(())
+}
+
 // Appends the numbers that the encoding has beside those of every node.
 fn push_own_numbers(alloc: Global, text: &mut String, node: &Node) -> Result<(), AllocError>
     ensures { OnOk result (string_bytes text.new
@@ -69,6 +89,7 @@ fn push_own_numbers(alloc: Global, text: &mut String, node: &Node) -> Result<(),
             write!(text, " width={width} patches={count}")?;
             Ok(())
         }
+        Node::BitPackedV2(_, _, _, len, _, patches, _) => push_blocks(text, *len, patches),
         Node::FixedSizeList(_, list_size, _, _, _) => {
             write!(text, " list_size={list_size}")?;
             Ok(())
@@ -83,6 +104,7 @@ fn push_own_numbers(alloc: Global, text: &mut String, node: &Node) -> Result<(),
         Node::ZigZag(_) | Node::Dict(_, _) | Node::Null(_) => Ok(()),
         Node::Struct(_, _, _, _, _) | Node::List(_, _, _, _) => Ok(()),
         Node::RunEnd(_, _) | Node::Rle(_, _, _, _) | Node::Delta(_, _, _, _, _) => Ok(()),
+        Node::DateTimeParts(_, _, _, _, _) | Node::FoRV2(_, _) => Ok(()),
     }
 }
 

@@ -1,6 +1,6 @@
--- Compressed patches have the rows and the values of those that they were made of, and are well formed.
+-- Compressed patches have the rows, values and chunk offsets of those that they were made of, and are well formed.
 use Rattle.std.proofs.Common.{◌≡◌, ◌<◌, ◌≤◌, ◌+◌, ◌^◌, ◌∙◌, ℕ, zero, suc, ℤ, pos, Bool, true, false, List, [], ◌∷◌, length, map, Option, Some, None, cond, refl, sym, ap, subst, arith}
-use Rattle.std.specs.Prelude.{nat_lt, slice_index_or, replicate}
+use Rattle.std.specs.Prelude.{nat_lt, slice_index_or, replicate, option_map}
 use Rattle.std.specs.List.{list_all}
 use Rattle.std.proofs.lemmas.Bool.{and_from, and_parts, ltb-true, lt-ltb}
 use Rattle.vx_base.specs.declared.ptype.PType.{PType}
@@ -15,13 +15,14 @@ use Rattle.vx_model.specs.Column.{Column, IsColumn, column, column_of}
 use Rattle.vx_model.specs.Rows.{rows}
 use Rattle.vx_model.specs.Tree.{Tree, PlainPatches}
 use Rattle.vx_model.specs.TreeType.{tree_type}
-use Rattle.vx_model.specs.WellFormed.{WellFormed, IsPatches, ascend, WellFormedPatches}
+use Rattle.vx_model.specs.WellFormed.{WellFormed, IsPatches, ascend, are_chunk_offsets, WellFormedChunks, WellFormedPatches}
 use Rattle.vx_model.proofs.FewLemmas.{few-flat}
 use Rattle.vx_model.proofs.MadeLemmas.{rows_fit, primitive_made, constant_made}
 use Rattle.vx_schemes_common.specs.Narrowed.{index_type}
 use Rattle.vx_schemes_common.specs.NarrowedLaws.{index_type-holds}
-use Rattle.vx_schemes_common.specs.Rising.{rows_below, ascend-words, ascend-whole}
+use Rattle.vx_schemes_common.specs.Rising.{rows_below, ascend-whole, fit_all}
 use Rattle.vx_schemes.specs.Patches.Compressed.{shared_value, narrowed, shared_or_plain, constant_or_plain, compressed_patches, PatchAlike}
+use Rattle.vx_schemes.specs.Patches.Words.{words-whole, indices-rising, chunks-rising}
 use Rattle.vx_model.proofs.PackedLemmas.{patches_accepted}
 use Rattle.vx_model.proofs.PlainLemmas.{rows-plain_of, plain_well_formed, wholes_lie_in}
 use Rattle.vx_schemes.specs.BitPacking.Tree.{patches_at}
@@ -73,7 +74,12 @@ short_alike p h =
       offset = refl;
       indices = rows-narrowed p.indices p.offset (p.offset + p.array_len) h.2.ascending;
       values = λ i. column (type-constant_or_plain (column_of p.values) i) (rows-constant_or_plain (column_of p.values) (rows_fit p.values h.1) i);
+      chunks = by_chunks p.chunks refl;
     }
+  where
+    by_chunks : (o : Option Tree) → p.chunks ≡ o → option_map rows (option_map narrowed o) ≡ option_map rows o
+    by_chunks None e = refl
+    by_chunks (Some chunks) e = let rising = chunks-rising p chunks e h in ap Some (words-whole (rows chunks) rising.words)
 
 -- ---- well formed
 
@@ -84,9 +90,9 @@ constant_or_plain-well c flat h = by_value (shared_value c.values) refl
     by_value None e = plain_well_formed c h (few-flat c.dtype c.values flat)
     by_value (Some v) e = constant_made (scalar c.dtype v) (length c.values) (shared-fits c.dtype c.values v h e)
 
-narrowed-well : (t : Tree) (low high : ℕ) → ascend low high (rows t) ≡ true → WellFormed t → WellFormed (narrowed t)
-narrowed-well t low high a w =
-    primitive_made (index_type (rows t)) (map whole_or_zero (rows t)) None NonNullable refl refl (wholes_lie_in (index_type (rows t)) NonNullable (rows t) (index_type-holds (rows t) (ascend-words (tree_type t) low high (rows t) a (rows_fit t w))))
+narrowed-well : (t : Tree) → fit_all U64 (rows t) ≡ true → WellFormed (narrowed t)
+narrowed-well t words =
+    primitive_made (index_type (rows t)) (map whole_or_zero (rows t)) None NonNullable refl refl (wholes_lie_in (index_type (rows t)) NonNullable (rows t) (index_type-holds (rows t) words))
 
 pub short_patches : (p : PlainPatches) → WellFormedPatches p → IsPatches p.array_len p.offset (narrowed p.indices) (constant_or_plain (column_of p.values))
 short_patches p h =
@@ -101,10 +107,22 @@ short_patches p h =
       ascending = ap (ascend low high) is ∙ h.2.ascending;
     }
 
+pub short_chunks : (p : PlainPatches) → WellFormedPatches p → WellFormedChunks p.array_len p.offset (narrowed p.indices) (option_map narrowed p.chunks)
+short_chunks p h = by_chunks p.chunks refl h.3
+  where
+    by_chunks : (o : Option Tree) → p.chunks ≡ o → WellFormedChunks p.array_len p.offset p.indices o → WellFormedChunks p.array_len p.offset (narrowed p.indices) (option_map narrowed o)
+    by_chunks None e w = tt
+    by_chunks (Some chunks) e w =
+        let rising = chunks-rising p chunks e h in
+        let is = rows-narrowed p.indices p.offset (p.offset + p.array_len) h.2.ascending in
+        let os = words-whole (rows chunks) rising.words in
+        let own = w.1 in
+        (narrowed-well chunks rising.words, record { chunks_type = refl; lengths = ap length os ∙ own.lengths; counted = (λ i. are_chunk_offsets (is i) (os i)) ∙ own.counted })
+
 -- where the values are flat
 pub short_well : (p : PlainPatches) → is_flat (tree_type p.values) ≡ true → WellFormedPatches p → WellFormedPatches (compressed_patches p)
 short_well p flat h =
-    (narrowed-well p.indices p.offset (p.offset + p.array_len) h.2.ascending h.0, constant_or_plain-well (column_of p.values) flat (rows_fit p.values h.1), short_patches p h)
+    (narrowed-well p.indices (indices-rising p h).words, constant_or_plain-well (column_of p.values) flat (rows_fit p.values h.1), short_patches p h, short_chunks p h)
 
 -- ---- the patches at some rows
 
@@ -137,4 +155,4 @@ pub patches_at-well : (p : PType) (xs : List ℤ) (chosen : List ℕ) → length
 patches_at-well p xs chosen few held a =
     let below = rows_below 0 (length xs) chosen a in
     patches_accepted (patches_at p xs chosen) (patches_admitted p xs chosen a) (primitive_made U64 (map pos chosen) None NonNullable refl refl (row_words (length xs) chosen few below))
-    (gathered-well p xs chosen held a)
+    (gathered-well p xs chosen held a) tt

@@ -29,12 +29,12 @@ use Rattle.vx_blocks.proofs.DeltaRows.{length-filled_after}
 use Rattle.vx_blocks.proofs.DeltasBack.{gives_back_deltas}
 use Rattle.vx_model.specs.Column.{Column, IsColumn, column, column_of}
 use Rattle.vx_model.specs.Plain.{validity, valid_bits}
-use Rattle.vx_model.specs.Refusals.{delta_refusal, is_whole_type, validity_length, validity_allowed}
+use Rattle.vx_model.specs.Refusals.{delta_refusal, validity_length, validity_allowed}
 use Rattle.vx_model.specs.Rows.{rows, valid_rows, is_valid_at, summed_up, block_rows}
 use Rattle.vx_model.specs.Tree as trees
 use Rattle.vx_model.specs.Tree.{Tree}
 use Rattle.vx_model.specs.TreeType.{tree_type}
-use Rattle.vx_model.specs.WellFormed.{WellFormed}
+use Rattle.vx_model.specs.WellFormed.{WellFormed, is_whole_type}
 use Rattle.vx_model.proofs.DecodeLemmas.{wholes-map-int, kept-validity, items_admitted, length-valid_bits}
 use Rattle.vx_model.proofs.DeltaLemmas.{delta_accepted, length-delta, row_at-delta}
 use Rattle.vx_model.proofs.MadeLemmas.{ints_fit}

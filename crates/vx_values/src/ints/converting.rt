@@ -39,7 +39,7 @@ impl Ints {
     }
 
     // The integers as words of 64 bits.
-    fn words(&self, alloc: Global) -> VortexResult<IntList<u64>>
+    pub(super) fn words(&self, alloc: Global) -> VortexResult<IntList<u64>>
         requires { IsTrue (list_all (lies_in U64) (wholes_of self.now)) }
         ensures { OrMemory result (λ words. map pos words ≡ wholes_of self.now) }
     {

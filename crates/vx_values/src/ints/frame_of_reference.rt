@@ -127,7 +127,7 @@ fn summed_with<T: Integer, D: Integer>(reference: T, difference: D) -> T
 }
 
 // The sum with each difference, written to a slice.
-fn write_sums<T: Integer, D: Integer>(reference: T, differences: &[D], items: &mut [T])
+pub(super) fn write_sums<T: Integer, D: Integer>(reference: T, differences: &[D], items: &mut [T])
     requires kind { D.kind ≡ unsigned_of T.kind }
     requires length { length items.old ≡ length differences.now }
     ensures { map T.whole items.new ≡ map (λ z. wrap T.kind (T.whole reference +ℤ z)) (map D.whole differences.now) }

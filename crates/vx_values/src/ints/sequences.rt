@@ -64,7 +64,8 @@ fn write_steps<T: Integer>(first: i128, step: i128, items: &mut [T])
 }
 
 // The low 64 bits of a whole number, in two's complement.
-fn low_word(whole: i128) -> u64
+#[inline(always)]
+pub(super) fn low_word(whole: i128) -> u64
     ensures { result ≡ low_bits U64 whole }
 {
     whole.rem_euclid(1 << 64) as u64

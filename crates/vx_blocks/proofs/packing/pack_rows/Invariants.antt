@@ -1,8 +1,10 @@
-use Rattle.std.proofs.Common.{◌*◌, map, take}
+use Rattle.std.proofs.Common.{◌+◌, ◌*◌, ◌^◌, length, map, take}
 use Rattle.vx_base.specs.Packed.{kept_rows, packed_number}
 use Rattle.vx_blocks.specs.Holds.{Holds}
 use Rattle.vx_base.specs.Integers.{bits_in}
 use Rattle.vx_blocks.proofs.packing.pack_rows.Given as goal
 
 abbrev pub invariant-loop-i : goal.invariant-loop-i
-invariant-loop-i g l = Holds (packed_number l.width (take l.i (kept_rows l.width (map (bits_in g.T.Integer.kind) (map g.T.Integer.whole l.values)) l.valid))) (l.width * l.i) l.out.items l.acc l.fill
+invariant-loop-i g l =
+    let before = l.fn.out.items in
+    Holds (packed_number 8 before + 2 ^ (8 * length before) * packed_number l.width (take l.i (kept_rows l.width (map (bits_in g.T.Integer.kind) (map g.T.Integer.whole l.values)) l.valid))) (8 * length before + l.width * l.i) l.out.items l.acc l.fill

@@ -1,33 +1,46 @@
 use Rattle.std.proofs.Common.{◌≡◌, ◌<◌, ◌≤◌, ◌∙◌, ◌^◌, ap, arith, refl, subst, length, map, sym, true, rules, FitsSigned, Some, None}
 use Rattle.std.specs.Int.{w128}
 use Rattle.std.proofs.lemmas.Int.{to_z-of_z}
-use Rattle.std.specs.Prelude.{IsTrue, not}
+use Rattle.std.specs.Prelude.{IsTrue, not, pos, ◌*ℤ◌}
 use Rattle.std.proofs.lemmas.Bool.{leb-true, and_parts}
 use Rattle.std.proofs.lemmas.List.{length-map}
 use Rattle.std.proofs.lemmas.Result.{MatchResult-weaker}
-use Rattle.vx_base.specs.Integers.{is_signed}
+use Rattle.vx_base.specs.declared.ptype.PType.TheVariants.{I64}
+use Rattle.vx_base.specs.Integers.{is_signed, unsigned_of}
+use Rattle.vx_base.specs.Packed.{block_count}
 use Rattle.vx_base.specs.PlainType.{is_flat, is_integer, integer_of}
 use Rattle.vx_base.specs.PlainValue.{int, whole_or_zero}
 use Rattle.vx_base.proofs.IntegerLemmas.{is_unsigned-is_integer}
+use Rattle.vx_model.specs.Decoded.{zeroed_by}
 use Rattle.vx_model.specs.Refusals.{validity_length}
+use Rattle.vx_time.specs.PartsOf.{units_per_second}
+use Rattle.vx_values.specs.Combined.{combined}
+use Rattle.vx_values.specs.ValuesOf.{ints, AreRows}
 use Rattle.vx_blocks.specs.Sequence.{sequence_row}
 use Rattle.vx_model.specs.Rows.{rows, below}
-use Rattle.vx_model.specs.Tree.{plain_packed}
+use Rattle.vx_model.specs.Tree.{plain_blocks, plain_packed}
 use Rattle.vx_model.specs.TreeType.{tree_type}
 use Rattle.vx_model.specs.WellFormed.{IsSequence, are_offsets, ascend}
+use Rattle.vx_model.proofs.BlocksLemmas.{blocks-blocks_of}
 use Rattle.vx_model.proofs.MadeLemmas.{has_length}
 use Rattle.vx_model.proofs.PackedOfLemmas.{packed-packed_of}
+use Rattle.vx_model.proofs.SparseLemmas.{parts-sparse_of, type-sparse_of}
 use Rattle.vx_model.proofs.VarBinLemmas.{length-cut_at}
 use Rattle.vx_values.specs.IntsOf.{wholes_of}
 use Rattle.vx_array.specs.declared.array.Node.{Node}
 use Rattle.vx_array.specs.declared.array.Node.TheVariants as nodes
-use Rattle.vx_array.specs.HasRuns.{has_runs}
+use Rattle.vx_array.specs.HasRuns.{has_blocks, has_columns, has_runs}
 use Rattle.vx_array.specs.IsDecoded.{IsDecoded}
 use Rattle.vx_array.specs.TreeOf.{tree_of, unboxed}
 use Rattle.vx_array.proofs.AtNode.{at_node}
+use Rattle.vx_array.proofs.BlockArrays.{has_blocks-blocks_of}
+use Rattle.vx_array.proofs.BlockRows.{whole-offsets, offsets_known, patches_whole, patches_long, validity_long, decoded-widths, decoded-blocks, decoded-sized, blocks_rows}
 use Rattle.vx_array.proofs.Flat.{integer_flat}
 use Rattle.vx_array.proofs.Decodings.{integers_of, bits_of_integers, held_integers, wholes-rows, bool_rows, primitive_rows, view_rows, var_bin_rows, timestamp_rows, masked_rows_of, packed_rows, moved_rows, zig_zag_rows, dict_rows}
+use Rattle.vx_array.proofs.Frames.{frames_rows}
+use Rattle.vx_array.proofs.PartArrays.{parts_rows, whole-integer}
 use Rattle.vx_array.proofs.RunDecodings.{sequence_rows, delta_rows}
+use Rattle.vx_array.proofs.SparseOf.{blocks-sparse_of, columns-sparse_of, has_runs-sparse_of}
 use Rattle.vx_array.proofs.RunRows.{run_end_rows, rle_rows, block_place-word}
 use Rattle.vx_array.proofs.array.ArrayRef.+decoded.Goals as goal
 
@@ -147,6 +160,11 @@ decoded-into_integers-codes-requires t c =
     let got = c.in_ok-decoded-in-Dict in
     held_integers c.in-Dict.codes.array.value got.field-0 a.well_formed.2.codes_type (subst (λ t. IsDecoded t got.field-0) c.deref-in-Dict.ensures got.ensures)
 
+pub decoded-decoded-requires-in-Dict : goal.decoded-decoded-requires-in-Dict
+decoded-decoded-requires-in-Dict t c =
+    let a = at_node c.self.view_is c.self.invariant c.in-Dict.is in
+    (search rules, subst (λ q. is_flat (tree_type q) ≡ true) (sym c.deref-in-Dict.ensures) (integer_flat (tree_type c.in-Dict.codes.array.value) a.well_formed.2.codes_type))
+
 pub decoded-returns-in_ok-decoded-in-Dict-2 : goal.decoded-returns-in_ok-decoded-in-Dict-2
 decoded-returns-in_ok-decoded-in-Dict-2 t c =
     let a = at_node c.self.view_is c.self.invariant c.in-Dict.is in
@@ -240,25 +258,27 @@ pub decoded_runs-into_integers-indices-requires : goal.decoded_runs-into_integer
 decoded_runs-into_integers-indices-requires t c =
     let a = at_node c.self.view_is c.self.invariant c.in-Sparse.is in
     let p = c.in-Sparse.patches.value in
+    let own = (parts-sparse_of p c.in-Sparse.fill a.well_formed).0 in
     let got = c.in_ok-decoded-in-Sparse in
-    held_integers p.indices got.field-0 a.well_formed.2.indices_type (subst (λ q. IsDecoded q.indices got.field-0) (c.behind-patches.view_is ∙ c.deref.ensures) got.ensures)
+    held_integers p.indices got.field-0 own.2.indices_type (subst (λ q. IsDecoded q.indices got.field-0) (c.behind-patches.view_is ∙ c.deref.ensures) got.ensures)
 
 pub decoded_runs-decoded_sparse-requires : goal.decoded_runs-decoded_sparse-requires
 decoded_runs-decoded_sparse-requires t c =
     let a = at_node c.self.view_is c.self.invariant c.in-Sparse.is in
     let p = c.in-Sparse.patches.value in
-    let w = a.well_formed.2 in
+    let both = parts-sparse_of p c.in-Sparse.fill a.well_formed in
+    let w = both.0.2 in
     let got = c.in_ok-decoded-in-Sparse in
     let parts = c.into_integers-indices in
     let own = subst (λ q. IsDecoded q.indices got.field-0) (c.behind-patches.view_is ∙ c.deref.ensures) got.ensures in
-    let indices = integers_of p.indices got.field-0 parts.result.0 parts.result.1 a.well_formed.0 w.indices_type parts.ensures.values parts.ensures.valid own in
-    let held = wholes-rows p.indices parts.result.0 parts.result.1 a.well_formed.0 w.indices_type w.not_null indices in
+    let indices = integers_of p.indices got.field-0 parts.result.0 parts.result.1 both.0.0 w.indices_type parts.ensures.values parts.ensures.valid own in
+    let held = wholes-rows p.indices parts.result.0 parts.result.1 both.0.0 w.indices_type w.not_null indices in
     let have = c.in_ok-values-in-Sparse in
     let there = subst (λ q. IsDecoded q.values have.values) (c.behind-patches-in-Sparse.view_is ∙ c.deref-in-Sparse.ensures) have.ensures in
     let back = sym c.deref-in-Sparse-2.ensures in
     record {
-      flat = rw a.is at c.requires.flat;
-      typed = subst (λ q. tree_type q.values ≡ c.in-Sparse.fill.dtype) back a.well_formed.3.values_type;
+      flat = ap is_flat (sym (type-sparse_of p c.in-Sparse.fill)) ∙ rw a.is at c.requires.flat;
+      typed = subst (λ q. tree_type q.values ≡ c.in-Sparse.fill.dtype) back both.1.values_type;
       indices = subst (λ q. map int (wholes_of parts.result.0) ≡ rows q.indices) back held;
       values = subst (λ q. IsDecoded q.values have.values) back there;
     }
@@ -398,7 +418,7 @@ decoded-decoded-requires t c =
 pub decoded-decoded_runs-requires : goal.decoded-decoded_runs-requires
 decoded-decoded_runs-requires t c =
     let a = at_node c.self.view_is c.self.invariant c.in-Sparse.is in
-    (search rules, (c.requires, ap has_runs a.is))
+    (search rules, (c.requires, ap has_runs a.is ∙ has_runs-sparse_of c.in-Sparse.field-0.value c.in-Sparse.field-1))
 
 pub decoded-decoded_runs-requires-in-RunEnd : goal.decoded-decoded_runs-requires-in-RunEnd
 decoded-decoded_runs-requires-in-RunEnd t c =
@@ -429,6 +449,8 @@ no_runs (nodes.Delta x y z w v) a b c d e h = d x y z w v refl
 no_runs (nodes.Sequence x y z w v) a b c d e h = e x y z w v refl
 no_runs (nodes.BitPacked p width bytes rows valid None n) a b c d e h = cc
 no_runs (nodes.BitPacked p width bytes rows valid (Some patches) n) a b c d e h = cc
+no_runs (nodes.BitPackedV2 p bytes offsets rows valid None n) a b c d e h = cc
+no_runs (nodes.BitPackedV2 p bytes offsets rows valid (Some patches) n) a b c d e h = cc
 no_runs n a b c d e h = cc
 
 pub decoded_runs-unreachable-requires : goal.decoded_runs-unreachable-requires
@@ -439,5 +461,233 @@ decoded_runs-unreachable-requires t c =
 pub decoded_runs-decoded-requires : goal.decoded_runs-decoded-requires
 decoded_runs-decoded-requires t c =
     let a = at_node c.self.view_is c.self.invariant c.in-Sparse.is in
-    let indices = c.in-Sparse.patches.value.indices in
-    (search rules, subst (λ q. is_flat (tree_type q.indices) ≡ true) (sym (c.behind-patches.view_is ∙ c.deref.ensures)) (integer_flat (tree_type indices) a.well_formed.2.indices_type))
+    let p = c.in-Sparse.patches.value in
+    let own = (parts-sparse_of p c.in-Sparse.fill a.well_formed).0.2 in
+    (search rules, subst (λ q. is_flat (tree_type q.indices) ≡ true) (sym (c.behind-patches.view_is ∙ c.deref.ensures)) (integer_flat (tree_type p.indices) own.indices_type))
+
+-- ---- roots whose rows stand in blocks
+
+pub decoded-decoded_blocks-requires : goal.decoded-decoded_blocks-requires
+decoded-decoded_blocks-requires t c =
+    let a = at_node c.self.view_is c.self.invariant c.in-BitPackedV2.is in
+    let here = c.in-BitPackedV2 in
+    let k = plain_blocks here.field-0 here.field-1 here.field-3 here.field-4 here.field-6 in
+    (search rules, (c.requires, ap has_blocks a.is ∙ has_blocks-blocks_of k here.field-2.array.value (unboxed here.field-5)))
+
+no_blocks : (n : Node) → ((x : _) (y : _) (z : _) (w : _) (v : _) (u : _) (m : _) → n ≡ nodes.BitPackedV2 x y z w v u m → ⊥) → has_blocks (tree_of n) ≡ true → ⊥
+no_blocks (nodes.BitPackedV2 x y z w v u m) a h = a x y z w v u m refl
+no_blocks (nodes.BitPacked p width bytes rows valid None n) a h = cc
+no_blocks (nodes.BitPacked p width bytes rows valid (Some patches) n) a h = cc
+no_blocks (nodes.Sparse patches fill) a h = blocks-sparse_of patches.value fill h
+no_blocks n a h = cc
+
+pub decoded_blocks-unreachable-requires : goal.decoded_blocks-unreachable-requires
+decoded_blocks-unreachable-requires t c = no_blocks c.self.inside.node c.in_default.not-BitPackedV2 (ap has_blocks c.self.view_is ∙ c.requires.blocks)
+
+pub decoded_blocks-decoded-requires : goal.decoded_blocks-decoded-requires
+decoded_blocks-decoded-requires t c =
+    let here = c.in-BitPackedV2 in
+    let a = at_node c.self.view_is c.self.invariant here.is in
+    let k = plain_blocks here.ptype here.packed here.len here.valid here.field-6 in
+    let offsets = here.offsets.array.value in
+    let whole = whole-offsets k offsets (blocks-blocks_of k offsets (unboxed here.patches) a.well_formed) in
+    (search rules, subst (λ q. is_flat (tree_type q) ≡ true) (sym c.deref.ensures) (integer_flat (tree_type offsets) whole))
+
+pub decoded_blocks-into_integers-offsets-requires : goal.decoded_blocks-into_integers-offsets-requires
+decoded_blocks-into_integers-offsets-requires t c =
+    let here = c.in-BitPackedV2 in
+    let a = at_node c.self.view_is c.self.invariant here.is in
+    let k = plain_blocks here.ptype here.packed here.len here.valid here.field-6 in
+    let offsets = here.offsets.array.value in
+    let got = c.in_ok-decoded-in-BitPackedV2 in
+    held_integers offsets got.field-0 (whole-offsets k offsets (blocks-blocks_of k offsets (unboxed here.patches) a.well_formed)) (subst (λ t. IsDecoded t got.field-0) c.deref.ensures got.ensures)
+
+pub decoded_blocks-decoded_in_blocks-requires : goal.decoded_blocks-decoded_in_blocks-requires
+decoded_blocks-decoded_in_blocks-requires t c =
+    let here = c.in-BitPackedV2 in
+    let a = at_node c.self.view_is c.self.invariant here.is in
+    let k = plain_blocks here.ptype here.packed here.len here.valid here.field-6 in
+    let offsets = here.offsets.array.value in
+    let o = unboxed here.patches in
+    let got = c.in_ok-decoded-in-BitPackedV2 in
+    let parts = c.into_integers-offsets in
+    let whole = whole-offsets k offsets (blocks-blocks_of k offsets o a.well_formed) in
+    let numbers = integers_of offsets got.field-0 parts.result.0 parts.result.1 (offsets_known k offsets o a.well_formed) whole parts.ensures.values parts.ensures.valid (subst (λ t. IsDecoded t got.field-0) c.deref.ensures got.ensures) in
+    record {
+      widths = decoded-widths k offsets o parts.result.0 parts.result.1 a.well_formed numbers;
+      blocks = decoded-blocks k offsets o parts.result.0 parts.result.1 a.well_formed numbers;
+      sized = decoded-sized k offsets o parts.result.0 parts.result.1 a.well_formed numbers;
+      bits = validity_long k offsets o a.well_formed;
+      integers = patches_whole k offsets o a.well_formed;
+      rows = patches_long k offsets o a.well_formed;
+    }
+
+pub decoded_blocks-returns : goal.decoded_blocks-returns
+decoded_blocks-returns t c =
+    let here = c.in-BitPackedV2 in
+    let a = at_node c.self.view_is c.self.invariant here.is in
+    let k = plain_blocks here.ptype here.packed here.len here.valid here.field-6 in
+    let offsets = here.offsets.array.value in
+    let o = unboxed here.patches in
+    let got = c.in_ok-decoded-in-BitPackedV2 in
+    let parts = c.into_integers-offsets in
+    let whole = whole-offsets k offsets (blocks-blocks_of k offsets o a.well_formed) in
+    let numbers = integers_of offsets got.field-0 parts.result.0 parts.result.1 (offsets_known k offsets o a.well_formed) whole parts.ensures.values parts.ensures.valid (subst (λ t. IsDecoded t got.field-0) c.deref.ensures got.ensures) in
+    rw a.is (MatchResult-weaker c.decoded_in_blocks.result c.decoded_in_blocks.ensures (λ d r. blocks_rows k offsets o parts.result.0 parts.result.1 a.well_formed numbers d r) (λ e n. n))
+
+-- ---- timestamps in parts, and frames of reference by blocks
+
+pub decoded-decoded_columns-requires : goal.decoded-decoded_columns-requires
+decoded-decoded_columns-requires t c =
+    let a = at_node c.self.view_is c.self.invariant c.in-DateTimeParts.is in
+    (search rules, (c.requires, ap has_columns a.is))
+
+pub decoded-decoded_columns-requires-in-FoRV2 : goal.decoded-decoded_columns-requires-in-FoRV2
+decoded-decoded_columns-requires-in-FoRV2 t c =
+    let a = at_node c.self.view_is c.self.invariant c.in-FoRV2.is in
+    (search rules, (c.requires, ap has_columns a.is))
+
+no_columns : (n : Node) → ((x : _) (y : _) (z : _) (w : _) (v : _) → n ≡ nodes.DateTimeParts x y z w v → ⊥) → ((x : _) (y : _) → n ≡ nodes.FoRV2 x y → ⊥) → has_columns (tree_of n) ≡ true → ⊥
+no_columns (nodes.DateTimeParts x y z w v) a b h = a x y z w v refl
+no_columns (nodes.FoRV2 x y) a b h = b x y refl
+no_columns (nodes.BitPacked p width bytes rows valid None n) a b h = cc
+no_columns (nodes.BitPackedV2 p bytes offsets rows valid None n) a b h = cc
+no_columns (nodes.BitPackedV2 p bytes offsets rows valid (Some patches) n) a b h = cc
+no_columns (nodes.Sparse patches fill) a b h = columns-sparse_of patches.value fill h
+no_columns (nodes.BitPacked p width bytes rows valid (Some patches) n) a b h = cc
+no_columns n a b h = cc
+
+pub decoded_columns-unreachable-requires : goal.decoded_columns-unreachable-requires
+decoded_columns-unreachable-requires t c =
+    let other = c.in_default in
+    no_columns c.self.inside.node other.not-DateTimeParts other.not-FoRV2 (ap has_columns c.self.view_is ∙ c.requires.columns)
+
+pub decoded_columns-decoded-requires : goal.decoded_columns-decoded-requires
+decoded_columns-decoded-requires t c =
+    let a = at_node c.self.view_is c.self.invariant c.in-DateTimeParts.is in
+    (search rules, subst (λ t. is_flat (tree_type t) ≡ true) (sym c.deref.ensures) (ap is_flat a.well_formed.3.days_type))
+
+pub decoded_columns-decoded-requires-in-DateTimeParts : goal.decoded_columns-decoded-requires-in-DateTimeParts
+decoded_columns-decoded-requires-in-DateTimeParts t c =
+    let a = at_node c.self.view_is c.self.invariant c.in-DateTimeParts.is in
+    let seconds = tree_type c.in-DateTimeParts.seconds.array.value in
+    (search rules, subst (λ t. is_flat (tree_type t) ≡ true) (sym c.deref-in-DateTimeParts.ensures) (integer_flat seconds (whole-integer seconds a.well_formed.3.seconds_type)))
+
+pub decoded_columns-decoded-requires-in-DateTimeParts-2 : goal.decoded_columns-decoded-requires-in-DateTimeParts-2
+decoded_columns-decoded-requires-in-DateTimeParts-2 t c =
+    let a = at_node c.self.view_is c.self.invariant c.in-DateTimeParts.is in
+    let subseconds = tree_type c.in-DateTimeParts.subseconds.array.value in
+    (search rules, subst (λ t. is_flat (tree_type t) ≡ true) (sym c.deref-in-DateTimeParts-2.ensures) (integer_flat subseconds (whole-integer subseconds a.well_formed.3.subseconds_type)))
+
+pub decoded_columns-into_integers-days-requires : goal.decoded_columns-into_integers-days-requires
+decoded_columns-into_integers-days-requires t c =
+    let a = at_node c.self.view_is c.self.invariant c.in-DateTimeParts.is in
+    let got = c.in_ok-decoded-in-DateTimeParts in
+    held_integers c.in-DateTimeParts.days.array.value got.field-0 (ap is_integer a.well_formed.3.days_type) (subst (λ t. IsDecoded t got.field-0) c.deref.ensures got.ensures)
+
+pub decoded_columns-into_integers-seconds-requires : goal.decoded_columns-into_integers-seconds-requires
+decoded_columns-into_integers-seconds-requires t c =
+    let a = at_node c.self.view_is c.self.invariant c.in-DateTimeParts.is in
+    let got = c.in_ok-decoded-in-DateTimeParts-2 in
+    held_integers c.in-DateTimeParts.seconds.array.value got.field-0 (whole-integer _ a.well_formed.3.seconds_type) (subst (λ t. IsDecoded t got.field-0) c.deref-in-DateTimeParts.ensures got.ensures)
+
+pub decoded_columns-into_integers-subseconds-requires : goal.decoded_columns-into_integers-subseconds-requires
+decoded_columns-into_integers-subseconds-requires t c =
+    let a = at_node c.self.view_is c.self.invariant c.in-DateTimeParts.is in
+    let got = c.in_ok-decoded-in-DateTimeParts-3 in
+    held_integers c.in-DateTimeParts.subseconds.array.value got.field-0 (whole-integer _ a.well_formed.3.subseconds_type) (subst (λ t. IsDecoded t got.field-0) c.deref-in-DateTimeParts-2.ensures got.ensures)
+
+pub decoded_columns-decoded_parts-requires : goal.decoded_columns-decoded_parts-requires
+decoded_columns-decoded_parts-requires t c =
+    let here = c.in-DateTimeParts in
+    let a = at_node c.self.view_is c.self.invariant here.is in
+    let own = a.well_formed.3 in
+    let x = c.into_integers-days in
+    let y = c.into_integers-seconds in
+    let z = c.into_integers-subseconds in
+    let one = c.in_ok-decoded-in-DateTimeParts in
+    let two = c.in_ok-decoded-in-DateTimeParts-2 in
+    let three = c.in_ok-decoded-in-DateTimeParts-3 in
+    let days = integers_of here.days.array.value one.field-0 x.result.0 x.result.1 a.well_formed.0 (ap is_integer own.days_type) x.ensures.values x.ensures.valid (subst (λ t. IsDecoded t one.field-0) c.deref.ensures one.ensures) in
+    let seconds = integers_of here.seconds.array.value two.field-0 y.result.0 y.result.1 a.well_formed.1 (whole-integer _ own.seconds_type) y.ensures.values y.ensures.valid (subst (λ t. IsDecoded t two.field-0) c.deref-in-DateTimeParts.ensures two.ensures) in
+    let subseconds = integers_of here.subseconds.array.value three.field-0 z.result.0 z.result.1 a.well_formed.2 (whole-integer _ own.subseconds_type) z.ensures.values z.ensures.valid (subst (λ t. IsDecoded t three.field-0) c.deref-in-DateTimeParts-2.ensures three.ensures) in
+    let ds = ap length days.wholes ∙ length-map (rows here.days.array.value) whole_or_zero in
+    let ss = ap length seconds.wholes ∙ length-map (rows here.seconds.array.value) whole_or_zero in
+    let us = ap length subseconds.wholes ∙ length-map (rows here.subseconds.array.value) whole_or_zero in
+    record { seconds = ss ∙ own.seconds_length ∙ sym ds; subseconds = us ∙ own.subseconds_length ∙ sym ds; bits = bits_of_integers here.days.array.value x.result.0 x.result.1 days }
+
+pub decoded_columns-returns-in_ok-decoded-in-DateTimeParts-3 : goal.decoded_columns-returns-in_ok-decoded-in-DateTimeParts-3
+decoded_columns-returns-in_ok-decoded-in-DateTimeParts-3 t c =
+    let here = c.in-DateTimeParts in
+    let a = at_node c.self.view_is c.self.invariant here.is in
+    let own = a.well_formed.3 in
+    let x = c.into_integers-days in
+    let y = c.into_integers-seconds in
+    let z = c.into_integers-subseconds in
+    let one = c.in_ok-decoded-in-DateTimeParts in
+    let two = c.in_ok-decoded-in-DateTimeParts-2 in
+    let three = c.in_ok-decoded-in-DateTimeParts-3 in
+    let days = integers_of here.days.array.value one.field-0 x.result.0 x.result.1 a.well_formed.0 (ap is_integer own.days_type) x.ensures.values x.ensures.valid (subst (λ t. IsDecoded t one.field-0) c.deref.ensures one.ensures) in
+    let seconds = integers_of here.seconds.array.value two.field-0 y.result.0 y.result.1 a.well_formed.1 (whole-integer _ own.seconds_type) y.ensures.values y.ensures.valid (subst (λ t. IsDecoded t two.field-0) c.deref-in-DateTimeParts.ensures two.ensures) in
+    let subseconds = integers_of here.subseconds.array.value three.field-0 z.result.0 z.result.1 a.well_formed.2 (whole-integer _ own.subseconds_type) z.ensures.values z.ensures.valid (subst (λ t. IsDecoded t three.field-0) c.deref-in-DateTimeParts-2.ensures three.ensures) in
+    rw a.is
+    (MatchResult-weaker c.decoded_parts.result c.decoded_parts.ensures
+    (λ d r. parts_rows here.kind here.field-1 here.days.array.value here.seconds.array.value here.subseconds.array.value x.result.0 y.result.0 z.result.0 x.result.1 y.result.1 z.result.1 d a.well_formed days seconds subseconds
+    (subst (λ unit. AreRows (ints I64) (map int (zeroed_by (pos 0) x.result.1 (combined (pos 86_400 *ℤ units_per_second unit) (units_per_second unit) (wholes_of x.result.0) (wholes_of y.result.0) (wholes_of z.result.0)))) x.result.1 d) c.unit.ensures.unit r)) (λ e n. n))
+
+pub decoded_columns-decoded-requires-in-FoRV2 : goal.decoded_columns-decoded-requires-in-FoRV2
+decoded_columns-decoded-requires-in-FoRV2 t c =
+    let a = at_node c.self.view_is c.self.invariant c.in-FoRV2.is in
+    (search rules, subst (λ t. is_flat (tree_type t) ≡ true) (sym c.deref-in-FoRV2.ensures) (ap is_flat a.well_formed.2.encoded_type))
+
+pub decoded_columns-decoded-requires-in-FoRV2-2 : goal.decoded_columns-decoded-requires-in-FoRV2-2
+decoded_columns-decoded-requires-in-FoRV2-2 t c =
+    let a = at_node c.self.view_is c.self.invariant c.in-FoRV2.is in
+    let references = tree_type c.in-FoRV2.references.array.value in
+    (search rules, subst (λ t. is_flat (tree_type t) ≡ true) (sym c.deref-in-FoRV2-2.ensures) (integer_flat references (whole-integer references a.well_formed.2.references_type)))
+
+pub decoded_columns-into_integers-differences-requires : goal.decoded_columns-into_integers-differences-requires
+decoded_columns-into_integers-differences-requires t c =
+    let a = at_node c.self.view_is c.self.invariant c.in-FoRV2.is in
+    let got = c.in_ok-decoded-in-FoRV2 in
+    held_integers c.in-FoRV2.encoded.array.value got.field-0 (ap is_integer a.well_formed.2.encoded_type) (subst (λ t. IsDecoded t got.field-0) c.deref-in-FoRV2.ensures got.ensures)
+
+pub decoded_columns-into_integers-references-requires : goal.decoded_columns-into_integers-references-requires
+decoded_columns-into_integers-references-requires t c =
+    let a = at_node c.self.view_is c.self.invariant c.in-FoRV2.is in
+    let got = c.in_ok-decoded-in-FoRV2-2 in
+    held_integers c.in-FoRV2.references.array.value got.field-0 (whole-integer _ a.well_formed.2.references_type) (subst (λ t. IsDecoded t got.field-0) c.deref-in-FoRV2-2.ensures got.ensures)
+
+pub decoded_columns-decoded_frames-requires : goal.decoded_columns-decoded_frames-requires
+decoded_columns-decoded_frames-requires t c =
+    let here = c.in-FoRV2 in
+    let a = at_node c.self.view_is c.self.invariant here.is in
+    let own = a.well_formed.2 in
+    let x = c.into_integers-differences in
+    let y = c.into_integers-references in
+    let one = c.in_ok-decoded-in-FoRV2 in
+    let two = c.in_ok-decoded-in-FoRV2-2 in
+    let encoded = integers_of here.encoded.array.value one.field-0 x.result.0 x.result.1 a.well_formed.0 (ap is_integer own.encoded_type) x.ensures.values x.ensures.valid (subst (λ t. IsDecoded t one.field-0) c.deref-in-FoRV2.ensures one.ensures) in
+    let references = integers_of here.references.array.value two.field-0 y.result.0 y.result.1 a.well_formed.1 (whole-integer _ own.references_type) y.ensures.values y.ensures.valid (subst (λ t. IsDecoded t two.field-0) c.deref-in-FoRV2-2.ensures two.ensures) in
+    let xs = ap length encoded.wholes ∙ length-map (rows here.encoded.array.value) whole_or_zero in
+    let rs = ap length references.wholes ∙ length-map (rows here.references.array.value) whole_or_zero in
+    record {
+      unsigned = encoded.ptype ∙ ap integer_of own.encoded_type ∙ ap unsigned_of (sym references.ptype);
+      blocks = rs ∙ own.lengths ∙ ap block_count (sym xs);
+      bits = bits_of_integers here.encoded.array.value x.result.0 x.result.1 encoded;
+    }
+
+pub decoded_columns-returns-in_ok-decoded-in-FoRV2-2 : goal.decoded_columns-returns-in_ok-decoded-in-FoRV2-2
+decoded_columns-returns-in_ok-decoded-in-FoRV2-2 t c =
+    let here = c.in-FoRV2 in
+    let a = at_node c.self.view_is c.self.invariant here.is in
+    let own = a.well_formed.2 in
+    let x = c.into_integers-differences in
+    let y = c.into_integers-references in
+    let one = c.in_ok-decoded-in-FoRV2 in
+    let two = c.in_ok-decoded-in-FoRV2-2 in
+    let encoded = integers_of here.encoded.array.value one.field-0 x.result.0 x.result.1 a.well_formed.0 (ap is_integer own.encoded_type) x.ensures.values x.ensures.valid (subst (λ t. IsDecoded t one.field-0) c.deref-in-FoRV2.ensures one.ensures) in
+    let references = integers_of here.references.array.value two.field-0 y.result.0 y.result.1 a.well_formed.1 (whole-integer _ own.references_type) y.ensures.values y.ensures.valid (subst (λ t. IsDecoded t two.field-0) c.deref-in-FoRV2-2.ensures two.ensures) in
+    rw a.is
+    (MatchResult-weaker c.decoded_frames.result c.decoded_frames.ensures
+    (λ d r. frames_rows here.encoded.array.value here.references.array.value x.result.0 y.result.0 x.result.1 y.result.1 d a.well_formed encoded references r) (λ e n. n))

@@ -11,4 +11,4 @@ invariant_of-result c =
     let accepted : delta_refusal a.bases a.deltas a.len a.valid a.nullability ≡ None = sym c.refusal.ensures ∙ c.in_default.is in
     let ptype = c.ptype.ensures ∙ ap integer_of c.dtype.ensures in
     let own = c.in-Ok.ensures in
-    rw (own.0, own.1, c.keep.ensures) (delta_array a.bases a.deltas a.len a.valid a.nullability _ accepted c.known.ensures c.known-2.ensures (c.primitive-own_type.ensures ∙ ap (λ p. types.primitive p a.nullability) ptype))
+    (rw (own.0, own.1, c.keep.ensures) (delta_array a.bases a.deltas a.len a.valid a.nullability _ accepted c.known.ensures c.known-2.ensures (c.primitive-own_type.ensures ∙ ap (λ p. types.primitive p a.nullability) ptype)), tt)

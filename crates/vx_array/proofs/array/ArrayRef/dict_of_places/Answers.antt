@@ -11,4 +11,4 @@ invariant_of-result c =
     let codes_nullability = c.nullability-2.ensures ∙ ap nullability_of c.dtype-2.ensures in
     let nullability = c.or-nullability.ensures ∙ (λ i. or_nullable (values_nullability i) (codes_nullability i)) in
     let own : type_of c.in-Ok.own_type ≡ dict_type (tree_type c.args.codes) (tree_type c.args.values) = c.in-Ok.ensures ∙ (λ i. with_nullability (c.dtype-3.ensures i) (nullability i)) in
-    rw (c.in-Ok-boxed.ensures.0, c.in-Ok-boxed.ensures.1) (dict_array c.args.codes c.args.values _ _ c.requires c.known.ensures c.known-2.ensures own c.len-len.ensures)
+    (rw (c.in-Ok-boxed.ensures.0, c.in-Ok-boxed.ensures.1) (dict_array c.args.codes c.args.values _ _ c.requires c.known.ensures c.known-2.ensures own c.len-len.ensures), tt)

@@ -13,4 +13,4 @@ invariant_of-result c =
     let ptype = c.ptype.ensures ∙ ap integer_of c.dtype.ensures in
     let nullability = c.nullability.ensures ∙ ap nullability_of c.dtype-2.ensures in
     let own : type_of c.primitive-own_type.result ≡ types.primitive (integer_of c.args.reference.dtype) (nullability_of (tree_type c.args.encoded)) = c.primitive-own_type.ensures ∙ (λ i. types.primitive (ptype i) (nullability i)) in
-    rw c.in-Ok.ensures.ok (frame_array c.args.encoded c.args.reference _ _ accepted c.known-2.ensures c.known.ensures own c.len-len.ensures)
+    (rw c.in-Ok.ensures.ok (frame_array c.args.encoded c.args.reference _ _ accepted c.known-2.ensures c.known.ensures own c.len-len.ensures), tt)

@@ -9,4 +9,4 @@ invariant_of-result c =
     let nullable = ap is_nullable (sym c.dtype-else-not-is_flat.ensures) ∙ sym c.is_nullable.ensures ∙ c.if-not-is_nullable.false in
     let lengths = sym c.len.ensures ∙ c.if-len.false ∙ c.len-2.ensures in
     let no_null = sym c.has_null.ensures ∙ c.if-has_null.false in
-    rw c.in-Ok-new.ensures.ok (masked_array c.args.child c.args.valid _ _ flat nullable lengths no_null c.known.ensures (c.in-Ok.ensures ∙ c.dtype-2.ensures) c.len-len.ensures)
+    (rw c.in-Ok-new.ensures.ok (masked_array c.args.child c.args.valid _ _ flat nullable lengths no_null c.known.ensures (c.in-Ok.ensures ∙ c.dtype-2.ensures) c.len-len.ensures), tt)

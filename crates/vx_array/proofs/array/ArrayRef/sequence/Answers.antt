@@ -11,4 +11,4 @@ invariant_of-result c =
     let first = to_z w128 (of_z w128 a.first) in
     let step = to_z w128 (of_z w128 a.step) in
     let accepted : sequence_refusal a.ptype first step a.len ≡ None = rw (sym c.is_held.ensures ∙ c.if-not-is_held.false, sym c.are_held.ensures ∙ c.if-not-are_held.false) refl in
-    sequence_array a.ptype a.nullability first step a.len (type_of c.primitive.result) accepted c.primitive.ensures
+    (sequence_array a.ptype a.nullability first step a.len (type_of c.primitive.result) accepted c.primitive.ensures, tt)

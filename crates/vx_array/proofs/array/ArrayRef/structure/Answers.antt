@@ -17,4 +17,4 @@ pub invariant_of-result : goal.invariant_of-result
 invariant_of-result c =
     let accepted : structure_refusal c.args.names (of_list c.args.fields) c.args.len c.args.valid c.args.nullability ≡ None = sym c.refusal.ensures ∙ c.in_default.is in
     let own = c.structure.ensures ∙ ap (λ fs. types.structure fs c.args.nullability) c.in-Ok.ensures in
-    rw c.keep.ensures (structure_array c.args.names (of_list c.args.fields) c.args.len c.args.valid c.args.nullability _ accepted c.known.ensures own)
+    (rw c.keep.ensures (structure_array c.args.names (of_list c.args.fields) c.args.len c.args.valid c.args.nullability _ accepted c.known.ensures own), tt)

@@ -12,4 +12,4 @@ invariant_of-result c =
     let stored : same_type t (types.primitive I64 (nullability_of t)) ≡ true =
     ap (λ s. same_type s (types.primitive I64 (nullability_of s))) (sym c.dtype.ensures) ∙ sym c.is_storage.ensures ∙ c.if-not-is_storage.false in
     let own = c.timestamp-own_type.ensures ∙ (λ i. types.timestamp (c.in-Ok.ensures i) ((c.nullability.ensures ∙ ap nullability_of c.dtype-2.ensures) i)) in
-    rw c.in-Ok-new.ensures.ok (timestamp_array c.args.storage c.args.kind _ _ (rw stored refl) c.known.ensures own c.len-len.ensures)
+    (rw c.in-Ok-new.ensures.ok (timestamp_array c.args.storage c.args.kind _ _ (rw stored refl) c.known.ensures own c.len-len.ensures), tt)

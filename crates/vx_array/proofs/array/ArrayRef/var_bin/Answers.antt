@@ -8,4 +8,4 @@ pub invariant_of-result : goal.invariant_of-result
 invariant_of-result c =
     let t = type_of c.args.dtype in
     let accepted : var_bin_refusal c.args.offsets c.args.bytes c.args.valid t ≡ None = sym c.refusal.ensures ∙ c.in_default.is in
-    rw (c.keep.ensures, c.in-Ok.ensures.ok) (var_bin_array c.args.offsets c.args.bytes c.args.valid t c.row_count-len.result accepted c.known.ensures c.row_count-len.ensures)
+    (rw (c.keep.ensures, c.in-Ok.ensures.ok) (var_bin_array c.args.offsets c.args.bytes c.args.valid t c.row_count-len.result accepted c.known.ensures c.row_count-len.ensures), tt)

@@ -1,5 +1,6 @@
-use Rattle.std.proofs.Common.{◌≡◌, ◌+◌, ◌-◌, length, arith, sym, subst, None, Some}
+use Rattle.std.proofs.Common.{◌≡◌, ◌+◌, ◌-◌, arith, sym, subst, None, Some}
 use Rattle.vx_model.specs.Rows.{rows, place_of}
+use Rattle.vx_model.specs.WellFormed.{searched}
 use Rattle.vx_model.proofs.PatchLemmas.{place-none}
 use Rattle.vx_model.proofs.PatchedLemmas.{looks-after, patched-place, patched-fill}
 use Rattle.vx_array.proofs.array.Patches.search.Goals as goal
@@ -23,7 +24,7 @@ pub loop-low-preserved : goal.loop-low-preserved
 loop-low-preserved g c =
     let inv = c.loop-low.invariant in
     let half = c.in-Left.ensures in
-    let looks = looks-after c.args.steps.now c.loop-low.steps c.tick.new.self c.loop-low.low c.loop-low.high (c.in-Left.to - c.in-Left.from) (length (rows c.args.self.now.indices)) inv.rose c.tick.ensures c.loop-low-test.true half.half inv.left in
+    let looks = looks-after c.args.steps.now c.loop-low.steps c.tick.new.self c.loop-low.low c.loop-low.high (c.in-Left.to - c.in-Left.from) (searched c.args.self.now c.args.row) inv.rose c.tick.ensures c.loop-low-test.true half.half inv.left in
     record {
       below = half.none_below inv.below;
       above = half.none_from inv.above;
@@ -33,6 +34,7 @@ loop-low-preserved g c =
       looked = λ fewer. omega (arith, inv.rose, c.tick.ensures);
       left = looks.0;
       probes = looks.1;
+      fewer = inv.fewer;
     }
 
 pub returns-clause-place : goal.returns-clause-place

@@ -1,5 +1,4 @@
 use Rattle.std.proofs.Common.{◌≡◌, ◌∙◌, length, ap}
-use Rattle.vx_array.specs.TreeOf.{sparse_of}
 use Rattle.vx_base.proofs.MakesLemmas.{Makes_ok, Makes_err}
 use Rattle.vx_base.specs.PlainScalar.{scalar}
 use Rattle.vx_sparse_array.specs.Filling.{filling_of}
@@ -8,7 +7,7 @@ use Rattle.vx_sparse_array.proofs.MakingLemmas.{patches-admitted}
 use Rattle.vx_model.specs.Column.{column_of}
 use Rattle.vx_model.specs.Refusals.{patches_refusal, sparse_refusal}
 use Rattle.vx_model.specs.Rows.{rows}
-use Rattle.vx_model.specs.Tree.{patches}
+use Rattle.vx_model.specs.Tree.{patches, sparse_of}
 use Rattle.vx_model.specs.TreeType.{tree_type}
 use Rattle.vx_schemes_runs.proofs.Sparse.Tree.{fill-cell}
 use Rattle.vx_schemes_runs.proofs.integer.sparse.tree.sparse_tree.Goals as goal

@@ -1,0 +1,17 @@
+use Rattle.std.proofs.Common.{◌≡◌, ◌∙◌, None, sym, ap}
+use Rattle.vx_base.specs.PlainType.{integer_of, nullability_of}
+use Rattle.vx_base.specs.PlainType as types
+use Rattle.vx_base.specs.TypeOf.{type_of}
+use Rattle.vx_model.specs.Refusals.{for_v2_refusal}
+use Rattle.vx_model.specs.TreeType.{tree_type}
+use Rattle.vx_array.proofs.Frames.{frames_array}
+use Rattle.vx_array.proofs.array.ArrayRef.frame_of_reference_v2.Goals as goal
+
+pub invariant_of-result : goal.invariant_of-result
+invariant_of-result c =
+    let accepted : for_v2_refusal c.args.encoded c.args.references ≡ None = sym c.refusal.ensures ∙ c.in_default.is in
+    let ptype = c.ptype.ensures ∙ ap integer_of c.dtype.ensures in
+    let nullability = c.nullability.ensures ∙ ap nullability_of c.dtype-2.ensures in
+    let own : type_of c.primitive-own_type.result ≡ types.primitive (integer_of (tree_type c.args.references)) (nullability_of (tree_type c.args.encoded)) = c.primitive-own_type.ensures ∙ (λ i. types.primitive (ptype i) (nullability i)) in
+    let made = c.in-Ok.ensures in
+    (rw (made.0, made.1) (frames_array c.args.encoded c.args.references _ _ accepted c.known.ensures c.known-2.ensures own c.len-len.ensures), tt)
