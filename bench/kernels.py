@@ -1,4 +1,5 @@
-"""Times the kernels of bit packing and of series: the proved ones, beside the plain and the unrolled ones of kernels.rs.
+"""Times the kernels: the proved ones, beside the plain and the unrolled ones of kernels.rs and blocks.rs, and those of blocks
+beside those with one width or one reference for all rows.
 
 README.md has the limits and what is measured.
 """
@@ -14,16 +15,26 @@ HERE = os.path.dirname(os.path.abspath(__file__))
 MILLION = 1_000_000
 BITS = {'u8': 8, 'u32': 32, 'u64': 64}
 WIDTHS = (1, 4, 7, 12, 20, 31, 63)      # each in the types that have more bits
-KERNELS = ('histogram', 'pack', 'unpack', 'canonical')
+KERNELS = ('histogram', 'widths', 'pack', 'pack_v2', 'unpack', 'canonical', 'canonical_v2')
 SERIES = ('runs', 'block_runs', 'sequence', 'delta', 'undelta')     # on values of one width alone
+FRAMES = ('frame', 'frame_v2')          # at that width too: their time doesn't depend on it
 SERIES_WIDTH = 7
+PARTS = 'parts'                         # on timestamps alone
+TIMES = ('i64', 51)                     # timestamps of 51 bits: 2^51 microseconds are 71 years
+PEERS = ('kernels', 'blocks')           # the Rust programs; the last one alone knows timestamps
 
 JUDGED = MILLION        # the size at which other loops' times are limits
 PLAIN = 1.02            # how many times the plain loop's time a kernel may take
 UNROLLED = 1.4          # and the unrolled loop's
 UNROLLED_WIDTH = 32     # the widest rows of that limit
+PARTS_JUDGED = 10 * MILLION     # the size of that limit for the sums of parts: columns that no cache holds, as timestamps are
+BLOCK_WIDTHS = 1.5      # how many times the time of one histogram the widths of blocks may take: each block also judges up to 65 widths
+V1 = 1.1                # how many times the time with one width or reference the same with one for each block may take: it looks up one in 1,024 rows
 GROWTH = 1.15           # how many times the plain loop's growth a kernel's may be, in the same minutes: both wait for the same memory
 UNCACHED = 10 * MILLION     # the size from which growth is judged: smaller ones lie in the processor's caches
+
+# The kernels that are judged beside another one on the same rows in the same rounds, and how many times its time they may take.
+BESIDE = {'widths': ('histogram', BLOCK_WIDTHS), 'pack_v2': ('pack', V1), 'canonical_v2': ('canonical', V1), 'frame_v2': ('frame', V1)}
 
 # The instructions that rt builds for.
 PROCESSOR = ('-C', 'target-cpu=x86-64-v2') if platform.machine() == 'x86_64' else ()
@@ -55,7 +66,7 @@ class Kernel(NamedTuple):
         return '%s %s at %d' % self
 
 
-CASES = [(type_, width) for type_ in BITS for width in WIDTHS if width < BITS[type_]]
+CASES = [(type_, width) for type_ in BITS for width in WIDTHS if width < BITS[type_]] + [TIMES]
 
 
 # ---------------------------------------------------------------------------------------------
@@ -110,8 +121,8 @@ def go_round(table, commands, jobs):
         for case, size in jobs:
             if number * size.rounds % ROUNDS < size.rounds:
                 for body in size.bodies:
-                    if body in commands:
-                        run(table, body, commands[body], case, size)
+                    for command in commands.get(body, ())[-1 if case == TIMES else 0:]:
+                        run(table, body, command, case, size)
 
 
 def missed(table):
@@ -122,11 +133,11 @@ def missed(table):
             yield case, SIZES[place]
 
 
-def measure(proved, peer):
+def measure(proved, peers):
     """The times of each kernel and number of rows. What misses a limit is measured once more, before it is judged."""
-    commands = {'proved': proved}
-    if peer:
-        commands.update(plain=[peer, 'plain'], unrolled=[peer, 'unrolled'])
+    commands = {'proved': [proved]}
+    if None not in peers:
+        commands.update((body, [[peer, body] for peer in peers]) for body in ('plain', 'unrolled'))
     table = {}
     go_round(table, commands, [(case, size) for case in CASES for size in SIZES])
     go_round(table, commands, list(missed(table)))
@@ -137,13 +148,22 @@ def measure(proved, peer):
 # telling
 
 def kernels_of(cases):
-    found = [Kernel(name, *case) for name in KERNELS for case in cases]
-    return found + [Kernel(name, *case) for name in SERIES for case in cases if is_told(name, *case)]
+    return [Kernel(name, *case) for name in (*KERNELS, *SERIES, *FRAMES, PARTS) for case in cases if is_told(name, *case)]
 
 
 def is_told(name, type_, width):
-    """Whether the programs tell a kernel of series; integers of 8 bits are no long sequence."""
-    return width == SERIES_WIDTH and not (name == 'sequence' and type_ == 'u8')
+    """Whether the programs tell a kernel on rows of this type and width; integers of 8 bits are no long sequence."""
+    if name == PARTS or (type_, width) == TIMES:
+        return name == PARTS and (type_, width) == TIMES
+    return name in KERNELS or width == SERIES_WIDTH and not (name == 'sequence' and type_ == 'u8')
+
+
+def beside(table, kernel, rows):
+    """The time of a kernel of blocks over that of the kernel that it is judged beside; None of another kernel."""
+    if kernel.name not in BESIDE:
+        return None
+    other = kernel._replace(name=BESIDE[kernel.name][0])
+    return table[kernel, rows].micros('proved') / table[other, rows].micros('proved')
 
 
 def growth(table, kernel, place, body='proved'):
@@ -168,7 +188,7 @@ def lines_of(table):
     """Two lines of heads, and a line for each kernel."""
     heads = [['', '', ''], ['kernel', 'type', 'width']]
     for place, size in enumerate(SIZES):
-        columns = ['us', *size.bodies[1:]] + ['x10'] * (place > 0) + ['grows'] * (size.rows > UNCACHED)
+        columns = ['us', *size.bodies[1:], 'v1'] + ['x10'] * (place > 0) + ['grows'] * (size.rows > UNCACHED)
         heads[0] += ['%d rows' % size.rows] + [''] * (len(columns) - 1)
         heads[1] += columns
     lines = []
@@ -177,6 +197,7 @@ def lines_of(table):
         for place, size in enumerate(SIZES):
             times = table[kernel, size.rows]
             line += ['%d' % times.micros('proved'), *(figure(times.ratio(body)) for body in size.bodies[1:])]
+            line += [figure(beside(table, kernel, size.rows))]
             line += [figure(growth(table, kernel, place))] if place > 0 else []
             line += [figure(grows(table, kernel, place))] if size.rows > UNCACHED else []
         lines.append(line)
@@ -188,18 +209,29 @@ def faults_of(table):
     return [fault for kernel in kernels_of(CASES) for place in range(len(SIZES)) for fault in faults_at(table, kernel, place)]
 
 
+def loops_of(kernel, rows):
+    """How many times the time of the Rust loops a kernel may take at this number of rows, by the loop. `canonical` of frames
+    and of parts copies the columns that it decodes from before it adds them up, which no loop does."""
+    if kernel.name == PARTS:
+        return {'unrolled': UNROLLED} if rows == PARTS_JUDGED else {}
+    if rows != JUDGED or kernel.name in FRAMES:
+        return {}
+    return {'plain': PLAIN, 'unrolled': UNROLLED} if kernel.width <= UNROLLED_WIDTH else {'plain': PLAIN}
+
+
 def faults_at(table, kernel, place):
     """The limits that do not hold of a kernel at one number of rows."""
     rows = SIZES[place].rows
-    times = table[kernel, rows]
-    plain, unrolled = times.ratio('plain'), times.ratio('unrolled')
-    found = []
+    times, found = table[kernel, rows], []
     if len(times.digests) > 1:
         found.append('other bytes than those of the Rust loops')
-    if rows == JUDGED and plain is not None and plain > PLAIN:
-        found.append('%.2f times the time of the plain loop' % plain)
-    if rows == JUDGED and unrolled is not None and kernel.width <= UNROLLED_WIDTH and unrolled > UNROLLED:
-        found.append('%.2f times the time of the unrolled loop' % unrolled)
+    for body, limit in loops_of(kernel, rows).items():
+        ratio = times.ratio(body)
+        if ratio is not None and ratio > limit:
+            found.append('%.2f times the time of the %s loop' % (ratio, body))
+    ratio = beside(table, kernel, rows) if rows == JUDGED else None
+    if ratio is not None and ratio > BESIDE[kernel.name][1]:
+        found.append('%.2f times the time of %s' % (ratio, BESIDE[kernel.name][0]))
     grown = grows(table, kernel, place)
     if grown is not None and grown > GROWTH:
         found.append('%.2f times the growth of the plain loop' % grown)

@@ -3,6 +3,9 @@
 //!
 //!     kernels plain|unrolled u8|u32|u64 WIDTH ROWS REPEATS
 //!
+//! blocks.rs has the kernels of blocks and of whole columns, as another program over the same rows and clock: so the machine
+//! code of these loops, and with it their time, doesn't depend on those.
+//!
 //! Writes a line for each measurement, as vx_bench does: kernel, type, width, rows, the least processor time in
 //! microseconds, and a digest of the answer.
 
@@ -13,7 +16,7 @@ use std::process::ExitCode;
 use std::time::Duration;
 
 /// The rows of a packed block: at every width they fill whole bytes.
-const BLOCK_ROWS: usize = 1024;
+pub const BLOCK_ROWS: usize = 1024;
 
 /// The generator of values: each state is the one before it times MULTIPLIER plus INCREMENT.
 const SEED: u64 = 1;
@@ -24,7 +27,7 @@ const INCREMENT: u64 = 1442695040888963407;
 const DIGEST_FACTOR: u64 = 31;
 
 /// The one width at which the kernels of series are timed.
-const SERIES_WIDTH: u32 = 7;
+pub const SERIES_WIDTH: u32 = 7;
 
 /// The length of each run of their rows.
 const RUN_ROWS: u32 = 100;
@@ -33,7 +36,7 @@ const RUN_ROWS: u32 = 100;
 // types
 
 /// An unsigned integer type.
-trait Integer: Copy {
+pub trait Integer: Copy {
     const NAME: &'static str;
     const BITS: u32;
 
@@ -79,7 +82,7 @@ fn packed_size(rows: usize, width: u32) -> usize {
 }
 
 /// The kernels, written in one way.
-trait Kernels {
+pub trait Kernels {
     /// Entry w is the number of rows with w binary digits.
     fn histogram<T: Integer>(values: &[T], valid: &[bool]) -> Vec<u64>;
 
@@ -108,7 +111,7 @@ trait Kernels {
 }
 
 /// Heads, numbers and offsets.
-type BlockRuns = (Vec<u64>, Vec<u64>, Vec<u64>);
+pub type BlockRuns = (Vec<u64>, Vec<u64>, Vec<u64>);
 
 /// Whether two rows aren't equal.
 #[inline(always)]
@@ -120,7 +123,7 @@ fn is_other<T: Integer>(values: &[T], valid: &[bool], row: usize) -> bool {
 // plain
 
 /// Loops row by row.
-struct Plain;
+pub struct Plain;
 
 impl Kernels for Plain {
     #[inline(never)]
@@ -280,10 +283,10 @@ fn word_at(bytes: &[u8]) -> u64 {
 // unrolled
 
 /// 64 rows at a time, with a body for each width.
-struct Unrolled;
+pub struct Unrolled;
 
 /// Rows at a time: 64 rows fill whole words at every width.
-const GROUP: usize = 64;
+pub const GROUP: usize = 64;
 
 /// Writes the body once for each row of a group, with the row as a constant.
 macro_rules! each_row {
@@ -477,7 +480,7 @@ fn pack_groups<T: Integer, const W: usize>(values: &[T], valid: &[bool]) -> Vec<
 
 /// The packed values of a group, with zeros behind its rows. All rows are tested at once.
 #[inline(always)]
-fn fitting_group<T: Integer, const W: usize>(values: &[T], valid: &[bool]) -> [u64; GROUP] {
+pub fn fitting_group<T: Integer, const W: usize>(values: &[T], valid: &[bool]) -> [u64; GROUP] {
     let mut group = [0; GROUP];
     for (bits, value) in group.iter_mut().zip(values) {
         *bits = value.to_bits();
@@ -493,7 +496,7 @@ fn fitting_group<T: Integer, const W: usize>(values: &[T], valid: &[bool]) -> [u
 }
 
 #[inline(always)]
-fn pack_group<const W: usize>(group: &[u64; GROUP], out: &mut [u8]) {
+pub fn pack_group<const W: usize>(group: &[u64; GROUP], out: &mut [u8]) {
     let out = &mut out[..8 * W];
     let mut acc = 0;
     each_row!(|ROW| {
@@ -520,7 +523,7 @@ fn unpack_groups<T: Integer, const W: usize>(packed: &[u8], rows: usize) -> Vec<
 }
 
 #[inline(always)]
-fn unpack_group<T: Integer, const W: usize>(packed: &[u8]) -> [T; GROUP] {
+pub fn unpack_group<T: Integer, const W: usize>(packed: &[u8]) -> [T; GROUP] {
     let packed = &packed[..8 * W];
     let word = |at: usize| u64::from_le_bytes(packed[8 * at..8 * at + 8].try_into().unwrap());
     let mut group = [T::from_low_bits(0); GROUP];
@@ -539,7 +542,7 @@ fn unpack_group<T: Integer, const W: usize>(packed: &[u8]) -> [T; GROUP] {
 // timing
 
 /// The rows that vx_bench makes.
-fn values<T: Integer>(rows: usize, width: u32) -> Vec<T> {
+pub fn values<T: Integer>(rows: usize, width: u32) -> Vec<T> {
     let mut state = SEED;
     let next = || {
         state = state.wrapping_mul(MULTIPLIER).wrapping_add(INCREMENT);
@@ -591,19 +594,19 @@ fn digest<T: Integer>(items: &[T]) -> u64 {
 }
 
 /// The rows that the kernels run on, and the number of timed runs of each.
-struct Setting {
-    width: u32,
-    rows: usize,
+pub struct Setting {
+    pub width: u32,
+    pub rows: usize,
     repeats: u32,
 }
 
 impl Setting {
-    fn parse(width: &str, rows: &str, repeats: &str) -> Option<Self> {
+    pub fn parse(width: &str, rows: &str, repeats: &str) -> Option<Self> {
         Some(Setting { width: width.parse().ok()?, rows: rows.parse().ok()?, repeats: repeats.parse().ok()? })
     }
 
     /// Times a kernel that answers one list.
-    fn time<T: Integer, A: Integer>(&self, name: &str, kernel: impl Fn() -> Vec<A>) -> Vec<A> {
+    pub fn time<T: Integer, A: Integer>(&self, name: &str, kernel: impl Fn() -> Vec<A>) -> Vec<A> {
         self.time_by::<T, _>(name, kernel, |answer| digest(answer))
     }
 

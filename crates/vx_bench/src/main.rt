@@ -1,4 +1,4 @@
-//! Times the phases of a compression, or the kernels of bit packing, by std's clock.
+//! Times the phases of a compression, or the kernels, by std's clock.
 #![tactic(auto)]
 
 mod kernels;
@@ -20,7 +20,7 @@ enum Form {
 }
 
 fn ptype_of(name: &str) -> Option<PType> {
-    [PType::U8, PType::U32, PType::U64]
+    [PType::U8, PType::U32, PType::U64, PType::I64]
         .into_iter()
         .find(|ptype| ptype.name() == name)
 }
@@ -61,7 +61,7 @@ fn main(rt: HostRuntime) -> Result<()> {
         Form::Usage => {
             println!(rt; "usage: vx_bench compress < document")?;
             println!(rt; "       vx_bench parse < document")?;
-            println!(rt; "       vx_bench kernels u8|u32|u64 WIDTH ROWS REPEATS")?;
+            println!(rt; "       vx_bench kernels u8|u32|u64|i64 WIDTH ROWS REPEATS")?;
             Ok(())
         }
     }
