@@ -1,0 +1,20 @@
+//! Rows chosen by position: pieces of flat columns, and the lists of pieces that masks stand for.
+#![tactic(auto)]
+
+mod bytes;
+mod growing;
+mod inner;
+mod ints;
+mod masks;
+mod piece;
+mod pieced;
+#[cfg(test)]
+mod tests;
+
+pub use bytes::pieced_bytes;
+pub use growing::{add_filled, add_row, add_rows};
+pub use inner::fixed_inner_pieces;
+pub use ints::pieced_ints;
+pub use masks::{kept_pieces, masked_pieces};
+pub use piece::{Piece, total};
+pub use pieced::pieced_bits;
