@@ -27,7 +27,8 @@ use Rattle.vx_values.specs.declared.ints.Ints.{Ints}
 use Rattle.vx_values.specs.IntsOf.{wholes_of}
 use Rattle.vx_values.proofs.BlockOffsets.{rises_to}
 use Rattle.vx_array.specs.IsDecoded.{IsDecoded}
-use Rattle.vx_array.proofs.Decodings.{AreIntegers, integer_rows, no_nulls}
+use Rattle.vx_array.specs.Lent.{AreIntegers}
+use Rattle.vx_array.proofs.Decodings.{integer_rows, no_nulls}
 use Rattle.vx_array.proofs.Unpacked.{natural_bits-le}
 
 -- ---- no block needs more than 64 bits

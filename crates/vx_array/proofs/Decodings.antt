@@ -1,6 +1,6 @@
 -- What a node is decoded to, by what the trees inside are.
-use Rattle.std.proofs.Common.{◌≡◌, ◌∙◌, ℕ, ℤ, pos, List, [], ◌∷◌, map, length, Bool, ap, refl, sym, true, false, cond, Some, None, Option}
-use Rattle.std.specs.Prelude.{IsTrue}
+use Rattle.std.proofs.Common.{◌≡◌, ◌∙◌, ℕ, ℤ, pos, List, [], ◌∷◌, map, length, Bool, ap, refl, subst, sym, true, false, cond, Some, None, Option}
+use Rattle.std.specs.Prelude.{IsTrue, is_some}
 use Rattle.std.specs.List.{list_any, range_with_len}
 use Rattle.std.proofs.lemmas.Bool.{cond_both, or_parts}
 use Rattle.std.proofs.lemmas.List.{length-map}
@@ -38,6 +38,8 @@ use Rattle.vx_values.specs.Codes.{validity_by_codes}
 use Rattle.vx_values.specs.IntsOf.{ptype_of, wholes_of}
 use Rattle.vx_values.specs.ValuesOf.{truths, ints, byte_rows, kind_of, kind_in, holds_integers, values_of, default_in, AreRows}
 use Rattle.vx_array.specs.IsDecoded.{IsDecoded}
+use Rattle.vx_array.specs.declared.lent.LentInts.{LentInts}
+use Rattle.vx_array.specs.Lent.{AreIntegers, lent}
 
 -- ---- the kind of a tree's type
 
@@ -91,12 +93,6 @@ view_rows vs valid t d w r =
 
 -- ---- trees of integers
 
--- integers, 0 beneath nulls, and their validity are a tree's rows
-pub record AreIntegers (t : Tree) (xs : Ints) (valid : Validity) : Type 0 where
-  pub ptype : ptype_of xs ≡ integer_of (tree_type t)
-  pub wholes : wholes_of xs ≡ map whole_or_zero (rows t)
-  pub bits : valid ≡ validity (rows t)
-
 integer_kind : (t : PlainType) (p : PType) → is_integer t ≡ true → ints p ≡ kind_of t → p ≡ integer_of t
 integer_kind (types.primitive q n) p i e = cc
 integer_kind t p i e = absurd cc
@@ -135,6 +131,17 @@ primitive_rows p xs valid n d w = integer_rows (primitive p xs valid n) p n (zer
 
 pub packed_rows : (k : PlainPacked) (o : Option PlainPatches) (d : Decoded) → WellFormed (packed_of k o) → AreRows (ints k.ptype) (map int (zeroed_by (pos 0) k.valid (below (λ i. whole_or_zero (packed_or_patch k o i)) k.len))) k.valid d → IsDecoded (packed_of k o) d
 packed_rows k o d w = integer_rows (packed_of k o) k.ptype k.nullability _ k.valid d w (type-packed_of k o) (sym (map-packed_of whole_or_zero k o w)) (sym (validity-packed_of k o w))
+
+-- what a plain tree without nulls stores
+pub stored_integers : (xs : Ints) (valid : Validity) (n : Nullability) → is_some valid ≡ false → WellFormed (primitive (ptype_of xs) (wholes_of xs) valid n) → AreIntegers (primitive (ptype_of xs) (wholes_of xs) valid n) xs None
+stored_integers xs None n none w =
+    let d : Decoded = record { values = lists.Ints xs; valid = None } in
+    integers_of (primitive (ptype_of xs) (wholes_of xs) None n) d xs None w refl refl refl (primitive_rows (ptype_of xs) (wholes_of xs) None n d w (refl, refl, refl))
+stored_integers xs (Some bits) n none w = absurd cc
+
+-- lent integers of a child, which the node holds in a box
+pub lent_integers : (t u : Tree) (l : LentInts) (xs : Ints) (valid : Validity) → t ≡ u → xs ≡ lent l → AreIntegers t (lent l) valid → AreIntegers u xs valid
+lent_integers t u l xs valid same is h = subst (λ t. AreIntegers t xs valid) same (subst (λ ys. AreIntegers t ys valid) (sym is) h)
 
 pub moved_rows : (encoded : Tree) (reference : PlainScalar) (xs : Ints) (valid : Validity) (d : Decoded) → WellFormed (frame_of_reference encoded reference) → AreIntegers encoded xs valid
     → AreRows (ints (integer_of reference.dtype)) (map int (zeroed_by (pos 0) valid (map (summed reference) (wholes_of xs)))) valid d → IsDecoded (frame_of_reference encoded reference) d

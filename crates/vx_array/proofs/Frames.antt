@@ -31,7 +31,8 @@ use Rattle.vx_values.specs.IntsOf.{ptype_of, wholes_of}
 use Rattle.vx_values.specs.ValuesOf.{ints, AreRows}
 use Rattle.vx_array.specs.IsArray.{IsArray}
 use Rattle.vx_array.specs.IsDecoded.{IsDecoded}
-use Rattle.vx_array.proofs.Decodings.{AreIntegers, integer_rows}
+use Rattle.vx_array.specs.Lent.{AreIntegers}
+use Rattle.vx_array.proofs.Decodings.{integer_rows}
 use Rattle.vx_array.proofs.WholeRows.{whole-row}
 
 pub frames_array : (encoded references : Tree) (own : PlainType) (len : ℕ) → for_v2_refusal encoded references ≡ None → WellFormed encoded → WellFormed references

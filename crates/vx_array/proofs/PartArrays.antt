@@ -9,7 +9,7 @@ use Rattle.vx_base.specs.declared.ptype.PType.{PType}
 use Rattle.vx_base.specs.declared.ptype.PType.TheVariants.{I64}
 use Rattle.vx_base.specs.Defaults.{or_default}
 use Rattle.vx_base.specs.Integers.{lies_in}
-use Rattle.vx_base.specs.PlainType.{PlainType, integer_of, is_integer, is_nullable, same_type, stored_type}
+use Rattle.vx_base.specs.PlainType.{PlainType, is_integer, is_nullable, same_type, stored_type}
 use Rattle.vx_base.specs.PlainType as types
 use Rattle.vx_base.specs.PlainValue.{PlainValue, null, int, is_null, whole_or_zero}
 use Rattle.vx_base.specs.Storable.{same_path}
@@ -33,7 +33,7 @@ use Rattle.vx_values.specs.IntsOf.{wholes_of}
 use Rattle.vx_values.specs.ValuesOf.{ints, AreRows}
 use Rattle.vx_array.specs.IsArray.{IsArray}
 use Rattle.vx_array.specs.IsDecoded.{IsDecoded}
-use Rattle.vx_array.proofs.Decodings.{AreIntegers}
+use Rattle.vx_array.specs.Lent.{AreIntegers}
 use Rattle.vx_array.proofs.WholeRows.{whole-row, same-valid}
 
 pub parts_array : (k : PlainTimestamp) (n : Nullability) (days seconds subseconds : Tree) (own : PlainType) (len : ℕ) → datetime_parts_refusal k n days seconds subseconds ≡ None → WellFormed days → WellFormed seconds → WellFormed subseconds

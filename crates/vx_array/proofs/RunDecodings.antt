@@ -27,7 +27,8 @@ use Rattle.vx_values.specs.declared.ints.Ints.{Ints}
 use Rattle.vx_values.specs.IntsOf.{ptype_of, wholes_of}
 use Rattle.vx_values.specs.ValuesOf.{ints, AreRows}
 use Rattle.vx_array.specs.IsDecoded.{IsDecoded}
-use Rattle.vx_array.proofs.Decodings.{AreIntegers, integer_rows, no_nulls}
+use Rattle.vx_array.specs.Lent.{AreIntegers}
+use Rattle.vx_array.proofs.Decodings.{integer_rows, no_nulls}
 
 pub sequence_rows : (p : PType) (n : Nullability) (first step : ℤ) (len : ℕ) (d : Decoded) → AreRows (ints p) (map int (below (sequence_row first step) len)) None d → IsDecoded (sequence p n first step len) d
 sequence_rows p n first step len d r =

@@ -32,8 +32,9 @@ use Rattle.vx_values.specs.Codes.{validity_by_codes}
 use Rattle.vx_values.specs.IntsOf.{ptype_of, wholes_of}
 use Rattle.vx_values.specs.ValuesOf.{kind_of, kind_in, values_of, default_in, AreRows}
 use Rattle.vx_array.specs.IsDecoded.{IsDecoded}
+use Rattle.vx_array.specs.Lent.{AreIntegers}
 use Rattle.vx_flat.specs.RunPlaces.{run_of_row, block_place, IsWord}
-use Rattle.vx_array.proofs.Decodings.{AreIntegers, dict_rows, kind_of-dict, wholes-rows}
+use Rattle.vx_array.proofs.Decodings.{dict_rows, kind_of-dict, wholes-rows}
 use Rattle.vx_array.proofs.Flat.{integer_flat}
 use Rattle.vx_array.proofs.SumLemmas.{whole_row}
 use Rattle.vx_flat.proofs.RunPlaces.{below-same, passing, run_value-number}

@@ -5,6 +5,7 @@ pub mod HasRuns
 pub mod IsArray
 pub mod IsDecoded
 pub mod Kept
+pub mod Lent
 pub mod Look
 pub mod Sums
 pub mod TreeFalls

@@ -3,17 +3,19 @@
 
 ghost use Rattle.std.specs.Prelude.{◌≡◌, IsTrue};
 ghost use Rattle.vx_base.specs.Answers.{Answers, OrMemory};
-ghost use Rattle.vx_base.specs.PlainType.{is_flat};
+ghost use Rattle.vx_base.specs.PlainType.{is_flat, is_integer};
 ghost use Rattle.vx_model.specs.Column.{column_of};
 ghost use Rattle.vx_model.specs.Plain.{IsPlain, plain};
 ghost use Rattle.vx_model.specs.TreeType.{tree_type};
 ghost use Rattle.vx_array.specs.HasRuns.{has_blocks, has_columns, has_runs};
 ghost use Rattle.vx_array.specs.IsDecoded.{IsDecoded};
+ghost use Rattle.vx_array.specs.Lent.{AreIntegers, lent};
 
 use crate::array::{ArrayRef, Node};
+use crate::lent::LentInts;
 use crate::node::{as_type, decoded_in_blocks, decoded_packed, decoded_sparse};
 use std::alloc::Global;
-use vx_base::VortexResult;
+use vx_base::{Mask, VortexResult};
 use vx_flat::{
     block_places, decoded_bool, decoded_by_codes, decoded_constant, decoded_delta, decoded_frames,
     decoded_masked, decoded_moved, decoded_parts, decoded_primitive, decoded_sequence,
@@ -86,8 +88,8 @@ impl ArrayRef {
                 decoded_packed(alloc, *ptype, *width, packed, *len, valid, patches)
             }
             Node::FoR(encoded, reference) => {
-                let (differences, valid) = encoded.array.decoded(alloc)?.into_integers();
-                decoded_moved(alloc, differences, valid, reference)
+                let (differences, valid) = encoded.array.integers(alloc)?;
+                decoded_moved(alloc, differences.as_ints(), valid, reference)
             }
             Node::ZigZag(encoded) => {
                 let (zigzags, valid) = encoded.array.decoded(alloc)?.into_integers();
@@ -107,6 +109,24 @@ impl ArrayRef {
             Node::FoRV2(_, _) => self.decoded_columns(alloc),
             Node::Null(_) | Node::Struct(_, _, _, _, _) => unreachable!(),
             Node::List(_, _, _, _) | Node::FixedSizeList(_, _, _, _, _) => unreachable!(),
+        }
+    }
+
+    // The integers and validity of a tree of integers. A plain tree without nulls lends what it stores.
+    #[cycle(decoded)]
+    pub(crate) fn integers(&self, alloc: Global) -> VortexResult<(LentInts<'_>, Option<Mask>)>
+        requires { IsTrue (is_integer (tree_type self.now)) }
+        ensures { OrMemory result (λ r. AreIntegers self.now (lent r.0) r.1) }
+    {
+        self.known();
+        match &self.node {
+            Node::Primitive(values, valid, _) if valid.is_none() => {
+                Ok((LentInts::Stored(values), None))
+            }
+            _ => {
+                let (ints, valid) = self.decoded(alloc)?.into_integers();
+                Ok((LentInts::Decoded(ints), valid))
+            }
         }
     }
 
@@ -135,15 +155,16 @@ impl ArrayRef {
     {
         match &self.node {
             Node::DateTimeParts(kind, _, days, seconds, subseconds) => {
-                let (days, valid) = days.array.decoded(alloc)?.into_integers();
-                let (seconds, _) = seconds.array.decoded(alloc)?.into_integers();
-                let (subseconds, _) = subseconds.array.decoded(alloc)?.into_integers();
-                decoded_parts(alloc, kind.unit(), &days, valid, &seconds, &subseconds)
+                let (days, valid) = days.array.integers(alloc)?;
+                let (seconds, _) = seconds.array.integers(alloc)?;
+                let (rest, _) = subseconds.array.integers(alloc)?;
+                let (days, seconds) = (days.as_ints(), seconds.as_ints());
+                decoded_parts(alloc, kind.unit(), days, valid, seconds, rest.as_ints())
             }
             Node::FoRV2(encoded, references) => {
-                let (differences, valid) = encoded.array.decoded(alloc)?.into_integers();
-                let (references, _) = references.array.decoded(alloc)?.into_integers();
-                decoded_frames(alloc, differences, valid, &references)
+                let (differences, valid) = encoded.array.integers(alloc)?;
+                let (references, _) = references.array.integers(alloc)?;
+                decoded_frames(alloc, differences.as_ints(), valid, references.as_ints())
             }
             _ => unreachable!(),
         }

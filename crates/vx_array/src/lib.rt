@@ -8,6 +8,7 @@ mod beneath;
 mod canonical;
 mod copies;
 mod joined_bytes;
+mod lent;
 mod look_up;
 mod node;
 mod of_values;

@@ -22,7 +22,7 @@ fn chunked(alloc: Global, chunks: ArrayRef) -> Result<Patches, VortexError> {
     }
 }
 
-// The same without chunk offsets.
+// The patches of those indices without chunk offsets.
 fn unchunked(alloc: Global) -> VortexResult<Patches> {
     let indices = flat(alloc, U16, NonNullable, &INDICES)?;
     let values = flat(alloc, I32, NonNullable, &[10, 11, 12, 13, 14])?;

@@ -54,16 +54,16 @@ fn moved(alloc: Global, reference: &Scalar, differences: &Ints) -> VortexResult<
 /// differences.
 pub fn decoded_moved(
     alloc: Global,
-    differences: Ints,
+    differences: &Ints,
     valid: Option<Mask>,
     reference: &Scalar,
 ) -> VortexResult<Decoded>
     requires integer { IsTrue (is_integer reference.now.dtype) }
     requires not_null { is_null reference.now.value ≡ false }
-    requires unsigned { ptype_of differences ≡ unsigned_of (integer_of reference.now.dtype) }
-    requires bits { validity_length valid (length (wholes_of differences)) ≡ true }
-    ensures { OrMemory result (AreRows (ints (integer_of reference.now.dtype)) (map int (zeroed_by (pos 0) valid (map (summed reference.now) (wholes_of differences)))) valid) }
+    requires unsigned { ptype_of differences.now ≡ unsigned_of (integer_of reference.now.dtype) }
+    requires bits { validity_length valid (length (wholes_of differences.now)) ≡ true }
+    ensures { OrMemory result (AreRows (ints (integer_of reference.now.dtype)) (map int (zeroed_by (pos 0) valid (map (summed reference.now) (wholes_of differences.now)))) valid) }
 {
-    let values = moved(alloc, reference, &differences)?;
+    let values = moved(alloc, reference, differences)?;
     Ok(behind(values, valid))
 }

@@ -38,14 +38,14 @@ pub fn framed_at(ptype: PType, reference: i128, difference: Cell<'_>) -> Cell<'s
 /// validity is that of the differences.
 pub fn decoded_frames(
     alloc: Global,
-    differences: Ints,
+    differences: &Ints,
     valid: Option<Mask>,
     references: &Ints,
 ) -> VortexResult<Decoded>
-    requires unsigned { ptype_of differences ≡ unsigned_of (ptype_of references.now) }
-    requires blocks { length (wholes_of references.now) ≡ block_count (length (wholes_of differences)) }
-    requires bits { validity_length valid (length (wholes_of differences)) ≡ true }
-    ensures { OrMemory result (AreRows (ints (ptype_of references.now)) (map int (zeroed_by (pos 0) valid (moved_by_block (ptype_of references.now) (wholes_of references.now) (wholes_of differences)))) valid) }
+    requires unsigned { ptype_of differences.now ≡ unsigned_of (ptype_of references.now) }
+    requires blocks { length (wholes_of references.now) ≡ block_count (length (wholes_of differences.now)) }
+    requires bits { validity_length valid (length (wholes_of differences.now)) ≡ true }
+    ensures { OrMemory result (AreRows (ints (ptype_of references.now)) (map int (zeroed_by (pos 0) valid (moved_by_block (ptype_of references.now) (wholes_of references.now) (wholes_of differences.now)))) valid) }
 {
     let values = differences.moved_in_blocks(alloc, references)?;
     Ok(behind(values, valid))

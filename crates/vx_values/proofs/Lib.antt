@@ -5,10 +5,10 @@ pub mod Offsets
 pub mod Steps
 pub mod Types
 pub mod Unpacked
-pub mod BlockWrites
 pub mod WrappedSums
 pub mod PartSums
 pub mod BlockSums
 pub mod DifferenceBlocks
 pub mod DifferenceRows
+pub mod BlockGrowth
 pub mod BlockOffsets

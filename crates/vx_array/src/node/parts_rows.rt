@@ -41,7 +41,6 @@ pub(super) fn are_canonical(
 }
 
 // `are_canonical` of the decoded columns, by the units in a second.
-#[tactic(auto, using(crate::proofs::Flat::flat_integers))]
 fn decoded_are_canonical(
     alloc: Global,
     divisor: i64,
@@ -56,13 +55,11 @@ fn decoded_are_canonical(
     requires subseconds_length { length (rows subseconds.now) ≡ length (rows days.now) }
     ensures { OrMemory result (λ held. held ≡ are_canonical divisor (rows days.now) (rows seconds.now) (rows subseconds.now)) }
 {
-    days.known();
-    seconds.known();
-    subseconds.known();
-    let (days, valid) = days.decoded(alloc)?.into_integers();
-    let (seconds, _) = seconds.decoded(alloc)?.into_integers();
-    let (subseconds, _) = subseconds.decoded(alloc)?.into_integers();
-    Ok(parts_are_canonical(divisor, &days, &valid, &seconds, &subseconds))
+    let (days, valid) = days.integers(alloc)?;
+    let (seconds, _) = seconds.integers(alloc)?;
+    let (rest, _) = subseconds.integers(alloc)?;
+    let (days, seconds) = (days.as_ints(), seconds.as_ints());
+    Ok(parts_are_canonical(divisor, days, &valid, seconds, rest.as_ints()))
 }
 
 // `are_canonical` row by row.

@@ -54,11 +54,9 @@ fn decoded_have_places(
     requires begins { length (rows offsets.now) ≡ block_count len }
     ensures { OrMemory result (λ held. held ≡ list_all (is_place values) (below (rle_place (rows offsets.now) (rows indices.now)) len)) }
 {
-    indices.known();
-    offsets.known();
-    let (numbers, _) = indices.decoded(alloc)?.into_integers();
-    let (begins, _) = offsets.decoded(alloc)?.into_integers();
-    sums_are_places(alloc, values, &numbers, &begins, len)
+    let (numbers, _) = indices.integers(alloc)?;
+    let (begins, _) = offsets.integers(alloc)?;
+    sums_are_places(alloc, values, numbers.as_ints(), begins.as_ints(), len)
 }
 
 // `have_places` row by row.

@@ -50,7 +50,7 @@ impl Ints {
     }
 }
 
-// The sums as a list. A block of 1,024 rows is added up before the next, so that its sums stay in the cache.
+// The sums as a list. A block of 1,024 rows is appended and added up before the next, so that its sums stay in the cache.
 fn sums_of<S: Integer>(
     alloc: Global,
     days: &Ints,
@@ -65,12 +65,12 @@ fn sums_of<S: Integer>(
     ensures { OrMemory result (λ list. map S.whole list ≡ combined of_days of_seconds (wholes_of days.now) (wholes_of seconds.now) (wholes_of subseconds.now)) }
 {
     let len = days.len() as usize;
-    let mut sums = vec![in alloc; S::zero(); len]?;
-    let rows = sums.as_mut_slice();
+    let mut sums = Vec::with_capacity(alloc, len)?;
     for block in 0..len.div_ceil(BLOCK_ROWS) {
         let start = BLOCK_ROWS * block;
         let end = start + (len - start).min(BLOCK_ROWS);
-        let part = &mut rows[start..end];
+        sums.resize(end, S::zero())?;
+        let part = sums.slice_mut(start..);
         days.write_to(start, of_days, part);
         seconds.add_to(start, of_seconds, part);
         subseconds.add_to(start, 1, part);

@@ -10,6 +10,7 @@ ghost use Rattle.vx_values.specs.IntsOf.{ptype_of, wholes_of};
 use super::Ints;
 use std::alloc::Global;
 use vx_base::{IntList, Integer, PType, VortexResult};
+use vx_blocks::BLOCK_ROWS;
 
 impl Ints {
     /// Each integer less the reference, wrapping, in the unsigned type of the same width.
@@ -137,7 +138,7 @@ pub(super) fn write_sums<T: Integer, D: Integer>(reference: T, differences: &[D]
     }
 }
 
-// The sum with each difference, as a list.
+// The sum with each difference, as a list, which grows by a block of 1,024 rows at a time.
 fn sums<T: Integer, D: Integer>(
     alloc: Global,
     reference: T,
@@ -146,8 +147,18 @@ fn sums<T: Integer, D: Integer>(
     requires { D.kind ≡ unsigned_of T.kind }
     ensures { OrMemory result (λ list. map T.whole list ≡ map (λ z. wrap T.kind (T.whole reference +ℤ z)) (map D.whole differences.now)) }
 {
-    let mut items = vec![in alloc; T::zero(); differences.len()]?;
-    write_sums(reference, differences, items.as_mut_slice());
+    let len = differences.len();
+    let mut items = Vec::with_capacity(alloc, len)?;
+    for block in 0..len.div_ceil(BLOCK_ROWS) {
+        let start = BLOCK_ROWS * block;
+        let end = start + (len - start).min(BLOCK_ROWS);
+        items.resize(end, T::zero())?;
+        write_sums(
+            reference,
+            &differences[start..end],
+            items.slice_mut(start..),
+        );
+    }
     Ok(IntList::from_vec(items))
 }
 

@@ -46,15 +46,15 @@ fn sums<T: Integer, D: Integer>(
     requires blocks { length references.now ≡ block_count (length differences.now) }
     ensures { OrMemory result (λ list. map T.whole list ≡ moved_by_block T.kind (map T.whole references.now) (map D.whole differences.now)) }
 {
-    let mut items = vec![in alloc; T::zero(); differences.len()]?;
-    let rows = items.as_mut_slice();
+    let mut items = Vec::with_capacity(alloc, differences.len())?;
     for block in 0..references.len() {
         let start = BLOCK_ROWS * block;
         let end = start + (differences.len() - start).min(BLOCK_ROWS);
+        items.resize(end, T::zero())?;
         write_sums(
             references[block],
             &differences[start..end],
-            &mut rows[start..end],
+            items.slice_mut(start..),
         );
     }
     Ok(IntList::from_vec(items))

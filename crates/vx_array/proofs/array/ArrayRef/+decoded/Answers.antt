@@ -6,8 +6,7 @@ use Rattle.std.proofs.lemmas.Bool.{leb-true, and_parts}
 use Rattle.std.proofs.lemmas.List.{length-map}
 use Rattle.std.proofs.lemmas.Result.{MatchResult-weaker}
 use Rattle.vx_base.specs.declared.ptype.PType.TheVariants.{I64}
-use Rattle.vx_base.specs.Integers.{is_signed, unsigned_of}
-use Rattle.vx_base.specs.Packed.{block_count}
+use Rattle.vx_base.specs.Integers.{is_signed}
 use Rattle.vx_base.specs.PlainType.{is_flat, is_integer, integer_of}
 use Rattle.vx_base.specs.PlainValue.{int, whole_or_zero}
 use Rattle.vx_base.proofs.IntegerLemmas.{is_unsigned-is_integer}
@@ -36,9 +35,9 @@ use Rattle.vx_array.proofs.AtNode.{at_node}
 use Rattle.vx_array.proofs.BlockArrays.{has_blocks-blocks_of}
 use Rattle.vx_array.proofs.BlockRows.{whole-offsets, offsets_known, patches_whole, patches_long, validity_long, decoded-widths, decoded-blocks, decoded-sized, blocks_rows}
 use Rattle.vx_array.proofs.Flat.{integer_flat}
-use Rattle.vx_array.proofs.Decodings.{integers_of, bits_of_integers, held_integers, wholes-rows, bool_rows, primitive_rows, view_rows, var_bin_rows, timestamp_rows, masked_rows_of, packed_rows, moved_rows, zig_zag_rows, dict_rows}
+use Rattle.vx_array.proofs.Decodings.{integers_of, bits_of_integers, held_integers, lent_integers, stored_integers, wholes-rows, bool_rows, primitive_rows, view_rows, var_bin_rows, timestamp_rows, masked_rows_of, packed_rows, moved_rows, zig_zag_rows, dict_rows}
 use Rattle.vx_array.proofs.Frames.{frames_rows}
-use Rattle.vx_array.proofs.PartArrays.{parts_rows, whole-integer}
+use Rattle.vx_array.proofs.PartArrays.{parts_rows}
 use Rattle.vx_array.proofs.RunDecodings.{sequence_rows, delta_rows}
 use Rattle.vx_array.proofs.SparseOf.{blocks-sparse_of, columns-sparse_of, has_runs-sparse_of}
 use Rattle.vx_array.proofs.RunRows.{run_end_rows, rle_rows, block_place-word}
@@ -123,21 +122,6 @@ decoded-returns-in-BitPacked t c =
     let a = at_node c.self.view_is c.self.invariant here.is in
     let k = plain_packed here.ptype here.width here.packed here.len here.valid here.field-6 in
     rw a.is (MatchResult-weaker c.decoded_packed.result c.decoded_packed.ensures (λ d r. packed_rows k (unboxed here.patches) d a.well_formed r) (λ e n. n))
-
-pub decoded-into_integers-differences-requires : goal.decoded-into_integers-differences-requires
-decoded-into_integers-differences-requires t c =
-    let a = at_node c.self.view_is c.self.invariant c.in-FoR.is in
-    let got = c.in_ok-decoded-in-FoR in
-    held_integers c.in-FoR.encoded.array.value got.field-0 (ap is_integer a.well_formed.1.encoded_type) (subst (λ t. IsDecoded t got.field-0) c.deref-in-FoR.ensures got.ensures)
-
-pub decoded-returns-in_ok-decoded-in-FoR : goal.decoded-returns-in_ok-decoded-in-FoR
-decoded-returns-in_ok-decoded-in-FoR t c =
-    let a = at_node c.self.view_is c.self.invariant c.in-FoR.is in
-    let got = c.in_ok-decoded-in-FoR in
-    let parts = c.into_integers-differences in
-    let encoded = subst (λ t. IsDecoded t got.field-0) c.deref-in-FoR.ensures got.ensures in
-    let differences = integers_of c.in-FoR.encoded.array.value got.field-0 parts.result.0 parts.result.1 a.well_formed.0 (ap is_integer a.well_formed.1.encoded_type) parts.ensures.values parts.ensures.valid encoded in
-    rw a.is (MatchResult-weaker c.decoded_moved.result c.decoded_moved.ensures (λ d r. moved_rows c.in-FoR.encoded.array.value c.in-FoR.reference parts.result.0 parts.result.1 d a.well_formed differences r) (λ e n. n))
 
 pub decoded-into_integers-zigzags-requires : goal.decoded-into_integers-zigzags-requires
 decoded-into_integers-zigzags-requires t c =
@@ -562,132 +546,61 @@ decoded_columns-unreachable-requires t c =
     let other = c.in_default in
     no_columns c.self.inside.node other.not-DateTimeParts other.not-FoRV2 (ap has_columns c.self.view_is ∙ c.requires.columns)
 
-pub decoded_columns-decoded-requires : goal.decoded_columns-decoded-requires
-decoded_columns-decoded-requires t c =
-    let a = at_node c.self.view_is c.self.invariant c.in-DateTimeParts.is in
-    (search rules, subst (λ t. is_flat (tree_type t) ≡ true) (sym c.deref.ensures) (ap is_flat a.well_formed.3.days_type))
-
-pub decoded_columns-decoded-requires-in-DateTimeParts : goal.decoded_columns-decoded-requires-in-DateTimeParts
-decoded_columns-decoded-requires-in-DateTimeParts t c =
-    let a = at_node c.self.view_is c.self.invariant c.in-DateTimeParts.is in
-    let seconds = tree_type c.in-DateTimeParts.seconds.array.value in
-    (search rules, subst (λ t. is_flat (tree_type t) ≡ true) (sym c.deref-in-DateTimeParts.ensures) (integer_flat seconds (whole-integer seconds a.well_formed.3.seconds_type)))
-
-pub decoded_columns-decoded-requires-in-DateTimeParts-2 : goal.decoded_columns-decoded-requires-in-DateTimeParts-2
-decoded_columns-decoded-requires-in-DateTimeParts-2 t c =
-    let a = at_node c.self.view_is c.self.invariant c.in-DateTimeParts.is in
-    let subseconds = tree_type c.in-DateTimeParts.subseconds.array.value in
-    (search rules, subst (λ t. is_flat (tree_type t) ≡ true) (sym c.deref-in-DateTimeParts-2.ensures) (integer_flat subseconds (whole-integer subseconds a.well_formed.3.subseconds_type)))
-
-pub decoded_columns-into_integers-days-requires : goal.decoded_columns-into_integers-days-requires
-decoded_columns-into_integers-days-requires t c =
-    let a = at_node c.self.view_is c.self.invariant c.in-DateTimeParts.is in
-    let got = c.in_ok-decoded-in-DateTimeParts in
-    held_integers c.in-DateTimeParts.days.array.value got.field-0 (ap is_integer a.well_formed.3.days_type) (subst (λ t. IsDecoded t got.field-0) c.deref.ensures got.ensures)
-
-pub decoded_columns-into_integers-seconds-requires : goal.decoded_columns-into_integers-seconds-requires
-decoded_columns-into_integers-seconds-requires t c =
-    let a = at_node c.self.view_is c.self.invariant c.in-DateTimeParts.is in
-    let got = c.in_ok-decoded-in-DateTimeParts-2 in
-    held_integers c.in-DateTimeParts.seconds.array.value got.field-0 (whole-integer _ a.well_formed.3.seconds_type) (subst (λ t. IsDecoded t got.field-0) c.deref-in-DateTimeParts.ensures got.ensures)
-
-pub decoded_columns-into_integers-subseconds-requires : goal.decoded_columns-into_integers-subseconds-requires
-decoded_columns-into_integers-subseconds-requires t c =
-    let a = at_node c.self.view_is c.self.invariant c.in-DateTimeParts.is in
-    let got = c.in_ok-decoded-in-DateTimeParts-3 in
-    held_integers c.in-DateTimeParts.subseconds.array.value got.field-0 (whole-integer _ a.well_formed.3.subseconds_type) (subst (λ t. IsDecoded t got.field-0) c.deref-in-DateTimeParts-2.ensures got.ensures)
-
-pub decoded_columns-decoded_parts-requires : goal.decoded_columns-decoded_parts-requires
-decoded_columns-decoded_parts-requires t c =
+pub decoded_columns-returns-in_ok-rest-in-DateTimeParts : goal.decoded_columns-returns-in_ok-rest-in-DateTimeParts
+decoded_columns-returns-in_ok-rest-in-DateTimeParts t c =
     let here = c.in-DateTimeParts in
     let a = at_node c.self.view_is c.self.invariant here.is in
-    let own = a.well_formed.3 in
-    let x = c.into_integers-days in
-    let y = c.into_integers-seconds in
-    let z = c.into_integers-subseconds in
-    let one = c.in_ok-decoded-in-DateTimeParts in
-    let two = c.in_ok-decoded-in-DateTimeParts-2 in
-    let three = c.in_ok-decoded-in-DateTimeParts-3 in
-    let days = integers_of here.days.array.value one.field-0 x.result.0 x.result.1 a.well_formed.0 (ap is_integer own.days_type) x.ensures.values x.ensures.valid (subst (λ t. IsDecoded t one.field-0) c.deref.ensures one.ensures) in
-    let seconds = integers_of here.seconds.array.value two.field-0 y.result.0 y.result.1 a.well_formed.1 (whole-integer _ own.seconds_type) y.ensures.values y.ensures.valid (subst (λ t. IsDecoded t two.field-0) c.deref-in-DateTimeParts.ensures two.ensures) in
-    let subseconds = integers_of here.subseconds.array.value three.field-0 z.result.0 z.result.1 a.well_formed.2 (whole-integer _ own.subseconds_type) z.ensures.values z.ensures.valid (subst (λ t. IsDecoded t three.field-0) c.deref-in-DateTimeParts-2.ensures three.ensures) in
-    let ds = ap length days.wholes ∙ length-map (rows here.days.array.value) whole_or_zero in
-    let ss = ap length seconds.wholes ∙ length-map (rows here.seconds.array.value) whole_or_zero in
-    let us = ap length subseconds.wholes ∙ length-map (rows here.subseconds.array.value) whole_or_zero in
-    record { seconds = ss ∙ own.seconds_length ∙ sym ds; subseconds = us ∙ own.subseconds_length ∙ sym ds; bits = bits_of_integers here.days.array.value x.result.0 x.result.1 days }
-
-pub decoded_columns-returns-in_ok-decoded-in-DateTimeParts-3 : goal.decoded_columns-returns-in_ok-decoded-in-DateTimeParts-3
-decoded_columns-returns-in_ok-decoded-in-DateTimeParts-3 t c =
-    let here = c.in-DateTimeParts in
-    let a = at_node c.self.view_is c.self.invariant here.is in
-    let own = a.well_formed.3 in
-    let x = c.into_integers-days in
-    let y = c.into_integers-seconds in
-    let z = c.into_integers-subseconds in
-    let one = c.in_ok-decoded-in-DateTimeParts in
-    let two = c.in_ok-decoded-in-DateTimeParts-2 in
-    let three = c.in_ok-decoded-in-DateTimeParts-3 in
-    let days = integers_of here.days.array.value one.field-0 x.result.0 x.result.1 a.well_formed.0 (ap is_integer own.days_type) x.ensures.values x.ensures.valid (subst (λ t. IsDecoded t one.field-0) c.deref.ensures one.ensures) in
-    let seconds = integers_of here.seconds.array.value two.field-0 y.result.0 y.result.1 a.well_formed.1 (whole-integer _ own.seconds_type) y.ensures.values y.ensures.valid (subst (λ t. IsDecoded t two.field-0) c.deref-in-DateTimeParts.ensures two.ensures) in
-    let subseconds = integers_of here.subseconds.array.value three.field-0 z.result.0 z.result.1 a.well_formed.2 (whole-integer _ own.subseconds_type) z.ensures.values z.ensures.valid (subst (λ t. IsDecoded t three.field-0) c.deref-in-DateTimeParts-2.ensures three.ensures) in
+    let one = c.in_ok-days-in-DateTimeParts in
+    let two = c.in_ok-seconds-in-DateTimeParts in
+    let three = c.in_ok-rest-in-DateTimeParts in
+    let x = c.as_ints-days.result.now in
+    let y = c.as_ints-seconds.result.now in
+    let z = c.as_ints.result.now in
+    let days = lent_integers _ here.days.array.value one.days x one.valid c.deref.ensures c.as_ints-days.ensures one.ensures in
+    let seconds = lent_integers _ here.seconds.array.value two.seconds y two.field-0-1 c.deref-in-DateTimeParts.ensures c.as_ints-seconds.ensures two.ensures in
+    let subseconds = lent_integers _ here.subseconds.array.value three.rest z three.field-0-1 c.deref-in-DateTimeParts-2.ensures c.as_ints.ensures three.ensures in
     rw a.is
     (MatchResult-weaker c.decoded_parts.result c.decoded_parts.ensures
-    (λ d r. parts_rows here.kind here.field-1 here.days.array.value here.seconds.array.value here.subseconds.array.value x.result.0 y.result.0 z.result.0 x.result.1 y.result.1 z.result.1 d a.well_formed days seconds subseconds
-    (subst (λ unit. AreRows (ints I64) (map int (zeroed_by (pos 0) x.result.1 (combined (pos 86_400 *ℤ units_per_second unit) (units_per_second unit) (wholes_of x.result.0) (wholes_of y.result.0) (wholes_of z.result.0)))) x.result.1 d) c.unit.ensures.unit r)) (λ e n. n))
+    (λ d r. parts_rows here.kind here.field-1 here.days.array.value here.seconds.array.value here.subseconds.array.value x y z one.valid two.field-0-1 three.field-0-1 d a.well_formed days seconds subseconds
+    (subst (λ unit. AreRows (ints I64) (map int (zeroed_by (pos 0) one.valid (combined (pos 86_400 *ℤ units_per_second unit) (units_per_second unit) (wholes_of x) (wholes_of y) (wholes_of z)))) one.valid d) c.unit.ensures.unit r)) (λ e n. n))
 
-pub decoded_columns-decoded-requires-in-FoRV2 : goal.decoded_columns-decoded-requires-in-FoRV2
-decoded_columns-decoded-requires-in-FoRV2 t c =
-    let a = at_node c.self.view_is c.self.invariant c.in-FoRV2.is in
-    (search rules, subst (λ t. is_flat (tree_type t) ≡ true) (sym c.deref-in-FoRV2.ensures) (ap is_flat a.well_formed.2.encoded_type))
-
-pub decoded_columns-decoded-requires-in-FoRV2-2 : goal.decoded_columns-decoded-requires-in-FoRV2-2
-decoded_columns-decoded-requires-in-FoRV2-2 t c =
-    let a = at_node c.self.view_is c.self.invariant c.in-FoRV2.is in
-    let references = tree_type c.in-FoRV2.references.array.value in
-    (search rules, subst (λ t. is_flat (tree_type t) ≡ true) (sym c.deref-in-FoRV2-2.ensures) (integer_flat references (whole-integer references a.well_formed.2.references_type)))
-
-pub decoded_columns-into_integers-differences-requires : goal.decoded_columns-into_integers-differences-requires
-decoded_columns-into_integers-differences-requires t c =
-    let a = at_node c.self.view_is c.self.invariant c.in-FoRV2.is in
-    let got = c.in_ok-decoded-in-FoRV2 in
-    held_integers c.in-FoRV2.encoded.array.value got.field-0 (ap is_integer a.well_formed.2.encoded_type) (subst (λ t. IsDecoded t got.field-0) c.deref-in-FoRV2.ensures got.ensures)
-
-pub decoded_columns-into_integers-references-requires : goal.decoded_columns-into_integers-references-requires
-decoded_columns-into_integers-references-requires t c =
-    let a = at_node c.self.view_is c.self.invariant c.in-FoRV2.is in
-    let got = c.in_ok-decoded-in-FoRV2-2 in
-    held_integers c.in-FoRV2.references.array.value got.field-0 (whole-integer _ a.well_formed.2.references_type) (subst (λ t. IsDecoded t got.field-0) c.deref-in-FoRV2-2.ensures got.ensures)
-
-pub decoded_columns-decoded_frames-requires : goal.decoded_columns-decoded_frames-requires
-decoded_columns-decoded_frames-requires t c =
+pub decoded_columns-returns-in_ok-references-in-FoRV2 : goal.decoded_columns-returns-in_ok-references-in-FoRV2
+decoded_columns-returns-in_ok-references-in-FoRV2 t c =
     let here = c.in-FoRV2 in
     let a = at_node c.self.view_is c.self.invariant here.is in
-    let own = a.well_formed.2 in
-    let x = c.into_integers-differences in
-    let y = c.into_integers-references in
-    let one = c.in_ok-decoded-in-FoRV2 in
-    let two = c.in_ok-decoded-in-FoRV2-2 in
-    let encoded = integers_of here.encoded.array.value one.field-0 x.result.0 x.result.1 a.well_formed.0 (ap is_integer own.encoded_type) x.ensures.values x.ensures.valid (subst (λ t. IsDecoded t one.field-0) c.deref-in-FoRV2.ensures one.ensures) in
-    let references = integers_of here.references.array.value two.field-0 y.result.0 y.result.1 a.well_formed.1 (whole-integer _ own.references_type) y.ensures.values y.ensures.valid (subst (λ t. IsDecoded t two.field-0) c.deref-in-FoRV2-2.ensures two.ensures) in
-    let xs = ap length encoded.wholes ∙ length-map (rows here.encoded.array.value) whole_or_zero in
-    let rs = ap length references.wholes ∙ length-map (rows here.references.array.value) whole_or_zero in
-    record {
-      unsigned = encoded.ptype ∙ ap integer_of own.encoded_type ∙ ap unsigned_of (sym references.ptype);
-      blocks = rs ∙ own.lengths ∙ ap block_count (sym xs);
-      bits = bits_of_integers here.encoded.array.value x.result.0 x.result.1 encoded;
-    }
-
-pub decoded_columns-returns-in_ok-decoded-in-FoRV2-2 : goal.decoded_columns-returns-in_ok-decoded-in-FoRV2-2
-decoded_columns-returns-in_ok-decoded-in-FoRV2-2 t c =
-    let here = c.in-FoRV2 in
-    let a = at_node c.self.view_is c.self.invariant here.is in
-    let own = a.well_formed.2 in
-    let x = c.into_integers-differences in
-    let y = c.into_integers-references in
-    let one = c.in_ok-decoded-in-FoRV2 in
-    let two = c.in_ok-decoded-in-FoRV2-2 in
-    let encoded = integers_of here.encoded.array.value one.field-0 x.result.0 x.result.1 a.well_formed.0 (ap is_integer own.encoded_type) x.ensures.values x.ensures.valid (subst (λ t. IsDecoded t one.field-0) c.deref-in-FoRV2.ensures one.ensures) in
-    let references = integers_of here.references.array.value two.field-0 y.result.0 y.result.1 a.well_formed.1 (whole-integer _ own.references_type) y.ensures.values y.ensures.valid (subst (λ t. IsDecoded t two.field-0) c.deref-in-FoRV2-2.ensures two.ensures) in
+    let one = c.in_ok-differences-in-FoRV2 in
+    let two = c.in_ok-references-in-FoRV2 in
+    let x = c.as_ints-in-FoRV2.result.now in
+    let y = c.as_ints-in-FoRV2-2.result.now in
+    let encoded = lent_integers _ here.encoded.array.value one.differences x one.valid c.deref-in-FoRV2.ensures c.as_ints-in-FoRV2.ensures one.ensures in
+    let references = lent_integers _ here.references.array.value two.references y two.field-0-1 c.deref-in-FoRV2-2.ensures c.as_ints-in-FoRV2-2.ensures two.ensures in
     rw a.is
     (MatchResult-weaker c.decoded_frames.result c.decoded_frames.ensures
-    (λ d r. frames_rows here.encoded.array.value here.references.array.value x.result.0 y.result.0 x.result.1 y.result.1 d a.well_formed encoded references r) (λ e n. n))
+    (λ d r. frames_rows here.encoded.array.value here.references.array.value x y one.valid two.field-0-1 d a.well_formed encoded references r) (λ e n. n))
+
+-- ---- integers, lent where they are stored
+
+pub integers-decoded-requires : goal.integers-decoded-requires
+integers-decoded-requires t c = (search rules, integer_flat (tree_type c.args.self.now) c.requires)
+
+pub integers-returns-in-Primitive : goal.integers-returns-in-Primitive
+integers-returns-in-Primitive t c =
+    let here = c.in-Primitive in
+    let a = at_node c.self.view_is c.self.invariant here.is in
+    rw a.is (stored_integers here.values here.valid here.field-2 (c.is_none.ensures ∙ ap not c.if-is_none.true) a.well_formed)
+
+pub integers-returns-in_ok-decoded-in_default : goal.integers-returns-in_ok-decoded-in_default
+integers-returns-in_ok-decoded-in_default t c =
+    let got = c.in_ok-decoded-in_default in
+    let parts = c.into_integers-ints in
+    integers_of c.args.self.now got.field-0 parts.result.0 parts.result.1 c.known.ensures c.requires parts.ensures.values parts.ensures.valid got.ensures
+
+pub decoded-returns-in_ok-differences-in-FoR : goal.decoded-returns-in_ok-differences-in-FoR
+decoded-returns-in_ok-differences-in-FoR t c =
+    let here = c.in-FoR in
+    let a = at_node c.self.view_is c.self.invariant here.is in
+    let got = c.in_ok-differences-in-FoR in
+    let xs = c.as_ints.result.now in
+    let differences = lent_integers _ here.encoded.array.value got.differences xs got.valid c.deref-in-FoR.ensures c.as_ints.ensures got.ensures in
+    rw a.is
+    (MatchResult-weaker c.decoded_moved.result c.decoded_moved.ensures (λ d r. moved_rows here.encoded.array.value here.reference xs got.valid d a.well_formed differences r) (λ e n. n))
