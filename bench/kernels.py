@@ -211,7 +211,7 @@ def faults_of(table):
 
 def loops_of(kernel, rows):
     """How many times the time of the Rust loops a kernel may take at this number of rows, by the loop. `canonical` of frames
-    and of parts copies the columns that it decodes from before it adds them up, which no loop does."""
+    and of parts fills a block of sums before it writes it, which no loop does."""
     if kernel.name == PARTS:
         return {'unrolled': UNROLLED} if rows == PARTS_JUDGED else {}
     if rows != JUDGED or kernel.name in FRAMES:
