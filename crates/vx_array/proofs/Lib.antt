@@ -15,7 +15,11 @@ pub mod Looks
 pub mod MadePlain
 pub mod Making
 pub mod PartArrays
-pub mod PatchPlaces
+pub mod PiecedFixed
+pub mod PiecedFlat
+pub mod PiecedLists
+pub mod PiecedRows
+pub mod PiecedStructs
 pub mod PlacedRows
 pub mod PlainFixed
 pub mod PlainLists

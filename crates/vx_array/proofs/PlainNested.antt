@@ -56,7 +56,7 @@ module _ {A : Type 0} (p : A → Bool) (default : A) (own : p default ≡ true) 
 
 -- ---- structs
 
-names-back : (names : List (List ℕ)) (fields : Trees) → length names ≡ length (list_of fields) → names_of (field_types names fields) ≡ names
+pub names-back : (names : List (List ℕ)) (fields : Trees) → length names ≡ length (list_of fields) → names_of (field_types names fields) ≡ names
 names-back [] none e = refl
 names-back [] (more t ts) e = absurd (omega arith)
 names-back (name ∷ names) none e = absurd (omega arith)

@@ -1,5 +1,5 @@
 -- Rows by the places of their values: what they are decoded to.
-use Rattle.std.proofs.Common.{◌≡◌, ◌<◌, ◌≤◌, ◌+◌, ◌/◌, ◌^◌, ◌∙◌, ℕ, zero, suc, ℤ, pos, List, [], ◌∷◌, map, length, true, None, refl, sym, ap, arith}
+use Rattle.std.proofs.Common.{◌≡◌, ◌<◌, ◌/◌, ◌^◌, ◌∙◌, ℕ, ℤ, map, length, true, None, refl, sym, ap, arith}
 use Rattle.std.specs.Prelude.{◌+ℤ◌}
 use Rattle.std.specs.List.{list_all, range_with_len}
 use Rattle.std.proofs.lemmas.Bool.{lt-ltb}
@@ -11,21 +11,19 @@ use Rattle.vx_base.specs.declared.dtype.Nullability.TheVariants.{NonNullable}
 use Rattle.vx_base.specs.Defaults.{default_of, or_default}
 use Rattle.vx_base.specs.Integers.{lies_in}
 use Rattle.vx_base.specs.PlainType.{is_flat}
-use Rattle.vx_base.specs.PlainValue.{PlainValue, int, whole_or_zero}
+use Rattle.vx_base.specs.PlainValue.{int, whole_or_zero}
 use Rattle.vx_model.specs.Decoded.{zeroed_by, picked}
 use Rattle.vx_model.specs.Plain.{validity}
 use Rattle.vx_model.specs.Refusals.{dict_refusal}
-use Rattle.vx_model.specs.Rows.{rows, row_at, below, block_rows, looked_up, rle_place, offset_at, run_value}
-use Rattle.vx_model.specs.Tree.{Tree, Validity, primitive, dict, run_end, rle}
+use Rattle.vx_model.specs.Rows.{rows, row_at, below, block_rows, looked_up, rle_place}
+use Rattle.vx_model.specs.Tree.{Tree, Validity, primitive, dict, rle}
 use Rattle.vx_model.specs.TreeType.{tree_type}
-use Rattle.vx_model.specs.WellFormed.{WellFormed, is_place, ascend}
+use Rattle.vx_model.specs.WellFormed.{WellFormed, is_place}
 use Rattle.vx_model.proofs.DecodeLemmas.{validity-cells}
 use Rattle.vx_model.proofs.DictDecodeLemmas.{default_of-dict}
 use Rattle.vx_model.proofs.DictLemmas.{dict_accepted}
 use Rattle.vx_model.proofs.MadeLemmas.{primitive_made}
-use Rattle.vx_model.proofs.PatchLemmas.{ascend_parts}
 use Rattle.vx_model.proofs.RleLemmas.{rle-code}
-use Rattle.vx_model.proofs.RunEndLemmas.{last_end, end-between}
 use Rattle.vx_values.specs.declared.decoded.Decoded.{Decoded}
 use Rattle.vx_values.specs.declared.ints.Ints.{Ints}
 use Rattle.vx_values.specs.Codes.{validity_by_codes}
@@ -33,11 +31,11 @@ use Rattle.vx_values.specs.IntsOf.{ptype_of, wholes_of}
 use Rattle.vx_values.specs.ValuesOf.{kind_of, kind_in, values_of, default_in, AreRows}
 use Rattle.vx_array.specs.IsDecoded.{IsDecoded}
 use Rattle.vx_array.specs.Lent.{AreIntegers}
-use Rattle.vx_flat.specs.RunPlaces.{run_of_row, block_place, IsWord}
-use Rattle.vx_array.proofs.Decodings.{dict_rows, kind_of-dict, wholes-rows}
+use Rattle.vx_flat.specs.RunPlaces.{block_place, IsWord}
+use Rattle.vx_array.proofs.Decodings.{dict_rows, kind_of-dict}
 use Rattle.vx_array.proofs.Flat.{integer_flat}
 use Rattle.vx_array.proofs.SumLemmas.{whole_row}
-use Rattle.vx_flat.proofs.RunPlaces.{below-same, passing, run_value-number}
+use Rattle.vx_flat.proofs.RunPlaces.{below-same, passing}
 
 -- ---- rows whose values stand at places among others
 
@@ -66,34 +64,6 @@ module _ (values : Tree) (f : ℕ → ℤ) (n : ℕ) where
         decoded.1 ∙ (λ i. map (or_default (default i)) (same i)),
         decoded.2 ∙ ap validity same,
       )
-
--- ends rise by one at least
-end-far : (low high : ℕ) (ends : List PlainValue) (k : ℕ) → ascend low high ends ≡ true → k < length ends → low + k ≤ offset_at ends k
-end-far low high [] k e l = absurd (omega arith)
-end-far low high (int (pos n) ∷ ends) zero e l = let p = (ascend_parts low high n ends e).0 in omega arith
-end-far low high (int (pos n) ∷ ends) (suc k) e l = let p = ascend_parts low high n ends e in let a = p.0 in let rest = end-far (n + 1) high ends k p.2 (omega arith) in omega arith
-end-far low high (v ∷ ends) k e l = absurd cc
-
-pub run_end_rows : (ends values : Tree) (es places : Ints) (ev : Validity) (v d : Decoded) → WellFormed (run_end ends values) → AreIntegers ends es ev → ptype_of places ≡ U64
-    → wholes_of places ≡ map pos (below (run_of_row (map int (wholes_of es))) (last_end (map int (wholes_of es)))) → IsDecoded values v
-    → AreRows (kind_in v.values) (zeroed_by (default_in (kind_in v.values)) None (map (λ code. picked (ptype_of places) (values_of v.values) (default_in (kind_in v.values)) code) (wholes_of places))) (validity_by_codes (ptype_of places) (wholes_of places) None v.valid) d
-    → IsDecoded (run_end ends values) d
-run_end_rows ends values es places ev v d w h kind wholes hv r =
-    let own = w.2 in
-    let read : map int (wholes_of es) ≡ rows ends = wholes-rows ends es ev w.0 own.ends_type own.not_null h in
-    let f : ℕ → ℤ = λ i. pos (run_of_row (rows ends) i) in
-    let n = last_end (rows ends) in
-    let found = λ (i : ℕ) (l : i < n). run_value-number (rows ends) (rows values) i own.lengths l in
-    let held = λ (i : ℕ) (l : i < n). (
-    let p = (found i l).0 in
-    let far = end-far 1 (2 ^ 64) (rows ends) (run_of_row (rows ends) i) own.rising p in
-    let few = (end-between 1 (2 ^ 64) (rows ends) (run_of_row (rows ends) i) own.rising p).1 in
-    lt-ltb (run_of_row (rows ends) i) (2 ^ 64) (omega arith)
-    ) in
-    placed_rows values f n (run_end ends values) places v d w.1 (integer_flat (tree_type values) own.values_type) refl kind
-    (wholes ∙ (λ j. map pos (below (run_of_row (read j)) (last_end (read j)))) ∙ map-map pos (run_of_row (rows ends)) (range_with_len 0 n)) held
-    (λ i l. lt-ltb (run_of_row (rows ends) i) (length (rows values)) (let p = (found i l).0 in let same = own.lengths in omega arith))
-    (below-same (run_value (rows ends) (rows values)) (λ i. row_at (rows values) (run_of_row (rows ends) i)) n (λ i l. (found i l).1)) hv r
 
 -- ---- the places of blocks of runs
 

@@ -7,6 +7,7 @@ pub mod IsDecoded
 pub mod Kept
 pub mod Lent
 pub mod Look
+pub mod PlainPieced
 pub mod Sums
 pub mod TreeFalls
 pub mod TreeOf

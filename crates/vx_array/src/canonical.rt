@@ -1,5 +1,5 @@
-//! Decoding: the plain tree of a tree's column. Leaf types and timestamps are decoded column by column, nested types value by
-//! value.
+//! Decoding: the plain tree of a tree's column. Leaf types and timestamps are decoded column by column; nested types by the
+//! pieces of their children (`nested.rt`).
 
 ghost use Rattle.std.specs.Prelude.{◌≡◌, IsTrue};
 ghost use Rattle.vx_base.specs.Answers.{Answers, OrMemory};
@@ -17,10 +17,11 @@ use crate::node::{as_type, decoded_in_blocks, decoded_packed, decoded_sparse};
 use std::alloc::Global;
 use vx_base::{Mask, VortexResult};
 use vx_flat::{
-    block_places, decoded_bool, decoded_by_codes, decoded_constant, decoded_delta, decoded_frames,
-    decoded_masked, decoded_moved, decoded_parts, decoded_primitive, decoded_sequence,
-    decoded_var_bin, decoded_view, decoded_zig_zag, run_places,
+    block_places, decoded_bool, decoded_by_codes, decoded_by_runs, decoded_constant, decoded_delta,
+    decoded_frames, decoded_masked, decoded_moved, decoded_parts, decoded_primitive,
+    decoded_sequence, decoded_var_bin, decoded_view, decoded_zig_zag,
 };
+use vx_pieces::Piece;
 use vx_values::{Decoded, Values};
 
 impl ArrayRef {
@@ -40,7 +41,7 @@ impl ArrayRef {
     }
 
     // Of a leaf type or of timestamps: decodes whole columns.
-    fn canonical_flat(&self, alloc: Global) -> VortexResult<ArrayRef>
+    pub(crate) fn canonical_flat(&self, alloc: Global) -> VortexResult<ArrayRef>
         requires { IsTrue (is_flat (tree_type self.now)) }
         ensures { Answers result (plain (column_of self.now)) }
     {
@@ -57,13 +58,16 @@ impl ArrayRef {
         }
     }
 
-    // Of any type, value by value: nested columns have no decoded form but that of their values.
+    // Of a nested type: all rows, as one piece.
     fn canonical_nested(&self, alloc: Global) -> VortexResult<ArrayRef>
         ensures { Answers result (plain (column_of self.now)) }
     {
-        self.known();
-        let values = self.values(alloc)?;
-        ArrayRef::of_values(alloc, self.dtype(), values)
+        let all = Piece::Rows {
+            start: 0,
+            end: self.len(),
+            times: 1,
+        };
+        self.plain_pieces(alloc, &[all])
     }
 
     // The values and validity of a tree of a leaf type or of timestamps. Decodes each child once, and then combines whole
@@ -185,8 +189,7 @@ impl ArrayRef {
             }
             Node::RunEnd(ends, values) => {
                 let (ends, _) = ends.array.decoded(alloc)?.into_integers();
-                let runs = run_places(alloc, &ends)?;
-                decoded_by_codes(alloc, runs, None, values.array.decoded(alloc)?)
+                decoded_by_runs(alloc, &ends, values.array.decoded(alloc)?)
             }
             Node::Rle(values, indices, offsets, len) => {
                 let _places = values.array.len();

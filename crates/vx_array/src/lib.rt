@@ -10,6 +10,7 @@ mod copies;
 mod joined_bytes;
 mod lent;
 mod look_up;
+mod nested;
 mod node;
 mod of_values;
 mod parts;

@@ -57,7 +57,7 @@ pub(crate) use sparse::{
     copied_sparse, sparse_at, sparse_bytes, sparse_has_null, sparse_is_null_at, sparse_value_at,
 };
 pub(crate) use sparse_rows::decoded_sparse;
-pub(crate) use structure::copied_struct;
+pub(crate) use structure::{copied_names, copied_struct};
 pub(crate) use timestamp::{as_type, copied_timestamp, stamped};
 pub(crate) use var_bin::{copied_var_bin, piece_at, var_bin_extents_fit};
 pub(crate) use var_bin_view::{copied_view, gathered_view};

@@ -43,17 +43,6 @@ impl ArrayRef {
         let _len = self.len();
     }
 
-    // The values in all rows.
-    pub(crate) fn values(&self, alloc: Global) -> VortexResult<Vec<Value>>
-        ensures { OrMemory result (λ values. map value_of values.items ≡ rows self.now) }
-    {
-        let mut values = Vec::new(alloc);
-        for row in 0..self.len() {
-            values.push(self.value_at(alloc, row)?)?;
-        }
-        Ok(values)
-    }
-
     /// The value in a row. Lists and structs are read from the rows of their children.
     #[cycle(value_at)]
     pub fn value_at(&self, alloc: Global, row: u64) -> VortexResult<Value>

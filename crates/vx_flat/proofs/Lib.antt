@@ -3,7 +3,6 @@ pub mod ConstantExtents
 pub mod Copies
 pub mod FewWayLemmas
 pub mod PartRows
-pub mod PatchPlaces
 pub mod Payloads
 pub mod RunPlaces
 pub mod StandardFacts

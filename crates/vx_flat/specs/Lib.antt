@@ -1,5 +1,4 @@
 pub mod CanonicalRows
 pub mod Columns
-pub mod Places
 pub mod RunPlaces
 pub mod Ways

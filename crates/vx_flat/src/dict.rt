@@ -25,7 +25,7 @@ pub fn is_place(code: Option<i128>, values: u64) -> bool
 }
 
 /// `values[code]` in each row, the default beneath nulls, and the validity: a row is valid where its code is and that value
-/// is. Used for each node whose rows are found by places: Dict, RunEnd, Rle and Sparse.
+/// is. Used for each node whose rows are found by places: Dict and Rle.
 pub fn decoded_by_codes(
     alloc: Global,
     codes: Ints,

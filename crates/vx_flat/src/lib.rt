@@ -1,8 +1,9 @@
 //! What a node makes of flat columns, with no recursion into child trees: vx_array walks the trees, and hands over here
 //! what the children decode to.
 //!
-//! A file for each node that has a part here, under its name: a row, its bytes, refusals, decoding. Beside them the places
-//! of runs and patches, flat lists out of values, the values within values, and the row counts of nested columns.
+//! A file for each node that has a part here, under its name: a row, its bytes, refusals, decoding. Beside them rows filled
+//! by runs and by patches, the places of runs in blocks, flat lists out of values, the values within values, and the row
+//! counts of nested columns.
 #![tactic(auto)]
 
 mod bool;
@@ -13,13 +14,12 @@ mod datetime_parts;
 mod delta;
 mod dict;
 mod elements;
+mod filling;
 mod fixed_size_list;
 mod frame_of_reference;
 mod frame_of_reference_v2;
 mod lists;
-mod longer;
 mod masked;
-mod patched;
 mod payload;
 mod places;
 mod primitive;
@@ -41,15 +41,14 @@ pub use datetime_parts::{decoded_parts, parts_are_canonical};
 pub use delta::{decoded_delta, wrapped};
 pub use dict::{decoded_by_codes, is_place};
 pub use elements::{byte_elements, element_validity, values_of};
+pub use filling::{decoded_by_patches, decoded_by_runs};
 pub use fixed_size_list::have_elements;
 pub use frame_of_reference::{decoded_moved, moved_at};
 pub use frame_of_reference_v2::{decoded_frames, framed_at};
 pub use lists::{byte_rows, has_null, is_null, truths, validity_of, wholes};
-pub use longer::{bits_with, values_with};
 pub use masked::{decoded_masked, masked_bytes};
-pub use patched::patch_places;
 pub use payload::payload_bytes;
-pub use places::{block_places, run_places, sums_are_places};
+pub use places::{block_places, sums_are_places};
 pub use primitive::{
     decoded_primitive, flat_refusal, is_zero_beneath, primitive_at, primitive_bytes,
 };

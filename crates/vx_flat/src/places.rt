@@ -1,50 +1,21 @@
-//! Where the value of each row stands among the values of runs, for all rows in one pass.
+//! Where the value of each row stands among the values of runs in blocks, for all rows in one pass.
 
 ghost use Rattle.std.specs.List.{list_all};
-ghost use Rattle.std.specs.Prelude.{◌≡◌, ◌≤◌, ◌<◌, ◌-◌, ◌^◌, ◌*◌, ◌+ℤ◌, ◌≤ℤ◌, ℕ, IsTrue, length, map, pos, negsuc};
-ghost use Rattle.vx_flat.specs.RunPlaces.{run_of_row, block_place, IsWord};
-ghost use Rattle.vx_base.specs.Answers.{Answers, OrMemory};
+ghost use Rattle.std.specs.Prelude.{◌≡◌, ◌<◌, ◌-◌, ◌^◌, ◌*◌, ◌+ℤ◌, ◌≤ℤ◌, ℕ, length, map, pos, negsuc};
+ghost use Rattle.vx_flat.specs.RunPlaces.{block_place, IsWord};
+ghost use Rattle.vx_base.specs.Answers.{OrMemory};
 ghost use Rattle.vx_base.specs.Packed.{block_count};
 ghost use Rattle.vx_base.specs.PlainValue.{int};
 ghost use Rattle.vx_base.specs.declared.ptype.PType.TheVariants.{U64};
-ghost use Rattle.vx_model.specs.Rows.{below, block_rows, offset_at};
-ghost use Rattle.vx_model.specs.WellFormed.{ascend, is_place};
+ghost use Rattle.vx_model.specs.Rows.{below, block_rows};
+ghost use Rattle.vx_model.specs.WellFormed.{is_place};
 ghost use Rattle.vx_values.specs.IntsOf.{ptype_of, wholes_of};
 
 use crate::by_type::with_ints;
 use std::alloc::Global;
-use vx_base::{IntList, Integer, VortexResult, Words};
+use vx_base::{IntList, Integer, VortexResult};
 use vx_blocks::BLOCK_ROWS;
 use vx_values::Ints;
-
-/// The number of each row's run, of runs by their ends. Each run is filled in at once.
-pub fn run_places(alloc: Global, ends: &Ints) -> VortexResult<Ints>
-    requires { IsTrue (ascend 1 (2 ^ 64) (map int (wholes_of ends.now))) }
-    ensures { let ends = map int (wholes_of ends.now) in OrMemory result (λ places. (ptype_of places ≡ U64) × (wholes_of places ≡ map pos (below (run_of_row ends) (offset_at ends (length ends - 1))))) }
-{
-    Ok(Ints::U64(run_numbers(alloc, ends)?))
-}
-
-// `run_places` as words.
-fn run_numbers(alloc: Global, ends: &Ints) -> VortexResult<Words>
-    requires { IsTrue (ascend 1 (2 ^ 64) (map int (wholes_of ends.now))) }
-    ensures { let ends = map int (wholes_of ends.now) in Answers result (below (run_of_row ends) (offset_at ends (length ends - 1))) }
-{
-    let mut numbers = Vec::new(alloc);
-    for run in 0..ends.len() {
-        numbers.resize(end_at(ends, run), run)?;
-    }
-    Ok(Words::from_vec(numbers))
-}
-
-// The end of a run, exclusive: the row after its last.
-fn end_at(ends: &Ints, run: u64) -> usize
-    requires rising { IsTrue (ascend 1 (2 ^ 64) (map int (wholes_of ends.now))) }
-    requires in_range { run < length (wholes_of ends.now) }
-    ensures { result ≡ offset_at (map int (wholes_of ends.now)) run }
-{
-    ends.whole_at(run) as usize
-}
 
 /// `offsets[row / 1024] + indices[row]` in each row, of runs in blocks: the place of the row's value.
 pub fn block_places(alloc: Global, indices: &Ints, offsets: &Ints, len: u64) -> VortexResult<Ints>

@@ -1,4 +1,5 @@
-//! Tests of the crates below the trees: texts, scalars, lists, packing, the kernels of integers and timestamps in parts.
+//! Tests of the crates below the trees: texts, scalars, lists, packing, rows filled by runs and patches, the kernels of integers and
+//! timestamps in parts.
 #![tactic(auto)]
 
 #[cfg(test)]
@@ -15,6 +16,8 @@ mod lists;
 mod packing;
 #[cfg(test)]
 mod parts;
+#[cfg(test)]
+mod placed;
 #[cfg(test)]
 mod rows;
 #[cfg(test)]

@@ -1,6 +1,10 @@
+pub mod BitLemmas
+pub mod CarriedLemmas
 pub mod CountLemmas
 pub mod GrowLemmas
 pub mod InnerLemmas
+pub mod LengthLemmas
 pub mod PieceLemmas
 pub mod RepeatLemmas
 pub mod StandardFacts
+pub mod WithinLemmas

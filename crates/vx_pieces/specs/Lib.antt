@@ -1,2 +1,4 @@
+pub mod Bits
 pub mod Kept
+pub mod Lengths
 pub mod Pieces

@@ -1,7 +1,10 @@
 pub mod Bytes
 pub mod Cells
+pub mod Fills
 pub mod Kept
 pub mod Offsets
+pub mod Placed
+pub mod StandardFacts
 pub mod Steps
 pub mod Types
 pub mod Unpacked

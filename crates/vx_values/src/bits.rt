@@ -1,16 +1,19 @@
 //! Rows of truth values: false beneath nulls, and rows picked by codes.
 
-ghost use Rattle.std.specs.Prelude.{◌≡◌, ◌<◌, length, map, replicate, true, false, not, ◌||◌, slice_set, slice_index_or, if◌then◌else◌};
+ghost use Rattle.std.specs.Prelude.{◌≡◌, ◌<◌, length, map, replicate, true, false, not, ◌||◌, ◌+◌, ◌^◌, IsTrue, slice_set, slice_index_or, if◌then◌else◌};
 ghost use Rattle.vx_base.specs.Answers.{Answers, OrMemory};
-ghost use Rattle.vx_base.specs.PlainValue.{truth};
+ghost use Rattle.vx_base.specs.PlainValue.{truth, int};
 ghost use Rattle.vx_model.specs.Decoded.{zeroed, zeroed_by, zero_beneath, picked};
 ghost use Rattle.vx_model.specs.Leaf.{each_null_or, null_or};
 ghost use Rattle.vx_model.specs.Refusals.{validity_length};
 ghost use Rattle.vx_model.specs.Rows.{valid_rows, row_at};
+ghost use Rattle.vx_model.specs.WellFormed.{ascend};
 ghost use Rattle.vx_values.specs.IntsOf.{ptype_of, wholes_of};
+ghost use Rattle.vx_values.specs.Placed.{by_runs, by_patches};
 
 use crate::ints::{Ints, with_ints};
 use crate::validity::is_valid;
+use crate::{patch_rows, run_rows};
 use std::alloc::Global;
 use vx_base::{Integer, Mask, VortexResult};
 
@@ -149,4 +152,30 @@ fn picked_by<C: Integer>(alloc: Global, bits: &Mask, codes: &[C]) -> VortexResul
         picked.push(pick(bits, codes[row]))?;
     }
     Ok(Mask::from_bits(picked))
+}
+
+/// In each row the bit of its run, of runs by their ends, which are exclusive. False where a run has no bit.
+pub fn in_runs(alloc: Global, ends: &Ints, bits: &Mask) -> VortexResult<Mask>
+    requires { IsTrue (ascend 1 (2 ^ 64) (map int (wholes_of ends.now))) }
+    ensures { Answers result (by_runs (map int (wholes_of ends.now)) bits.now false) }
+{
+    let rows = run_rows::in_runs(alloc, ends, bits.as_slice(), false)?;
+    Ok(Mask::from_bits(rows))
+}
+
+/// The fill in each of `len` rows, and then the bit of each patch in its row, `index - offset`.
+pub fn with_patches(
+    alloc: Global,
+    fill: bool,
+    bits: &Mask,
+    indices: &Ints,
+    offset: u64,
+    len: u64,
+) -> VortexResult<Mask>
+    requires rising { ascend offset (offset + len) (map int (wholes_of indices.now)) ≡ true }
+    requires lengths { length bits.now ≡ length (wholes_of indices.now) }
+    ensures { Answers result (by_patches (map int (wholes_of indices.now)) offset len bits.now fill) }
+{
+    let rows = patch_rows::with_patches(alloc, fill, bits.as_slice(), indices, offset, len)?;
+    Ok(Mask::from_bits(rows))
 }

@@ -13,10 +13,12 @@ ghost use Rattle.vx_model.specs.Decoded.{zeroed, zeroed_by, zero_beneath, is_emp
 ghost use Rattle.vx_model.specs.Refusals.{validity_length};
 ghost use Rattle.vx_values.specs.IntsOf.{ptype_of, wholes_of};
 
+mod filling;
 mod joining;
 
 use crate::ints::{Ints, with_ints};
 use crate::validity::is_valid;
+pub use filling::{in_runs, with_patches};
 pub use joining::{concatenated, offsets};
 use std::alloc::Global;
 use vx_base::{ByteRows, Bytes, Integer, Mask, VortexResult, is_short};

@@ -93,6 +93,7 @@ mod converting;
 mod deltas;
 mod dictionary;
 mod difference_blocks;
+mod filling;
 mod frame_of_reference;
 mod gathering;
 mod one_value;

@@ -12,6 +12,8 @@ ghost use Rattle.vx_model.specs.Refusals.{validity_length};
 ghost use Rattle.vx_values.specs.IntsOf.{ptype_of, wholes_of};
 ghost use Rattle.vx_values.specs.ValuesOf.{ints, kind_of, kind_in, holds_integers, values_of, default_in};
 
+mod filling;
+
 use crate::ints::Ints;
 use crate::{bits, byte_rows};
 use std::alloc::Global;

@@ -1,5 +1,4 @@
-//! Decoding of a fill and patches in one pass, as a dictionary: the patches' values with the fill behind them, and in each
-//! row the place of its value.
+//! Decoding of a fill and patches: the fill in every row, and then the patches over it.
 
 ghost use Rattle.std.specs.Prelude.{◌≡◌, IsTrue, map};
 ghost use Rattle.vx_array.specs.IsDecoded.{IsDecoded};
@@ -14,8 +13,8 @@ ghost use Rattle.vx_values.specs.IntsOf.{wholes_of};
 use crate::array::Patches;
 use std::alloc::Global;
 use vx_base::{Scalar, VortexResult};
-use vx_flat::{bits_with, decoded_by_codes, patch_places, values_with};
-use vx_values::{Decoded, Ints, keep};
+use vx_flat::decoded_by_patches;
+use vx_values::{Decoded, Ints};
 
 // All rows, from the decoded indices and values of the patches.
 pub(crate) fn decoded_sparse(
@@ -33,9 +32,6 @@ pub(crate) fn decoded_sparse(
 {
     patches.known();
     fill.known();
-    let codes = patch_places(alloc, indices, patches.offset, patches.array_len)?;
-    let valid = bits_with(alloc, values.valid, indices.len(), !fill.is_null())?;
-    let values = values_with(alloc, values.values, fill)?;
-    let valid = keep(Some(valid));
-    decoded_by_codes(alloc, codes, None, Decoded { values, valid })
+    let (offset, len) = (patches.offset, patches.array_len);
+    decoded_by_patches(alloc, fill, values, indices, offset, len)
 }

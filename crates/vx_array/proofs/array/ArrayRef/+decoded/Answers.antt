@@ -40,7 +40,8 @@ use Rattle.vx_array.proofs.Frames.{frames_rows}
 use Rattle.vx_array.proofs.PartArrays.{parts_rows}
 use Rattle.vx_array.proofs.RunDecodings.{sequence_rows, delta_rows}
 use Rattle.vx_array.proofs.SparseOf.{blocks-sparse_of, columns-sparse_of, has_runs-sparse_of}
-use Rattle.vx_array.proofs.RunRows.{run_end_rows, rle_rows, block_place-word}
+use Rattle.vx_array.proofs.PlacedRows.{run_end_rows}
+use Rattle.vx_array.proofs.RunRows.{rle_rows, block_place-word}
 use Rattle.vx_array.proofs.array.ArrayRef.+decoded.Goals as goal
 
 pub decoded-decoded_bool-requires : goal.decoded-decoded_bool-requires
@@ -267,7 +268,7 @@ decoded_runs-decoded_sparse-requires t c =
       values = subst (λ q. IsDecoded q.values have.values) back there;
     }
 
--- ---- runs, by the places of their values
+-- ---- runs
 
 pub decoded_runs-into_integers-ends-requires : goal.decoded_runs-into_integers-ends-requires
 decoded_runs-into_integers-ends-requires t c =
@@ -275,8 +276,8 @@ decoded_runs-into_integers-ends-requires t c =
     let got = c.in_ok-decoded-in-RunEnd in
     held_integers c.in-RunEnd.ends.array.value got.field-0 a.well_formed.2.ends_type (subst (λ t. IsDecoded t got.field-0) c.deref-in-RunEnd.ensures got.ensures)
 
-pub decoded_runs-run_places-requires : goal.decoded_runs-run_places-requires
-decoded_runs-run_places-requires t c =
+pub decoded_runs-decoded_by_runs-requires : goal.decoded_runs-decoded_by_runs-requires
+decoded_runs-decoded_by_runs-requires t c =
     let a = at_node c.self.view_is c.self.invariant c.in-RunEnd.is in
     let w = a.well_formed.2 in
     let got = c.in_ok-decoded-in-RunEnd in
@@ -295,10 +296,9 @@ decoded_runs-returns-in_ok-decoded-in-RunEnd-2 t c =
     let ends = c.in-RunEnd.ends.array.value in
     let es = integers_of ends got.field-0 parts.result.0 parts.result.1 a.well_formed.0 w.ends_type parts.ensures.values parts.ensures.valid (subst (λ t. IsDecoded t got.field-0) c.deref-in-RunEnd.ensures got.ensures) in
     let values = subst (λ t. IsDecoded t have.field-0) c.deref-in-RunEnd-2.ensures have.ensures in
-    let runs = c.in_ok-runs-in-RunEnd in
     rw a.is
-    (MatchResult-weaker c.decoded_by_codes.result c.decoded_by_codes.ensures
-    (λ d r. run_end_rows ends c.in-RunEnd.values.array.value parts.result.0 runs.runs parts.result.1 have.field-0 d a.well_formed es runs.ensures.0 runs.ensures.1 values r) (λ e n. n))
+    (MatchResult-weaker c.decoded_by_runs.result c.decoded_by_runs.ensures
+    (λ d r. run_end_rows ends c.in-RunEnd.values.array.value a.well_formed parts.result.0 parts.result.1 have.field-0 d es values r) (λ e n. n))
 
 pub decoded_runs-into_integers-indices-requires-in-Rle : goal.decoded_runs-into_integers-indices-requires-in-Rle
 decoded_runs-into_integers-indices-requires-in-Rle t c =
@@ -374,7 +374,7 @@ decoded_runs-returns-in_ok-decoded-in-Rle-3 t c =
     let own = subst (λ t. IsDecoded t last.field-0) c.deref-in-Rle-4.ensures last.ensures in
     let places = c.in_ok-places-in-Rle in
     rw a.is
-    (MatchResult-weaker c.decoded_by_codes-in-Rle.result c.decoded_by_codes-in-Rle.ensures
+    (MatchResult-weaker c.decoded_by_codes.result c.decoded_by_codes.ensures
     (λ d r. rle_rows values indices offsets c.in-Rle.len x.result.0 o.result.0 x.result.1 o.result.1 a.well_formed is os places.places last.field-0 d few places.ensures.0 places.ensures.1 own r) (λ e n. n))
 
 -- ---- trees of integers inside are flat
