@@ -15,6 +15,7 @@ pub mod Looks
 pub mod MadePlain
 pub mod Making
 pub mod PartArrays
+pub mod PieceFalls
 pub mod PiecedFixed
 pub mod PiecedFlat
 pub mod PiecedLists
@@ -30,6 +31,7 @@ pub mod RunNulls
 pub mod RunRows
 pub mod Runs
 pub mod SparseOf
+pub mod SpreadTrees
 pub mod StandardFacts
 pub mod SumLemmas
 pub mod TreeWayLemmas

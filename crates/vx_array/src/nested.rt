@@ -17,6 +17,7 @@ mod made;
 use crate::array::{ArrayRef, Node};
 use crate::arrays::Arrays;
 use crate::node::row_count;
+use by_values::constant_pieces;
 use made::{as_words, null_pieces, offset_words, plain_fixed, plain_list, plain_struct, row_total};
 use std::alloc::Global;
 use vx_base::{Mask, Names, Nullability, VortexResult};
@@ -63,16 +64,20 @@ impl ArrayRef {
         }
     }
 
-    // `plain_pieces` of a tree whose children are no columns within: of a flat type column by column, else, at a Constant or
-    // Sparse, value by value.
+    // `plain_pieces` of a tree whose children are no columns within: of a flat type column by column, of a Constant from one
+    // row, else, at a Sparse, value by value.
+    #[cycle(plain_pieces)]
     fn other_pieces(&self, alloc: Global, pieces: &[Piece]) -> VortexResult<ArrayRef>
         requires { IsTrue (are_pieces (length (rows self.now)) pieces.now) }
         ensures { Answers result (plain_pieced pieces.now self.now) }
     {
         if self.dtype().is_flat() {
-            self.flat_pieces(alloc, pieces)
-        } else {
-            self.value_pieces(alloc, pieces)
+            return self.flat_pieces(alloc, pieces);
+        }
+        self.known();
+        match &self.node {
+            Node::Constant(scalar, len) => constant_pieces(alloc, scalar, *len, pieces),
+            _ => self.value_pieces(alloc, pieces),
         }
     }
 }

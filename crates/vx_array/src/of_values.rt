@@ -1,16 +1,18 @@
 //! The plain tree of a column, from its values.
 
 ghost use Rattle.std.specs.List.{list_all};
-ghost use Rattle.std.specs.Prelude.{◌≡◌, IsTrue, map};
+ghost use Rattle.std.specs.Prelude.{◌≡◌, IsTrue, Some, map};
 ghost use Rattle.vx_base.specs.Answers.{Answers, OrMemory};
 ghost use Rattle.vx_base.specs.PlainScalar.{fits, fields_fit};
 ghost use Rattle.vx_base.specs.PlainType.{of_fields};
+ghost use Rattle.vx_array.specs.PlainPieced.{has_rows_within};
+ghost use Rattle.vx_pieces.specs.Kept.{kept_items};
 ghost use Rattle.vx_base.specs.PlainType as types;
 ghost use Rattle.vx_base.specs.TypeOf.{type_of, value_of, fields_of};
 ghost use Rattle.vx_model.specs.Column.{column, column_of};
 ghost use Rattle.vx_model.specs.Nested.{names_of, struct_rows, list_rows, elements};
 ghost use Rattle.vx_model.specs.Offsets.{offsets_of};
-ghost use Rattle.vx_model.specs.Plain.{IsPlain, plain_fields, plain_of};
+ghost use Rattle.vx_model.specs.Plain.{IsPlain, plain_fields, plain_of, valid_bits, validity};
 ghost use Rattle.vx_model.specs.Tree.{of_list};
 
 mod byte_lists;
@@ -21,8 +23,9 @@ use crate::arrays::Arrays;
 use byte_lists::of_byte_lists;
 use flat::{of_bytes, of_stamps, of_truths, of_wholes};
 use std::alloc::Global;
-use vx_base::{DType, Fields, IntList, Names, Nullability, Value, VortexResult};
-use vx_flat::{field_columns, filled_lists, list_items, validity_of};
+use vx_base::{DType, Fields, IntList, Mask, Names, Nullability, Value, VortexResult};
+use vx_flat::{field_columns, filled_lists, is_null, list_items, validity_of};
+use vx_pieces::spread_pieces;
 use vx_values::Ints;
 
 impl ArrayRef {
@@ -39,9 +42,62 @@ impl ArrayRef {
     }
 }
 
+// The plain tree. Where structs or lists of one size are null, the tree of the others is made first and then spread: the
+// defaults beneath nulls are laid into flat columns by their number, and no value stands for them on the way.
+#[cycle(plain_pieces)]
+pub(crate) fn plain_tree(alloc: Global, dtype: &DType, values: Vec<Value>) -> VortexResult<ArrayRef>
+    requires { IsTrue (list_all (fits (type_of dtype.now)) (map value_of values.items)) }
+    ensures { Answers result (plain_of (type_of dtype.now) (map value_of values.items)) }
+{
+    if has_rows_within(dtype) {
+        if let Some(valid) = validity_of(alloc, values.as_slice())? {
+            return spread_tree(alloc, dtype, values, &valid);
+        }
+    }
+    typed_tree(alloc, dtype, values)
+}
+
+// Whether a null row of the type has rows within: of fields, or of the elements of a list of one size.
+fn has_rows_within(dtype: &DType) -> bool
+    ensures { result ≡ has_rows_within (type_of dtype.now) }
+{
+    matches!(dtype, DType::Struct(..) | DType::FixedSizeList(..))
+}
+
+// `plain_tree` of values of which some are null.
+#[cycle(plain_pieces)]
+fn spread_tree(
+    alloc: Global,
+    dtype: &DType,
+    values: Vec<Value>,
+    valid: &Mask,
+) -> VortexResult<ArrayRef>
+    requires within { IsTrue (has_rows_within (type_of dtype.now)) }
+    requires fit { IsTrue (list_all (fits (type_of dtype.now)) (map value_of values.items)) }
+    requires bits { validity (map value_of values.items) ≡ Some valid.now }
+    ensures { Answers result (plain_of (type_of dtype.now) (map value_of values.items)) }
+{
+    let pieces = spread_pieces(alloc, valid.as_slice())?;
+    let tree = typed_tree(alloc, dtype, valid_values(alloc, values)?)?;
+    tree.plain_pieces(alloc, pieces.as_slice())
+}
+
+// The values that aren't null.
+fn valid_values(alloc: Global, values: Vec<Value>) -> VortexResult<Vec<Value>>
+    ensures { OrMemory result (λ kept. map value_of kept.items ≡ kept_items (valid_bits (map value_of values.items)) (map value_of values.items)) }
+{
+    let mut kept = Vec::new(alloc);
+    for value in values {
+        if !is_null(&value) {
+            kept.push(value)?;
+        }
+    }
+    Ok(kept)
+}
+
 // The plain tree, by the kind of the type.
-#[cycle(of_values)]
-fn plain_tree(alloc: Global, dtype: &DType, values: Vec<Value>) -> VortexResult<ArrayRef>
+#[cycle(plain_pieces)]
+fn typed_tree(alloc: Global, dtype: &DType, values: Vec<Value>) -> VortexResult<ArrayRef>
     requires { IsTrue (list_all (fits (type_of dtype.now)) (map value_of values.items)) }
     ensures { Answers result (plain_of (type_of dtype.now) (map value_of values.items)) }
 {
@@ -64,7 +120,7 @@ fn plain_tree(alloc: Global, dtype: &DType, values: Vec<Value>) -> VortexResult<
 }
 
 // A struct node over one plain tree per field.
-#[cycle(of_values)]
+#[cycle(plain_pieces)]
 fn of_structs(
     alloc: Global,
     fields: &Fields,
@@ -85,7 +141,7 @@ fn of_structs(
 }
 
 // The plain tree of each field's column.
-#[cycle(of_values)]
+#[cycle(plain_pieces)]
 fn field_trees(alloc: Global, fields: &Fields, values: Vec<Value>) -> VortexResult<Arrays>
     requires { IsTrue (list_all (fields_fit (of_fields (fields_of fields.now))) (struct_rows (of_fields (fields_of fields.now)) (map value_of values.items))) }
     ensures { OrMemory result (λ trees. of_list trees ≡ plain_fields (of_fields (fields_of fields.now)) (struct_rows (of_fields (fields_of fields.now)) (map value_of values.items))) }
@@ -112,7 +168,7 @@ fn field_names(alloc: Global, fields: &Fields) -> VortexResult<Names>
 }
 
 // A list node over its elements and `u64` offsets, the type of a plain tree's.
-#[cycle(of_values)]
+#[cycle(plain_pieces)]
 fn of_lists(
     alloc: Global,
     dtype: &DType,
@@ -134,7 +190,7 @@ fn of_lists(
 
 // The plain tree of all lists' elements, concatenated, and the offsets between the lists. The bytes of texts and binaries
 // move straight into rows, without a vector of values in between.
-#[cycle(of_values)]
+#[cycle(plain_pieces)]
 fn list_elements(
     alloc: Global,
     dtype: &DType,
@@ -152,7 +208,7 @@ fn list_elements(
 }
 
 // A fixed-size list node over its elements.
-#[cycle(of_values)]
+#[cycle(plain_pieces)]
 fn of_fixed_lists(
     alloc: Global,
     dtype: &DType,

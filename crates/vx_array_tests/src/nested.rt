@@ -107,6 +107,29 @@ fn a_constant_list_counts_its_items_in_each_row(rt: HostRuntime) -> Result<(), F
     Ok(())
 }
 
+// A pair of lists of two bytes, of which the second is null, as a scalar.
+fn pair_with_null(alloc: Global) -> VortexResult<Scalar> {
+    let byte = Box::new(alloc, DType::primitive(U8, NonNullable))?;
+    let inner = Box::new(alloc, DType::fixed_size_list(byte, 2, Nullable))?;
+    let dtype = DType::fixed_size_list(inner, 2, NonNullable);
+    let mut bytes = Vec::new(alloc);
+    for whole in [1, 2] {
+        bytes.push(Value::Int(whole))?;
+    }
+    let mut pair = Vec::new(alloc);
+    pair.push(Value::List(Values::from_vec(bytes)))?;
+    pair.push(Value::Null)?;
+    accepted(Scalar::new(dtype, Value::List(Values::from_vec(pair))))
+}
+
+#[test]
+fn defaults_are_laid_beneath_a_null_list(rt: HostRuntime) -> Result<(), Fail> {
+    let tree = ArrayRef::constant(pair_with_null(rt.alloc())?, 2);
+    let rows = ["[[1,2],null]", "[[1,2],null]"];
+    assert!(rt; becomes_plain(rt.alloc(), &tree, (3, 9), &rows)?);
+    Ok(())
+}
+
 #[test]
 fn a_constant_list_may_have_too_many_items(rt: HostRuntime) -> Result<(), Fail> {
     let many = ArrayRef::constant(three(rt.alloc())?, 1_073_741_824);

@@ -1,19 +1,18 @@
 -- The validity of the rows that pieces give, and pieces that are a whole column.
-use Rattle.std.proofs.Common.{◌≡◌, ℕ, ◌-◌, List, [], ◌∷◌, ◌++◌, ◌∙◌, map, length, take, drop, refl, sym, ap, arith, Bool, true, false, cond, Some, None}
+use Rattle.std.proofs.Common.{◌≡◌, ℕ, ◌-◌, List, [], ◌∷◌, ◌++◌, ◌∙◌, length, take, refl, sym, ap, arith, Bool, true, false, cond, Some, None}
 use Rattle.std.specs.Prelude.{◌&&◌, ◌||◌, ◌==◌, not, replicate}
-use Rattle.std.specs.List.{list_all, list_any}
+use Rattle.std.specs.List.{list_any}
 use Rattle.std.proofs.lemmas.Bool.{and_parts, and_from, or_parts, eqb-true, le-leb}
 use Rattle.std.proofs.lemmas.List.{append-nil, take_all}
 use Rattle.vx_base.specs.Masks.{rows_between}
 use Rattle.vx_base.specs.PlainValue.{PlainValue, null, truth, int, bytes, items, is_null}
 use Rattle.vx_model.specs.Plain.{validity, valid_bits}
 use Rattle.vx_model.specs.Refusals.{kept}
-use Rattle.vx_model.specs.Tree.{Validity}
 use Rattle.vx_model.proofs.DecodeLemmas.{all_valid_bits}
 use Rattle.vx_pieces.specs.declared.piece.Piece.{Piece}
 use Rattle.vx_pieces.specs.declared.piece.Piece.TheVariants.{Rows, Filled}
 use Rattle.vx_pieces.specs.Bits.{bits_of, pieced_validity, is_filled, have_filled, is_whole, are_whole}
-use Rattle.vx_pieces.specs.Pieces.{piece_items, pieced, is_piece, are_pieces, repeated}
+use Rattle.vx_pieces.specs.Pieces.{piece_items, pieced, are_pieces, repeated}
 use Rattle.vx_pieces.proofs.PieceLemmas.{map-pieced, all-pieced}
 use Rattle.vx_pieces.proofs.RepeatLemmas.{all-replicate, repeated-once}
 

@@ -1,5 +1,5 @@
 -- From values to items of any kind: pieces that hide the null rows of values hide the same rows of items.
-use Rattle.std.proofs.Common.{◌≡◌, ℕ, pos, List, [], ◌∷◌, ◌∙◌, map, length, refl, sym, ap, true, Some, None}
+use Rattle.std.proofs.Common.{◌≡◌, ℕ, pos, List, ◌∙◌, map, length, refl, sym, ap, true, Some, None}
 use Rattle.std.specs.Prelude.{slice_index_or}
 use Rattle.std.specs.List.{range_with_len}
 use Rattle.std.proofs.lemmas.Bool.{eqb-true}

@@ -1,7 +1,7 @@
 -- Lengths of consecutive lists, their prefix sums, and the lists that pieces give.
-use Rattle.std.proofs.Common.{◌≡◌, ◌≤◌, ◌<◌, ◌+◌, ◌-◌, ◌∙◌, ℕ, zero, suc, List, [], ◌∷◌, ◌++◌, map, length, take, get_or, refl, sym, ap, arith, add_assoc, add-zero, zero-add, true}
+use Rattle.std.proofs.Common.{◌≡◌, ◌≤◌, ◌<◌, ◌+◌, ◌-◌, ◌∙◌, ℕ, zero, suc, List, [], ◌∷◌, ◌++◌, map, length, take, get_or, refl, sym, ap, arith, add_assoc, add-zero, zero-add}
 use Rattle.std.specs.Prelude.{slice_index_or}
-use Rattle.std.proofs.lemmas.List.{length-append, take_more, length-map}
+use Rattle.std.proofs.lemmas.List.{length-append, take_more}
 use Rattle.vx_model.specs.Nested.{concatenated}
 use Rattle.vx_model.specs.Offsets.{offsets_from, offsets_of}
 use Rattle.vx_pieces.specs.declared.piece.Piece.{Piece}

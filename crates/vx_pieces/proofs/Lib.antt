@@ -6,5 +6,6 @@ pub mod InnerLemmas
 pub mod LengthLemmas
 pub mod PieceLemmas
 pub mod RepeatLemmas
+pub mod SpreadLemmas
 pub mod StandardFacts
 pub mod WithinLemmas

@@ -48,6 +48,11 @@ inner_piece begin size (Filled count) = Filled (count * size)
 abbrev pub inner_pieces : (ℕ → ℕ) → ℕ → List Piece → List Piece
 inner_pieces begin size pieces = map (inner_piece begin size) pieces
 
+-- a piece of equal rows, of which the column has one alone
+abbrev pub in_one_row : Piece → Piece
+in_one_row (Rows start end times) = Rows 0 1 (times * (end - start))
+in_one_row (Filled count) = Filled count
+
 -- pieces are in bounds of `values`, and with `item` as the filling they give exactly `rows`
 pub record Gives (item : PlainValue) (pieces : List Piece) (values rows : List PlainValue) : Type 0 where
   pub gives : pieced item pieces values ≡ rows

@@ -9,6 +9,7 @@ mod lists;
 mod masks;
 mod piece;
 mod pieced;
+mod spread;
 #[cfg(test)]
 mod tests;
 mod validity;
@@ -22,5 +23,6 @@ pub use lists::{list_inner_pieces, pieced_offsets};
 pub use masks::{kept_pieces, masked_pieces};
 pub use piece::{Piece, total};
 pub use pieced::pieced_bits;
+pub use spread::{one_row_pieces, spread_pieces};
 pub use validity::{are_whole, pieced_validity};
 pub use within::valid_pieces;

@@ -1,29 +1,54 @@
-//! Pieces of columns of nested types, value by value.
+//! Pieces of columns of nested types: value by value, and of equal rows by one of them.
 
-ghost use Rattle.std.specs.Prelude.{◌≡◌, ◌++◌, IsTrue, length, map, replicate};
+ghost use Rattle.std.specs.Prelude.{◌≡◌, ◌++◌, IsTrue, false, length, map, replicate};
 ghost use Rattle.vx_array.specs.PlainPieced.{plain_pieced};
 ghost use Rattle.vx_base.specs.Answers.{Answers, OrMemory};
 ghost use Rattle.vx_base.specs.Defaults.{null_or_default};
 ghost use Rattle.vx_base.specs.Masks.{is_part, rows_between};
 ghost use Rattle.vx_base.specs.TypeOf.{value_of};
+ghost use Rattle.vx_base.specs.PlainScalar.{fits};
+ghost use Rattle.vx_base.specs.PlainType.{is_flat};
 ghost use Rattle.vx_model.specs.Rows.{rows};
+ghost use Rattle.vx_model.specs.Tree.{constant};
 ghost use Rattle.vx_model.specs.TreeType.{tree_type};
 ghost use Rattle.vx_pieces.specs.Pieces.{are_pieces, is_piece, piece_items, pieced, repeated};
 
 use crate::array::ArrayRef;
+use crate::of_values::plain_tree;
 use std::alloc::Global;
 use vx_base::{Scalar, Value, VortexResult};
-use vx_pieces::Piece;
+use vx_pieces::{Piece, one_row_pieces};
+
+// The plain tree of the rows that pieces give of equal rows: that of one row, repeated.
+#[cycle(plain_pieces)]
+pub(super) fn constant_pieces(
+    alloc: Global,
+    scalar: &Scalar,
+    len: u64,
+    pieces: &[Piece],
+) -> VortexResult<ArrayRef>
+    requires nested { is_flat scalar.now.dtype ≡ false }
+    requires scalar { IsTrue (fits scalar.now.dtype scalar.now.value) }
+    requires pieces { IsTrue (are_pieces len pieces.now) }
+    ensures { Answers result (plain_pieced pieces.now (constant scalar.now len)) }
+{
+    let mut row = Vec::with_capacity(alloc, 1)?;
+    row.push(scalar.value().copy(alloc)?)?;
+    let tree = plain_tree(alloc, scalar.dtype(), row)?;
+    let made = one_row_pieces(alloc, pieces)?;
+    tree.plain_pieces(alloc, made.as_slice())
+}
 
 impl ArrayRef {
     // The plain tree of the rows that pieces give, from their values.
+    #[cycle(plain_pieces)]
     pub(super) fn value_pieces(&self, alloc: Global, pieces: &[Piece]) -> VortexResult<ArrayRef>
         requires { IsTrue (are_pieces (length (rows self.now)) pieces.now) }
         ensures { Answers result (plain_pieced pieces.now self.now) }
     {
         self.known();
         let values = self.pieced_values(alloc, pieces)?;
-        ArrayRef::of_values(alloc, self.dtype(), values)
+        plain_tree(alloc, self.dtype(), values)
     }
 
     // The values that pieces give.
