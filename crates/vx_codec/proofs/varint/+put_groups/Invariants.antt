@@ -1,0 +1,4 @@
+use Rattle.vx_codec.proofs.varint.+put_groups.Given as goal
+
+abbrev pub decreases-put_groups : goal.decreases-put_groups
+decreases-put_groups l = l.left
