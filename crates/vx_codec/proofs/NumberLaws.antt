@@ -126,7 +126,7 @@ grouped_lawful k = record { round_trip = groups_round_trip k; canonical = groups
 pub varint_lawful : IsLawful varint
 varint_lawful = tested_lawful is_below_64 (grouped 9) (grouped_lawful 9)
 
--- ---- numbers of so many bytes
+-- ---- numbers of a fixed width
 fixed_round_trip : (k n : ℕ) (rest : List ℕ) → n < 256 ^ k → little_endian_at k (little_endian k n ++ rest) ≡ Some (n, rest)
 fixed_round_trip zero n rest h = let none : n ≡ 0 = omega arith in rw none refl
 fixed_round_trip (suc k) n rest h =

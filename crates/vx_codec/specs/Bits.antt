@@ -13,20 +13,22 @@ abbrev pub number_bits : ℕ → ℕ → List Bool
 number_bits zero n = []
 number_bits (suc k) n = (n % 2 == 1) ∷ number_bits k (n / 2)
 
+-- truth values packed into a given number of bytes, eight to a byte, the first in the lowest bit
 abbrev pub bit_bytes : ℕ → List Bool → List ℕ
 bit_bytes zero bs = []
 bit_bytes (suc k) bs = bits_number (take 8 bs) ∷ bit_bytes k (drop 8 bs)
 
--- bits in so many bytes: of the last byte only the bits that are left, where every other bit has to be 0
+-- reads n bits from k bytes; every bit of the last byte beyond the n-th has to be 0
 abbrev pub bits_at : ℕ → ℕ → Parse (List Bool)
 bits_at zero n bytes = Some ([], bytes)
 bits_at (suc k) n bytes =
     byte_at bytes >>= λ b.
     (if nat_lt b.0 (2 ^ min n 8) then (bits_at k (n - 8) b.1 >>= λ bs. Some (number_bits (min n 8) b.0 ++ bs.0, bs.1)) else None)
 
+-- the bytes that n bits take: n / 8, rounded up
 abbrev pub bytes_for : ℕ → ℕ
 bytes_for n = (n + 7) / 8
 
--- so many truth values, the first in the lowest bit, with zeros up to the last byte's end
+-- n truth values, eight to a byte, the first in the lowest bit, zero-padded to whole bytes
 abbrev pub bits : ℕ → Format (List Bool)
 bits n = record { spell = bit_bytes (bytes_for n); parse = bits_at (bytes_for n) n; Fits = λ bs. length bs ≡ n }

@@ -22,6 +22,7 @@ pub record IsLawful {A : Type 0} (f : Format A) : Type 0 where
   pub round_trip : (a : A) (rest : List ℕ) → f.Fits a → f.parse (f.spell a ++ rest) ≡ Some (a, rest)
   pub canonical : (bytes : List ℕ) (x : A × List ℕ) → f.parse bytes ≡ Some x → (bytes ≡ f.spell x.0 ++ x.1) × f.Fits x.0
 
+-- reads a first value, and then a second one, whose reader may depend on the first
 abbrev pub pair_at : {A B : Type 0} → Parse A → (A → Parse B) → Parse (A × B)
 pair_at p q bytes = p bytes >>= λ x. (q x.0 x.1 >>= λ y. Some ((x.0, y.0), y.1))
 
@@ -37,6 +38,7 @@ pair f g = record {
 abbrev pub both : {A B : Type 0} → Format A → Format B → Format (A × B)
 both f g = pair f (λ _. g)
 
+-- reads a value, and refuses it where it fails a test
 abbrev pub tested_at : {A : Type 0} → (A → Bool) → Parse A → Parse A
 tested_at ok p bytes = p bytes >>= λ x. (if ok x.0 then Some x else None)
 
@@ -52,6 +54,7 @@ tested ok f = record {
 abbrev pub made_at : {A B : Type 0} → (A → B) → Parse A → Parse B
 made_at make p bytes = p bytes >>= λ x. Some (make x.0, x.1)
 
+-- reads a key, and then a value, whose reader depends on the key
 abbrev pub keyed_at : {K A : Type 0} → Parse K → (K → Parse A) → Parse A
 keyed_at p q bytes = p bytes >>= λ k. q k.0 k.1
 
@@ -63,6 +66,7 @@ keyed f key g = record {
   Fits = λ a. f.Fits (key a) × (g (key a)).Fits a;
 }
 
+-- reads a value and makes another one of it; refused where `back` makes none
 abbrev pub mapped_at : {A B : Type 0} → (A → Option B) → Parse A → Parse B
 mapped_at back p bytes = p bytes >>= λ x. (back x.0 >>= λ b. Some (b, x.1))
 

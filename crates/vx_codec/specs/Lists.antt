@@ -9,6 +9,7 @@ abbrev pub spell_all : {A : Type 0} → (A → List ℕ) → List A → List ℕ
 spell_all spell [] = []
 spell_all spell (x ∷ xs) = spell x ++ spell_all spell xs
 
+-- reads n values, one after another
 abbrev pub repeated_at : {A : Type 0} → Parse A → ℕ → Parse (List A)
 repeated_at p zero bytes = Some ([], bytes)
 repeated_at p (suc n) bytes = p bytes >>= λ x. (repeated_at p n x.1 >>= λ xs. Some (x.0 ∷ xs.0, xs.1))
@@ -18,7 +19,7 @@ abbrev pub AllFit : {A : Type 0} → (A → Type 0) → List A → Type 0
 AllFit Fits [] = Unit {0}
 AllFit Fits (x ∷ xs) = Fits x × AllFit Fits xs
 
--- so many values, one after another
+-- a list of n values, one after another
 abbrev pub repeated : {A : Type 0} → Format A → ℕ → Format (List A)
 repeated f n = record {
   spell = spell_all f.spell;
@@ -34,6 +35,7 @@ counted f = keyed varint length (repeated f)
 abbrev pub delimited : Format (List ℕ)
 delimited = keyed varint length raw
 
+-- whether no byte is left
 abbrev pub is_end : List ℕ → Bool
 is_end [] = true
 is_end (b ∷ bytes) = false
@@ -46,15 +48,18 @@ to_end p bytes = p bytes >>= λ x. (if is_end x.1 then Some x.0 else None)
 abbrev pub framed : {A : Type 0} → Format A → Format A
 framed f = mapped f.spell (to_end f.parse) delimited
 
+-- a byte 0 for None; a byte 1 and the spelling of the value for Some
 abbrev pub optional_spell : {A : Type 0} → (A → List ℕ) → Option A → List ℕ
 optional_spell spell None = 0 ∷ []
 optional_spell spell (Some a) = 1 ∷ spell a
 
+-- reads a byte 0 as None, and a byte 1 and a value as Some of it; any other byte is refused
 abbrev pub optional_at : {A : Type 0} → Parse A → Parse (Option A)
 optional_at p bytes =
     byte_at bytes >>= λ b.
     (if b.0 == 0 then Some (None, b.1) else (if b.0 == 1 then (p b.1 >>= λ x. Some (Some x.0, x.1)) else None))
 
+-- None fits, and a value fits where its format says so
 abbrev pub OptionalFits : {A : Type 0} → (A → Type 0) → Option A → Type 0
 OptionalFits Fits None = Unit {0}
 OptionalFits Fits (Some a) = Fits a

@@ -31,6 +31,7 @@ number_key number = 8 * number
 abbrev pub message_key : ℕ → ℕ
 message_key number = 8 * number + 2
 
+-- accepts no bytes alone
 abbrev pub end_at : List ℕ → Option (Unit {0})
 end_at [] = Some tt
 end_at (b ∷ bytes) = None
@@ -48,6 +49,7 @@ number_at key (b ∷ bytes) = if b == key then (varint.parse bytes >>= λ n. (if
 abbrev pub number_spell : ℕ → ℕ → List ℕ
 number_spell key n = if n == 0 then [] else key ∷ varint.spell n
 
+-- reads a number field, and the fields after it
 abbrev pub number_field_at : {A : Type 0} → ℕ → (List ℕ → Option A) → List ℕ → Option (ℕ × A)
 number_field_at key others bytes = number_at key bytes >>= λ n. (others n.1 >>= λ a. Some (n.0, a))
 
@@ -64,6 +66,7 @@ abbrev pub content_at : ℕ → Parse (List ℕ)
 content_at key [] = None
 content_at key (b ∷ bytes) = if b == key then delimited.parse bytes else None
 
+-- reads a message field, its content as a message of its own, and the fields after it
 abbrev pub message_field_at : {A B : Type 0} → ℕ → (List ℕ → Option A) → (List ℕ → Option B) → List ℕ → Option (A × B)
 message_field_at key inner others bytes = content_at key bytes >>= λ x. (inner x.0 >>= λ a. (others x.1 >>= λ b. Some (a, b)))
 
@@ -75,6 +78,7 @@ message_field number f g = record {
   Fits = λ x. (delimited.Fits (f.spell x.0) × f.Fits x.0) × g.Fits x.1;
 }
 
+-- reads a message, and refuses it where it fails a test
 abbrev pub tested_to_end : {A : Type 0} → (A → Bool) → (List ℕ → Option A) → List ℕ → Option A
 tested_to_end ok p bytes = p bytes >>= λ a. (if ok a then Some a else None)
 

@@ -8,17 +8,18 @@ abbrev pub groups : ℕ → ℕ → List ℕ
 groups zero n = []
 groups (suc k) n = if nat_lt n 128 then n ∷ [] else ((n % 128) + 128) ∷ groups k (n / 128)
 
--- a number in at most so many groups, refused where the last of several is 0: then a shorter form exists
+-- reads a number of at most k groups; refused where the last of several groups is 0, since then a shorter form exists
 abbrev pub groups_at : ℕ → Parse ℕ
 groups_at zero bytes = None
 groups_at (suc k) bytes =
     byte_at bytes >>= λ b.
     (if nat_lt b.0 128 then Some b else (groups_at k b.1 >>= λ h. (if h.0 == 0 then None else Some ((b.0 - 128) + 128 * h.0, h.1))))
 
--- numbers in at most so many groups, and at least in one
+-- numbers of one to k + 1 groups
 abbrev pub grouped : ℕ → Format ℕ
 grouped k = record { spell = groups (suc k); parse = groups_at (suc k); Fits = λ n. n < 128 ^ suc k }
 
+-- whether a number is below 2^64
 abbrev pub is_below_64 : ℕ → Bool
 is_below_64 n = nat_lt n (2 ^ 64)
 

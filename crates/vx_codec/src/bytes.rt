@@ -1,9 +1,10 @@
 //! Bytes as they stand.
 
-ghost use Rattle.std.specs.Prelude.{◌≡◌, ◌<◌, ◌++◌, ◌∷◌, [], IfOk, OnOk};
+ghost use Rattle.std.specs.Prelude.{◌≡◌, ◌<◌, ◌++◌, ◌∷◌, [], IfOk, OnOk, IsOkUnless};
 ghost use Rattle.vx_codec.specs.FixedWidth.{byte_at, raw_at};
 ghost use Rattle.vx_codec.specs.Lists.{is_end};
 ghost use Rattle.vx_codec.specs.Reads.{Reads};
+ghost use Rattle.vx_codec.specs.declared.error.ReadError.TheVariants.{Malformed};
 
 use crate::error::ReadError;
 use std::alloc::AllocError;
@@ -12,6 +13,7 @@ use std::alloc::AllocError;
 pub fn read_byte(bytes: &[u8]) -> Result<(u8, &[u8]), ReadError>
     ensures read { Reads (λ x. (x.0, x.1.now)) result (byte_at bytes.now) }
     ensures small { IfOk result (λ x. x.0 < 256) }
+    ensures surely { IsOkUnless result Malformed }
 {
     match bytes.split_first() {
         Some((first, rest)) => Ok((*first, rest)),
@@ -22,7 +24,8 @@ pub fn read_byte(bytes: &[u8]) -> Result<(u8, &[u8]), ReadError>
 /// The first `count` bytes, lent, and the bytes after them. Malformed exactly where fewer are left, which is known before
 /// anything is taken: a count that the bytes merely name costs nothing.
 pub fn read_raw(bytes: &[u8], count: u64) -> Result<(&[u8], &[u8]), ReadError>
-    ensures { Reads (λ x. (x.0.now, x.1.now)) result (raw_at count bytes.now) }
+    ensures read { Reads (λ x. (x.0.now, x.1.now)) result (raw_at count bytes.now) }
+    ensures surely { IsOkUnless result Malformed }
 {
     if (bytes.len() as u64) < count {
         return Err(ReadError::Malformed);

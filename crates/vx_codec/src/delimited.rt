@@ -1,8 +1,9 @@
 //! Bytes behind their length.
 
-ghost use Rattle.std.specs.Prelude.{◌≡◌, ◌++◌, OnOk};
+ghost use Rattle.std.specs.Prelude.{◌≡◌, ◌++◌, OnOk, IsOkUnless};
 ghost use Rattle.vx_codec.specs.Lists.{delimited};
 ghost use Rattle.vx_codec.specs.Reads.{Reads};
+ghost use Rattle.vx_codec.specs.declared.error.ReadError.TheVariants.{Malformed};
 
 use crate::bytes::read_raw;
 use crate::error::ReadError;
@@ -12,7 +13,8 @@ use std::alloc::AllocError;
 /// The bytes behind their length as a varint, lent, and the bytes after them. Malformed exactly where there is no such
 /// length, or fewer bytes are left.
 pub fn read_delimited(bytes: &[u8]) -> Result<(&[u8], &[u8]), ReadError>
-    ensures { Reads (λ x. (x.0.now, x.1.now)) result (delimited.parse bytes.now) }
+    ensures read { Reads (λ x. (x.0.now, x.1.now)) result (delimited.parse bytes.now) }
+    ensures surely { IsOkUnless result Malformed }
 {
     let (count, rest) = read_varint(bytes)?;
     read_raw(rest, count)

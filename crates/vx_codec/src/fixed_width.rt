@@ -1,8 +1,9 @@
 //! Little-endian numbers of a fixed width.
 
-ghost use Rattle.std.specs.Prelude.{◌≡◌, ◌<◌, ◌≤◌, ◌^◌, ◌++◌, IfOk, OnOk};
+ghost use Rattle.std.specs.Prelude.{◌≡◌, ◌<◌, ◌≤◌, ◌^◌, ◌++◌, IfOk, OnOk, IsOkUnless};
 ghost use Rattle.vx_codec.specs.FixedWidth.{little_endian, little_endian_at};
 ghost use Rattle.vx_codec.specs.Reads.{Reads};
+ghost use Rattle.vx_codec.specs.declared.error.ReadError.TheVariants.{Malformed};
 
 use crate::bytes::{put_byte, read_byte};
 use crate::error::ReadError;
@@ -14,6 +15,7 @@ pub fn read_fixed(bytes: &[u8], width: u8) -> Result<(u128, &[u8]), ReadError>
     requires { width ≤ 16 }
     ensures read { Reads (λ x. (x.0, x.1.now)) result (little_endian_at width bytes.now) }
     ensures small { IfOk result (λ x. x.0 < 256 ^ width) }
+    ensures surely { IsOkUnless result Malformed }
 {
     if width == 0 {
         return Ok((0, bytes));

@@ -1,8 +1,9 @@
 //! Varints.
 
-ghost use Rattle.std.specs.Prelude.{◌≡◌, ◌<◌, ◌≤◌, ◌^◌, ◌++◌, IfOk, OnOk};
+ghost use Rattle.std.specs.Prelude.{◌≡◌, ◌<◌, ◌≤◌, ◌^◌, ◌++◌, IfOk, OnOk, IsOkUnless};
 ghost use Rattle.vx_codec.specs.Reads.{Reads};
 ghost use Rattle.vx_codec.specs.Varint.{groups, groups_at, varint};
+ghost use Rattle.vx_codec.specs.declared.error.ReadError.TheVariants.{Malformed};
 
 use crate::bytes::{put_byte, read_byte};
 use crate::error::ReadError;
@@ -14,6 +15,7 @@ fn read_groups(bytes: &[u8], left: u8) -> Result<(u128, &[u8]), ReadError>
     requires { left ≤ 10 }
     ensures read { Reads (λ x. (x.0, x.1.now)) result (groups_at left bytes.now) }
     ensures small { IfOk result (λ x. x.0 < 128 ^ left) }
+    ensures surely { IsOkUnless result Malformed }
 {
     if left == 0 {
         return Err(ReadError::Malformed);
@@ -32,7 +34,8 @@ fn read_groups(bytes: &[u8], left: u8) -> Result<(u128, &[u8]), ReadError>
 /// The varint at the front, and the bytes after it. Malformed exactly where none stands there: the bytes end within it, it
 /// is 2^64 or more, or it is overlong, that is, its last byte of several is 0.
 pub fn read_varint(bytes: &[u8]) -> Result<(u64, &[u8]), ReadError>
-    ensures { Reads (λ x. (x.0, x.1.now)) result (varint.parse bytes.now) }
+    ensures read { Reads (λ x. (x.0, x.1.now)) result (varint.parse bytes.now) }
+    ensures surely { IsOkUnless result Malformed }
 {
     let (number, rest) = read_groups(bytes, 10)?;
     if number >= 1 << 64 {
