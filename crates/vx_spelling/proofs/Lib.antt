@@ -1,0 +1,16 @@
+pub mod Admitted
+pub mod Bounds
+pub mod FieldLaws
+pub mod FileLaws
+pub mod LayoutFacts
+pub mod LeafCanonicals
+pub mod LeafRoundTrips
+pub mod NodeCanonicals
+pub mod NodeLaws
+pub mod NodeRoundTrips
+pub mod PatchCanonicals
+pub mod StandardFacts
+pub mod StructLaws
+pub mod TreeLaws
+pub mod TypeLaws
+pub mod ValueLaws

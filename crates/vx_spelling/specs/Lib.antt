@@ -1,0 +1,9 @@
+pub mod Fields
+pub mod FileSpelling
+pub mod LeafParts
+pub mod NestedParts
+pub mod PackedParts
+pub mod Storable
+pub mod TreeSpelling
+pub mod TypeSpelling
+pub mod ValueSpelling
