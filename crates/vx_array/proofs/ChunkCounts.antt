@@ -1,14 +1,16 @@
 -- Chunk offsets of patches: which indices are below a bound, where a search by chunks looks, and the test of each offset.
-use Rattle.std.proofs.Common.{◌≡◌, ◌<◌, ◌≤◌, ◌+◌, ◌*◌, ◌/◌, ◌∙◌, ℕ, zero, suc, pos, Bool, List, [], ◌∷◌, length, inl, inr, true, false, refl, sym, subst, arith, add-one, Option, Some, None}
+use Rattle.std.proofs.Common.{◌≡◌, ◌<◌, ◌≤◌, ◌+◌, ◌-◌, ◌*◌, ◌/◌, ◌^◌, ◌∙◌, ℕ, zero, suc, pos, negsuc, Bool, List, [], ◌∷◌, length, inl, inr, true, false, refl, sym, ap, subst, arith, add-one, Option, Some, None}
 use Rattle.std.specs.List.{list_all, range_with_len}
-use Rattle.std.specs.Prelude.{IfSome}
-use Rattle.std.proofs.lemmas.Bool.{cases_lt, true≢false, and_parts, and_from}
+use Rattle.std.specs.Prelude.{IfSome, nat_le}
+use Rattle.std.proofs.lemmas.Bool.{cases_lt, true≢false, and_parts, and_from, ne_eqb, eqb-true, leb-true, leb-false}
 use Rattle.vx_base.specs.PlainValue.{PlainValue, int}
-use Rattle.vx_model.specs.Rows.{rows, row_at, index_of, offset_at, block_rows}
+use Rattle.vx_model.specs.Rows.{rows, row_at, index_of, is_index, offset_at, block_rows}
 use Rattle.vx_model.specs.Tree.{Tree, PlainPatches, chunked}
-use Rattle.vx_model.specs.WellFormed.{WellFormedPatches, IsChunked, ascend, indices_below}
+use Rattle.vx_model.specs.WellFormed.{WellFormedPatches, IsChunked, are_chunk_offsets, ascend, indices_below}
 use Rattle.vx_model.proofs.ChunkLemmas.{below-all, below-before, below-behind, below-most, below-rises, chunk-offset}
 use Rattle.vx_model.proofs.NumberedLemmas.{below_passes}
+use Rattle.vx_flat.proofs.PartRows.{range_passes}
+use Rattle.vx_array.specs.Linear.{IsUniform}
 use Rattle.vx_model.proofs.PatchLemmas.{NoneBelow, NoneFrom, ascend_parts, ascend_from, is_index-of}
 
 -- ---- indices below a bound
@@ -100,3 +102,66 @@ all-fail p n i l f = pick (list_all p (range_with_len 0 n)) refl
     pick : (b : Bool) → list_all p (range_with_len 0 n) ≡ b → list_all p (range_with_len 0 n) ≡ false
     pick true e = absurd (true≢false (sym (below_passes p n i e l) ∙ f))
     pick false e = e
+
+-- ---- equal chunk offsets
+
+-- no indices are below any bound
+pub below-none : (b : ℕ) (is : List PlainValue) → length is ≡ 0 → indices_below b is ≡ 0
+below-none b [] e = refl
+below-none b (v ∷ is) e = absurd (omega arith)
+
+module _ (is os : List PlainValue) (up : ascend 0 (2 ^ 65) is ≡ true) (same : IsUniform os) (some : 0 < length os) where
+  abbrev counted : ℕ → Bool
+  counted c = is_index (row_at os c) (indices_below (block_rows * c) is)
+
+  -- no index is below 0
+  first_count : indices_below (block_rows * 0) is ≡ 0
+  first_count = pick is up
+    where
+      pick : (vs : List PlainValue) → ascend 0 (2 ^ 65) vs ≡ true → indices_below (block_rows * 0) vs ≡ 0
+      pick [] e = refl
+      pick (int (pos n) ∷ vs) e =
+          elim (cases_lt 0 (indices_below (block_rows * 0) (int (pos n) ∷ vs))) [
+            | inl less ↦ absurd (true≢false (sym (is_index-of (int (pos n)) n refl) ∙ below-before 0 (2 ^ 65) (block_rows * 0) n (int (pos n) ∷ vs) e (omega arith) 0 less))
+            | inr more ↦ omega arith
+          ]
+      pick (v ∷ vs) e = absurd cc
+
+  pub zeros-first : is_index (row_at os 0) 0 ≡ false → list_all counted (range_with_len 0 (length os)) ≡ false
+  zeros-first fails = all-fail counted (length os) 0 some (ap (is_index (row_at os 0)) first_count ∙ fails)
+
+  -- where no index is below the last chunk
+  pub zeros-all : is_index (row_at os 0) 0 ≡ true → indices_below (block_rows * (length os - 1)) is ≡ 0 → list_all counted (range_with_len 0 (length os)) ≡ true
+  zeros-all first none = range_passes counted 0 (length os) (λ c l. (
+      let most = below-rises 0 (2 ^ 65) (block_rows * c) (block_rows * (length os - 1)) is up (omega arith) in
+      let count : indices_below (block_rows * c) is ≡ 0 = omega (arith, most, none) in
+      let few : c < length os = omega (arith, l) in
+      (λ i. is_index (same c few i) (count i)) ∙ first
+      ))
+
+  is_zero : (v : PlainValue) (n : ℕ) → is_index v 0 ≡ true → 0 < n → is_index v n ≡ false
+  is_zero (int (pos k)) n e l = ne_eqb k n (λ f. let z = eqb-true k 0 e in omega arith)
+  is_zero (int (negsuc k)) n e l = refl
+  is_zero v n e l = absurd cc
+
+  pub zeros-last : is_index (row_at os 0) 0 ≡ true → 0 < indices_below (block_rows * (length os - 1)) is → list_all counted (range_with_len 0 (length os)) ≡ false
+  zeros-last first more =
+      let last : length os - 1 < length os = omega arith in
+      all-fail counted (length os) (length os - 1) last (ap (λ v. is_index v (indices_below (block_rows * (length os - 1)) is)) (same (length os - 1) last) ∙ is_zero (row_at os 0) (indices_below (block_rows * (length os - 1)) is) first more)
+
+  -- by the first index
+  pub zeros-first_index : (k : ℕ) → is_index (row_at os 0) 0 ≡ true → index_of (row_at is 0) ≡ Some k → list_all counted (range_with_len 0 (length os)) ≡ nat_le (block_rows * (length os - 1)) k
+  zeros-first_index k first found = pick (nat_le (block_rows * (length os - 1)) k) refl
+    where
+      pick : (b : Bool) → nat_le (block_rows * (length os - 1)) k ≡ b → list_all counted (range_with_len 0 (length os)) ≡ b
+      pick true e =
+          let behind = counts-behind 0 (2 ^ 65) (block_rows * (length os - 1)) is up 0 k found (leb-true (block_rows * (length os - 1)) k e) in
+          zeros-all first (omega (arith, behind))
+      pick false e = zeros-last first (counts-below 0 (2 ^ 65) (block_rows * (length os - 1)) is up 0 k found (leb-false (block_rows * (length os - 1)) k e))
+
+  -- without an index
+  pub zeros-no_index : is_index (row_at os 0) 0 ≡ true → length is ≡ 0 → list_all counted (range_with_len 0 (length os)) ≡ true
+  zeros-no_index first none = zeros-all first (below-none (block_rows * (length os - 1)) is none)
+
+pub zeros-none : (is os : List PlainValue) → length os ≡ 0 → are_chunk_offsets is os ≡ true
+zeros-none is os none = ap (λ n. list_all (λ c. is_index (row_at os c) (indices_below (block_rows * c) is)) (range_with_len 0 n)) none

@@ -6,6 +6,7 @@ use Rattle.std.proofs.lemmas.Bool.{cond_both, or_parts}
 use Rattle.std.proofs.lemmas.List.Quantifiers.{position-Some}
 use Rattle.vx_base.specs.Defaults.{default_of, or_default}
 use Rattle.vx_base.specs.PlainScalar.{PlainScalar}
+use Rattle.vx_base.specs.PlainType.{is_flat, is_integer, is_nullable}
 use Rattle.vx_base.specs.PlainValue.{PlainValue, null, int, is_null}
 use Rattle.vx_model.specs.Plain.{validity, valid_bits}
 use Rattle.vx_model.specs.Refusals.{kept}
@@ -48,43 +49,52 @@ no_null-from f start (suc n) h = rw (h start (omega arith), no_null-from f (star
 
 -- ---- runs by their ends
 
-module _ (ends values : Tree) (w : WellFormed (run_end ends values)) where
-  abbrev all_rows : List PlainValue
-  all_rows = rows (run_end ends values)
+-- rows by their runs, of which es are the ends and vs the values
+module _ (es vs : List PlainValue) (same : length es ≡ length vs) where
+  abbrev pub run_rows : List PlainValue
+  run_rows = below (run_value es vs) (last_end es)
 
-  found : (i : ℕ) → i < last_end (rows ends) → (run_of_row (rows ends) i < length (rows ends)) × (run_value (rows ends) (rows values) i ≡ row_at (rows values) (run_of_row (rows ends) i))
-  found i l = run_value-number (rows ends) (rows values) i w.2.lengths l
+  found : (i : ℕ) → i < last_end es → (run_of_row es i < length es) × (run_value es vs i ≡ row_at vs (run_of_row es i))
+  found i l = run_value-number es vs i same l
 
-  run_rows-filled : all_rows ≡ by_runs (rows ends) (rows values) null
-  run_rows-filled =
-      below-same (run_value (rows ends) (rows values)) (λ i. row_at (rows values) (run_of_row (rows ends) i)) (last_end (rows ends)) (λ i l. (found i l).1) ∙ sym (by_runs-is (rows ends) (rows values) null)
+  run_rows-filled : run_rows ≡ by_runs es vs null
+  run_rows-filled = below-same (run_value es vs) (λ i. row_at vs (run_of_row es i)) (last_end es) (λ i l. (found i l).1) ∙ sym (by_runs-is es vs null)
 
-  run_validity : validity_by_runs (rows ends) (validity (rows values)) ≡ validity all_rows
+  run_validity : validity_by_runs es (validity vs) ≡ validity run_rows
   run_validity =
-      cond_both (list_any is_null (rows values)) (Some (valid_bits (rows values))) None (λ valid. validity_by_runs (rows ends) valid ≡ validity all_rows)
-      (λ some. ap (λ bits. kept (Some bits)) (sym (stand-by_runs (λ v. not (is_null v)) (rows ends) (rows values) all_rows null false run_rows-filled refl)) ∙ kept-bits all_rows) none_null
+      cond_both (list_any is_null vs) (Some (valid_bits vs)) None (λ valid. validity_by_runs es valid ≡ validity run_rows)
+      (λ some. ap (λ bits. kept (Some bits)) (sym (stand-by_runs (λ v. not (is_null v)) es vs run_rows null false run_rows-filled refl)) ∙ kept-bits run_rows) none_null
     where
-      none_null : list_any is_null (rows values) ≡ false → None ≡ validity all_rows
+      none_null : list_any is_null vs ≡ false → None ≡ validity run_rows
       none_null none =
-          let valid = no_null-from (run_value (rows ends) (rows values)) 0 (last_end (rows ends)) (λ i l. (
+          let valid = no_null-from (run_value es vs) 0 (last_end es) (λ i l. (
           let at = found i (omega arith) in
           let p = at.0 in
-          let same = w.2.lengths in
-          ap is_null at.1 ∙ valid_row (rows values) (run_of_row (rows ends) i) (omega arith) none
+          ap is_null at.1 ∙ valid_row vs (run_of_row es i) (omega arith) none
           )) in
-          sym (ap (λ b. cond b (Some (valid_bits all_rows)) None) valid)
+          sym (ap (λ b. cond b (Some (valid_bits run_rows)) None) valid)
 
-  pub run_end_rows : (es : Ints) (ev : Validity) (v d : Decoded) → AreIntegers ends es ev → IsDecoded values v
-      → AreRows (kind_in v.values) (by_runs (map int (wholes_of es)) (values_of v.values) (default_in (kind_in v.values))) (validity_by_runs (map int (wholes_of es)) v.valid) d → IsDecoded (run_end ends values) d
-  run_end_rows es ev v d h hv r =
-      let own = w.2 in
-      let read : map int (wholes_of es) ≡ rows ends = wholes-rows ends es ev w.0 own.ends_type own.not_null h in
-      let default = default_of_kind (tree_type values) v.values (integer_flat (tree_type values) own.values_type) hv.0 in
-      let d0 = default_of (tree_type values) in (
-        r.0 ∙ hv.0,
-        r.1 ∙ (λ i. by_runs (read i) (hv.1 i) (default i)) ∙ sym (stand-by_runs (or_default d0) (rows ends) (rows values) all_rows null d0 run_rows-filled refl),
-        r.2 ∙ (λ i. validity_by_runs (read i) (hv.2 i)) ∙ run_validity,
+-- a tree whose rows are those of another one by runs
+module _ (t values ends : Tree) (typed : tree_type t ≡ tree_type values) (flat : is_flat (tree_type values) ≡ true) (w : WellFormed ends) (whole : is_integer (tree_type ends) ≡ true)
+    (not_null : is_nullable (tree_type ends) ≡ false) (same : length (rows ends) ≡ length (rows values)) (are : rows t ≡ below (run_value (rows ends) (rows values)) (last_end (rows ends))) where
+  pub filled_rows : (es : Ints) (ev : Validity) (v d : Decoded) → AreIntegers ends es ev → IsDecoded values v
+      → AreRows (kind_in v.values) (by_runs (map int (wholes_of es)) (values_of v.values) (default_in (kind_in v.values))) (validity_by_runs (map int (wholes_of es)) v.valid) d → IsDecoded t d
+  filled_rows es ev v d h hv r =
+      let read : map int (wholes_of es) ≡ rows ends = wholes-rows ends es ev w whole not_null h in
+      let default = default_of_kind (tree_type values) v.values flat hv.0 in
+      let d0 = default_of (tree_type values) in
+      let filled = run_rows-filled (rows ends) (rows values) same in (
+        r.0 ∙ hv.0 ∙ ap kind_of (sym typed),
+        r.1 ∙ (λ i. by_runs (read i) (hv.1 i) (default i)) ∙ sym (stand-by_runs (or_default d0) (rows ends) (rows values) (run_rows (rows ends) (rows values) same) null d0 filled refl)
+            ∙ (λ i. map (or_default (default_of (sym typed i))) (sym are i)),
+        r.2 ∙ (λ i. validity_by_runs (read i) (hv.2 i)) ∙ run_validity (rows ends) (rows values) same ∙ ap validity (sym are),
       )
+
+pub run_end_rows : (ends values : Tree) → WellFormed (run_end ends values) → (es : Ints) (ev : Validity) (v d : Decoded) → AreIntegers ends es ev → IsDecoded values v
+    → AreRows (kind_in v.values) (by_runs (map int (wholes_of es)) (values_of v.values) (default_in (kind_in v.values))) (validity_by_runs (map int (wholes_of es)) v.valid) d → IsDecoded (run_end ends values) d
+run_end_rows ends values w =
+    let own = w.2 in
+    filled_rows (run_end ends values) values ends refl (integer_flat (tree_type values) own.values_type) w.0 own.ends_type own.not_null own.lengths refl
 
 -- ---- a fill and patches
 

@@ -4,12 +4,15 @@ use Rattle.std.specs.Prelude.{not, unwrap_or}
 use Rattle.std.specs.List.{list_all, list_any}
 use Rattle.std.proofs.lemmas.Bool.{and_parts, and_from}
 use Rattle.std.proofs.lemmas.List.{length-map}
-use Rattle.vx_base.specs.Defaults.{default_of, null_or_default}
+use Rattle.std.proofs.lemmas.Simd.{map-map}
+use Rattle.vx_base.specs.declared.dtype.Nullability.TheVariants.{NonNullable}
+use Rattle.vx_base.specs.Defaults.{default_of, field_defaults, null_or_default, or_default}
 use Rattle.vx_base.specs.PlainScalar.{PlainScalar, fits}
-use Rattle.vx_base.specs.PlainType.{PlainType, is_flat, is_nullable}
+use Rattle.vx_base.specs.PlainType.{PlainFields, PlainType, is_flat, is_nullable}
 use Rattle.vx_base.specs.PlainType as types
-use Rattle.vx_base.specs.PlainValue.{PlainValue, null, is_null}
+use Rattle.vx_base.specs.PlainValue.{PlainValue, null, truth, int, bytes, items, is_null}
 use Rattle.vx_base.proofs.NullLemmas.{null-fitted}
+use Rattle.vx_model.specs.Nested.{fixed_rows, struct_rows, within}
 use Rattle.vx_model.specs.Plain.{plain_of, valid_bits, validity}
 use Rattle.vx_model.specs.Rows.{rows, masked_rows}
 use Rattle.vx_model.specs.Tree.{constant}
@@ -19,6 +22,7 @@ use Rattle.vx_pieces.specs.Kept.{kept_items}
 use Rattle.vx_pieces.specs.Pieces.{Gives, are_pieces, in_one_row, pieced}
 use Rattle.vx_pieces.proofs.SpreadLemmas.{are_one-row-pieces, masked-own, one-row-pieces}
 use Rattle.vx_array.specs.PlainPieced.{has_rows_within, plain_pieced}
+use Rattle.vx_array.proofs.Decodings.{no_nulls}
 
 -- what pieces give of a plain tree
 plain-pieced : (t : PlainType) (vs : List PlainValue) (ps : List Piece) → list_all (fits t) vs ≡ true → plain_pieced ps (plain_of t vs) ≡ plain_of t (pieced (null_or_default t) ps vs)
@@ -72,6 +76,33 @@ module _ (t : PlainType) (vs : List PlainValue) (bits : List Bool) (fit : list_a
       let filling : null_or_default t ≡ null = ap (λ b. cond b null (default_of t)) nullable in
       plain-pieced t valid ps spread-fit
       ∙ ap (plain_of t) ((λ i. pieced (filling i) ps (kept_items (own i) vs)) ∙ g.gives ∙ ap (λ k. masked_rows k vs) (sym own) ∙ masked-own vs)
+
+-- ---- values of which none is null
+
+pub kept-valid : (vs : List PlainValue) → list_any is_null (valid_of vs) ≡ false
+kept-valid [] = refl
+kept-valid (null ∷ vs) = kept-valid vs
+kept-valid (truth b ∷ vs) = kept-valid vs
+kept-valid (int z ∷ vs) = kept-valid vs
+kept-valid (bytes bs ∷ vs) = kept-valid vs
+kept-valid (items xs ∷ vs) = kept-valid vs
+
+pub none-null : (vs : List PlainValue) → validity vs ≡ None → list_any is_null vs ≡ false
+none-null vs e = by_any (list_any is_null vs) e
+  where
+    by_any : (b : Bool) → cond b (Some (valid_bits vs)) None ≡ None → b ≡ false
+    by_any true h = absurd cc
+    by_any false h = refl
+
+module _ (vs : List PlainValue) (valid : list_any is_null vs ≡ false) where
+  pub valid-none : validity vs ≡ None
+  valid-none = ap (λ b. cond b (Some (valid_bits vs)) None) valid
+
+  pub valid-structs : (fs : PlainFields) → struct_rows fs vs ≡ map within vs
+  valid-structs fs = let default = items (field_defaults fs) in sym (map-map within (or_default default) vs) ∙ ap (map within) (no_nulls default vs valid)
+
+  pub valid-lists : (t : PlainType) (size : ℕ) → fixed_rows t size vs ≡ vs
+  valid-lists t size = no_nulls (default_of (types.fixed_size_list t size NonNullable)) vs valid
 
 -- ---- equal rows
 

@@ -6,6 +6,7 @@ pub mod IsArray
 pub mod IsDecoded
 pub mod Kept
 pub mod Lent
+pub mod Linear
 pub mod Look
 pub mod PlainPieced
 pub mod Sums

@@ -1,15 +1,17 @@
 //! Decoding: the plain tree of a tree's column. Leaf types and timestamps are decoded column by column; nested types by the
 //! pieces of their children (`nested.rt`).
 
-ghost use Rattle.std.specs.Prelude.{◌≡◌, IsTrue};
+ghost use Rattle.std.specs.Prelude.{◌≡◌, ◌<◌, IsTrue, length};
 ghost use Rattle.vx_base.specs.Answers.{Answers, OrMemory};
 ghost use Rattle.vx_base.specs.PlainType.{is_flat, is_integer};
 ghost use Rattle.vx_model.specs.Column.{column_of};
 ghost use Rattle.vx_model.specs.Plain.{IsPlain, plain};
+ghost use Rattle.vx_model.specs.Rows.{rows};
 ghost use Rattle.vx_model.specs.TreeType.{tree_type};
 ghost use Rattle.vx_array.specs.HasRuns.{has_blocks, has_columns, has_runs};
 ghost use Rattle.vx_array.specs.IsDecoded.{IsDecoded};
 ghost use Rattle.vx_array.specs.Lent.{AreIntegers, lent};
+ghost use Rattle.vx_array.specs.Linear.{IsUniform};
 
 use crate::array::{ArrayRef, Node};
 use crate::lent::LentInts;
@@ -18,8 +20,8 @@ use std::alloc::Global;
 use vx_base::{Mask, VortexResult};
 use vx_flat::{
     block_places, decoded_bool, decoded_by_codes, decoded_by_runs, decoded_constant, decoded_delta,
-    decoded_frames, decoded_masked, decoded_moved, decoded_parts, decoded_primitive,
-    decoded_sequence, decoded_var_bin, decoded_view, decoded_zig_zag,
+    decoded_frames, decoded_masked, decoded_parts, decoded_primitive, decoded_sequence,
+    decoded_var_bin, decoded_view,
 };
 use vx_pieces::Piece;
 use vx_values::{Decoded, Values};
@@ -82,8 +84,8 @@ impl ArrayRef {
             Node::Primitive(values, valid, _) => decoded_primitive(alloc, values, valid),
             Node::VarBinView(values, valid, _) => decoded_view(alloc, values, valid),
             Node::VarBin(offsets, bytes, valid, _) => {
-                let (offsets, _) = offsets.array.decoded(alloc)?.into_integers();
-                decoded_var_bin(alloc, &offsets, bytes, valid)
+                let (offsets, _) = offsets.array.integers(alloc)?;
+                decoded_var_bin(alloc, offsets.as_ints(), bytes, valid)
             }
             Node::Timestamp(storage, _) => storage.array.decoded(alloc),
             Node::Constant(value, len) => decoded_constant(alloc, value, *len),
@@ -91,17 +93,12 @@ impl ArrayRef {
             Node::BitPacked(ptype, width, packed, len, valid, patches, _) => {
                 decoded_packed(alloc, *ptype, *width, packed, *len, valid, patches)
             }
-            Node::FoR(encoded, reference) => {
-                let (differences, valid) = encoded.array.integers(alloc)?;
-                decoded_moved(alloc, differences.as_ints(), valid, reference)
-            }
-            Node::ZigZag(encoded) => {
-                let (zigzags, valid) = encoded.array.decoded(alloc)?.into_integers();
-                decoded_zig_zag(alloc, zigzags, valid)
-            }
+            Node::FoR(encoded, reference) => encoded.array.decoded_framed(alloc, reference),
+            Node::ZigZag(encoded) => encoded.array.decoded_zigzags(alloc),
+            Node::Dict(_, _) if self.len > 0 && self.is_uniform() => self.decoded_uniform(alloc),
             Node::Dict(codes, values) => {
-                let (codes, valid) = codes.array.decoded(alloc)?.into_integers();
-                decoded_by_codes(alloc, codes, valid, values.array.decoded(alloc)?)
+                let values = values.array.decoded(alloc)?;
+                codes.array.decoded_dict(alloc, values)
             }
             Node::Sparse(_, _) => self.decoded_runs(alloc),
             Node::RunEnd(_, _) => self.decoded_runs(alloc),
@@ -114,6 +111,17 @@ impl ArrayRef {
             Node::Null(_) | Node::Struct(_, _, _, _, _) => unreachable!(),
             Node::List(_, _, _, _) | Node::FixedSizeList(_, _, _, _, _) => unreachable!(),
         }
+    }
+
+    // `decoded` of equal rows: one of them, repeated.
+    fn decoded_uniform(&self, alloc: Global) -> VortexResult<Decoded>
+        requires flat { IsTrue (is_flat (tree_type self.now)) }
+        requires some { 0 < length (rows self.now) }
+        requires uniform { IsUniform (rows self.now) }
+        ensures { OrMemory result (λ rows. IsDecoded self.now rows) }
+    {
+        let row = self.scalar_at(alloc, 0)?;
+        decoded_constant(alloc, &row, self.len())
     }
 
     // The integers and validity of a tree of integers. A plain tree without nulls lends what it stores.
@@ -143,8 +151,16 @@ impl ArrayRef {
     {
         match &self.node {
             Node::BitPackedV2(ptype, packed, offsets, len, valid, patches, _) => {
-                let (offsets, _) = offsets.array.decoded(alloc)?.into_integers();
-                decoded_in_blocks(alloc, *ptype, packed, &offsets, *len, valid, patches)
+                let (offsets, _) = offsets.array.integers(alloc)?;
+                decoded_in_blocks(
+                    alloc,
+                    *ptype,
+                    packed,
+                    offsets.as_ints(),
+                    *len,
+                    valid,
+                    patches,
+                )
             }
             _ => unreachable!(),
         }
@@ -183,25 +199,25 @@ impl ArrayRef {
     {
         match &self.node {
             Node::Sparse(patches, fill) => {
-                let (indices, _) = patches.indices.decoded(alloc)?.into_integers();
+                let (indices, _) = patches.indices.integers(alloc)?;
                 let values = patches.values.decoded(alloc)?;
-                decoded_sparse(alloc, patches, fill, &indices, values)
+                decoded_sparse(alloc, patches, fill, indices.as_ints(), values)
             }
             Node::RunEnd(ends, values) => {
-                let (ends, _) = ends.array.decoded(alloc)?.into_integers();
-                decoded_by_runs(alloc, &ends, values.array.decoded(alloc)?)
+                let (ends, _) = ends.array.integers(alloc)?;
+                decoded_by_runs(alloc, ends.as_ints(), values.array.decoded(alloc)?)
             }
             Node::Rle(values, indices, offsets, len) => {
                 let _places = values.array.len();
-                let (indices, _) = indices.array.decoded(alloc)?.into_integers();
-                let (offsets, _) = offsets.array.decoded(alloc)?.into_integers();
-                let places = block_places(alloc, &indices, &offsets, *len)?;
+                let (indices, _) = indices.array.integers(alloc)?;
+                let (offsets, _) = offsets.array.integers(alloc)?;
+                let places = block_places(alloc, indices.as_ints(), offsets.as_ints(), *len)?;
                 decoded_by_codes(alloc, places, None, values.array.decoded(alloc)?)
             }
             Node::Delta(bases, deltas, len, valid, _) => {
-                let (bases, _) = bases.array.decoded(alloc)?.into_integers();
+                let (bases, _) = bases.array.integers(alloc)?;
                 let (deltas, _) = deltas.array.decoded(alloc)?.into_integers();
-                decoded_delta(alloc, &bases, &deltas, *len, valid)
+                decoded_delta(alloc, bases.as_ints(), deltas, *len, valid)
             }
             Node::Sequence(ptype, _, first, step, len) => {
                 decoded_sequence(alloc, *ptype, *first, *step, *len)

@@ -9,6 +9,7 @@ mod canonical;
 mod copies;
 mod joined_bytes;
 mod lent;
+mod linear;
 mod look_up;
 mod nested;
 mod node;

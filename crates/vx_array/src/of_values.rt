@@ -1,16 +1,17 @@
 //! The plain tree of a column, from its values.
 
-ghost use Rattle.std.specs.List.{list_all};
-ghost use Rattle.std.specs.Prelude.{◌≡◌, IsTrue, Some, map};
+ghost use Rattle.std.specs.List.{list_all, list_any};
+ghost use Rattle.std.specs.Prelude.{◌≡◌, IsTrue, Some, false, map};
 ghost use Rattle.vx_base.specs.Answers.{Answers, OrMemory};
 ghost use Rattle.vx_base.specs.PlainScalar.{fits, fields_fit};
 ghost use Rattle.vx_base.specs.PlainType.{of_fields};
 ghost use Rattle.vx_array.specs.PlainPieced.{has_rows_within};
+ghost use Rattle.vx_base.specs.PlainValue.{is_null};
 ghost use Rattle.vx_pieces.specs.Kept.{kept_items};
 ghost use Rattle.vx_base.specs.PlainType as types;
 ghost use Rattle.vx_base.specs.TypeOf.{type_of, value_of, fields_of};
 ghost use Rattle.vx_model.specs.Column.{column, column_of};
-ghost use Rattle.vx_model.specs.Nested.{names_of, struct_rows, list_rows, elements};
+ghost use Rattle.vx_model.specs.Nested.{names_of, within, list_rows, elements};
 ghost use Rattle.vx_model.specs.Offsets.{offsets_of};
 ghost use Rattle.vx_model.specs.Plain.{IsPlain, plain_fields, plain_of, valid_bits, validity};
 ghost use Rattle.vx_model.specs.Tree.{of_list};
@@ -24,7 +25,7 @@ use byte_lists::of_byte_lists;
 use flat::{of_bytes, of_stamps, of_truths, of_wholes};
 use std::alloc::Global;
 use vx_base::{DType, Fields, IntList, Mask, Names, Nullability, Value, VortexResult};
-use vx_flat::{field_columns, filled_lists, is_null, list_items, validity_of};
+use vx_flat::{field_columns, is_null, list_items, validity_of};
 use vx_pieces::spread_pieces;
 use vx_values::Ints;
 
@@ -49,12 +50,13 @@ pub(crate) fn plain_tree(alloc: Global, dtype: &DType, values: Vec<Value>) -> Vo
     requires { IsTrue (list_all (fits (type_of dtype.now)) (map value_of values.items)) }
     ensures { Answers result (plain_of (type_of dtype.now) (map value_of values.items)) }
 {
-    if has_rows_within(dtype) {
-        if let Some(valid) = validity_of(alloc, values.as_slice())? {
-            return spread_tree(alloc, dtype, values, &valid);
-        }
+    if !has_rows_within(dtype) {
+        return typed_tree(alloc, dtype, values);
     }
-    typed_tree(alloc, dtype, values)
+    match validity_of(alloc, values.as_slice())? {
+        Some(valid) => spread_tree(alloc, dtype, values, &valid),
+        None => typed_tree(alloc, dtype, values),
+    }
 }
 
 // Whether a null row of the type has rows within: of fields, or of the elements of a list of one size.
@@ -95,10 +97,11 @@ fn valid_values(alloc: Global, values: Vec<Value>) -> VortexResult<Vec<Value>>
     Ok(kept)
 }
 
-// The plain tree, by the kind of the type.
+// The plain tree, by the kind of the type. No struct and no list of one size is null.
 #[cycle(plain_pieces)]
 fn typed_tree(alloc: Global, dtype: &DType, values: Vec<Value>) -> VortexResult<ArrayRef>
-    requires { IsTrue (list_all (fits (type_of dtype.now)) (map value_of values.items)) }
+    requires fit { IsTrue (list_all (fits (type_of dtype.now)) (map value_of values.items)) }
+    requires valid { IsTrue (has_rows_within (type_of dtype.now)) → list_any is_null (map value_of values.items) ≡ false }
     ensures { Answers result (plain_of (type_of dtype.now) (map value_of values.items)) }
 {
     match dtype {
@@ -119,7 +122,7 @@ fn typed_tree(alloc: Global, dtype: &DType, values: Vec<Value>) -> VortexResult<
     }
 }
 
-// A struct node over one plain tree per field.
+// A struct node over one plain tree per field, of structs of which none is null.
 #[cycle(plain_pieces)]
 fn of_structs(
     alloc: Global,
@@ -127,14 +130,14 @@ fn of_structs(
     values: Vec<Value>,
     nullability: Nullability,
 ) -> VortexResult<ArrayRef>
-    requires { IsTrue (list_all (fits (types.structure (of_fields (fields_of fields.now)) nullability)) (map value_of values.items)) }
+    requires fit { IsTrue (list_all (fits (types.structure (of_fields (fields_of fields.now)) nullability)) (map value_of values.items)) }
+    requires valid { list_any is_null (map value_of values.items) ≡ false }
     ensures { Answers result (plain_of (types.structure (of_fields (fields_of fields.now)) nullability) (map value_of values.items)) }
 {
     let len = values.len() as u64;
-    let valid = validity_of(alloc, values.as_slice())?;
     let trees = field_trees(alloc, fields, values)?;
     let names = field_names(alloc, fields)?;
-    match ArrayRef::structure(alloc, names, trees, len, valid, nullability) {
+    match ArrayRef::structure(alloc, names, trees, len, None, nullability) {
         Ok(tree) => Ok(tree),
         Err(refused) => Err(refused.error),
     }
@@ -143,11 +146,11 @@ fn of_structs(
 // The plain tree of each field's column.
 #[cycle(plain_pieces)]
 fn field_trees(alloc: Global, fields: &Fields, values: Vec<Value>) -> VortexResult<Arrays>
-    requires { IsTrue (list_all (fields_fit (of_fields (fields_of fields.now))) (struct_rows (of_fields (fields_of fields.now)) (map value_of values.items))) }
-    ensures { OrMemory result (λ trees. of_list trees ≡ plain_fields (of_fields (fields_of fields.now)) (struct_rows (of_fields (fields_of fields.now)) (map value_of values.items))) }
+    requires { IsTrue (list_all (fields_fit (of_fields (fields_of fields.now))) (map within (map value_of values.items))) }
+    ensures { OrMemory result (λ trees. of_list trees ≡ plain_fields (of_fields (fields_of fields.now)) (map within (map value_of values.items))) }
 {
     let parts = fields.as_slice();
-    let columns = field_columns(alloc, fields, values)?;
+    let columns = field_columns(alloc, fields.len(), values)?;
     let mut trees = Vec::with_capacity(alloc, columns.len())?;
     for column in columns {
         let field = &parts[trees.len()];
@@ -207,7 +210,7 @@ fn list_elements(
     Ok((tree, offsets))
 }
 
-// A fixed-size list node over its elements.
+// A fixed-size list node over its elements, of lists of which none is null.
 #[cycle(plain_pieces)]
 fn of_fixed_lists(
     alloc: Global,
@@ -216,14 +219,13 @@ fn of_fixed_lists(
     values: Vec<Value>,
     nullability: Nullability,
 ) -> VortexResult<ArrayRef>
-    requires { IsTrue (list_all (fits (types.fixed_size_list (type_of dtype.now) size nullability)) (map value_of values.items)) }
+    requires fit { IsTrue (list_all (fits (types.fixed_size_list (type_of dtype.now) size nullability)) (map value_of values.items)) }
+    requires valid { list_any is_null (map value_of values.items) ≡ false }
     ensures { Answers result (plain_of (types.fixed_size_list (type_of dtype.now) size nullability) (map value_of values.items)) }
 {
     let len = values.len() as u64;
-    let valid = validity_of(alloc, values.as_slice())?;
-    let lists = filled_lists(alloc, dtype, size, values)?;
-    let (elements, _) = list_elements(alloc, dtype, lists)?;
-    match ArrayRef::fixed_size_list(alloc, elements, size, len, valid, nullability) {
+    let (elements, _) = list_elements(alloc, dtype, values)?;
+    match ArrayRef::fixed_size_list(alloc, elements, size, len, None, nullability) {
         Ok(tree) => Ok(tree),
         Err(refused) => Err(refused.error),
     }

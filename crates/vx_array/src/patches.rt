@@ -1,6 +1,7 @@
 //! Patches: construction, and writing them into integers.
 
 ghost use Rattle.std.specs.Prelude.{◌≡◌, ◌+◌, ℕ, ℤ, None, length, option_copied, slice_get, IsTrue};
+ghost use Rattle.vx_array.specs.Linear.{IsLinear};
 ghost use Rattle.vx_base.specs.Answers.{MakesSurely};
 ghost use Rattle.vx_base.specs.PlainType.{is_integer};
 ghost use Rattle.vx_base.specs.declared.dtype.Nullability.TheVariants.{NonNullable};
@@ -12,13 +13,14 @@ ghost use Rattle.vx_model.specs.Refusals.{patches_refusal};
 ghost use Rattle.vx_model.specs.Rows.{rows, index_of, below, patched};
 ghost use Rattle.vx_model.specs.Tree.{patches, sparse_of};
 ghost use Rattle.vx_model.specs.TreeType.{tree_type};
-ghost use Rattle.vx_model.specs.WellFormed.{WellFormedPatches, ascend};
+ghost use Rattle.vx_model.specs.WellFormed.{WellFormedPatches, ascend, lies_between};
 ghost use Rattle.vx_values.specs.IntsOf.{ptype_of, wholes_of};
 
 mod chunks;
 mod search;
 
 use crate::array::{ArrayRef, Patches};
+use crate::node::is_first_below;
 pub(crate) use chunks::is_count;
 use vx_base::{Refused, VortexError};
 use vx_values::Ints;
@@ -177,6 +179,9 @@ impl ArrayRef {
         requires { IsTrue (is_integer (tree_type self.now)) }
         ensures { result ≡ ascend offset (offset + len) (rows self.now) }
     {
+        if self.is_linear() {
+            return self.ends_ascend(offset, len);
+        }
         let high = u128::from(offset) + u128::from(len);
         let mut low = u128::from(offset);
         for row in 0..self.len() {
@@ -189,5 +194,32 @@ impl ArrayRef {
             low = index + 1;
         }
         true
+    }
+
+    // `is_ascending` of linear rows, by the first and the last.
+    fn ends_ascend(&self, offset: u64, len: u64) -> bool
+        requires integers { IsTrue (is_integer (tree_type self.now)) }
+        requires linear { IsLinear (rows self.now) }
+        ensures { result ≡ ascend offset (offset + len) (rows self.now) }
+    {
+        let rows = self.len();
+        if rows == 0 {
+            return true;
+        }
+        let first = lies_between(self.integer_at(0), offset, len);
+        let last = lies_between(self.integer_at(rows - 1), offset, len);
+        first & last & ((rows == 1) | is_first_below(self, rows - 1))
+    }
+}
+
+// Whether an index lies in `offset .. offset + len`.
+fn lies_between(index: Option<i128>, offset: u64, len: u64) -> bool
+    ensures { result ≡ lies_between offset (offset + len) (cell index) }
+{
+    match index {
+        Some(index) => {
+            index >= i128::from(offset) && index < i128::from(offset) + i128::from(len)
+        }
+        None => false,
     }
 }

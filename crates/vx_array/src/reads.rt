@@ -51,11 +51,15 @@ impl ArrayRef {
         }
     }
 
-    // `has_null` row by row, where null codes and null values don't settle it.
+    // `has_null` row by row, where null codes and null values don't settle it. Of equal rows the first is read.
+    #[tactic(auto, using(crate::proofs::LinearRows::uniform_any))]
     fn has_null_row(&self) -> bool
         requires { IsTrue (is_flat (tree_type self.now)) }
         ensures { result ≡ list_any is_null (rows self.now) }
     {
+        if self.is_uniform() {
+            return self.len() > 0 && self.cell_at(0).is_null();
+        }
         for row in 0..self.len() {
             if self.cell_at(row).is_null() {
                 return true;

@@ -18,6 +18,8 @@ mod leaves;
 #[cfg(test)]
 mod lists;
 #[cfg(test)]
+mod many_rows;
+#[cfg(test)]
 mod nested;
 #[cfg(test)]
 mod patches;

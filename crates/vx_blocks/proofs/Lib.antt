@@ -18,6 +18,7 @@ pub mod DeltaSums
 pub mod DeltaRows
 pub mod DeltaParts
 pub mod DeltasBack
+mod DeltasInPlace
 pub mod HeadsOfRuns
 pub mod Extremes
 pub mod Blocks

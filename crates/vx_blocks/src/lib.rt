@@ -38,7 +38,7 @@ pub use reading::get;
 pub use run_ends::runs;
 pub use runs_in_blocks::{BlockRuns, block_runs};
 pub use sequence::sequence_of;
-pub use undeltas::undelta;
+pub use undeltas::{undelta, undelta_in_place};
 pub use unpacking::{unpack, unpack_integers};
 pub use unpacking_in_blocks::unpack_blocks;
 pub use wider::wide_rows;

@@ -65,3 +65,17 @@ pub fn undelta<T: Integer>(alloc: Global, bases: &[T], deltas: &[T]) -> VortexRe
     }
     Ok(rows)
 }
+
+/// `undelta` in place: the deltas become the rows.
+pub fn undelta_in_place<T: Integer>(bases: &[T], rows: &mut [T])
+    requires { length rows.old ≡ 1024 * length bases.now }
+    ensures { map T.whole rows.new ≡ undelta T.kind (map T.whole bases.now) (map T.whole rows.old) }
+{
+    for block in 0..bases.len() {
+        let mut last = bases[block];
+        for row in BLOCK_ROWS * block..BLOCK_ROWS * (block + 1) {
+            last = sum(last, rows[row]);
+            rows[row] = last;
+        }
+    }
+}

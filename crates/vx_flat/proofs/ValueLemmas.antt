@@ -6,7 +6,6 @@ use Rattle.std.proofs.lemmas.Bool.{and_parts}
 use Rattle.std.proofs.lemmas.List.{append_assoc, append-nil, map-append, map-set, get_or-map, drop_more, take_more_set, drop-set-lt, length-append, length-map}
 use Rattle.vx_base.specs.declared.ptype.PType.{PType}
 use Rattle.vx_base.specs.declared.value.Value.{Value}
-use Rattle.vx_base.specs.Defaults.{or_default}
 use Rattle.vx_base.specs.Integers.{lies_in}
 use Rattle.vx_base.specs.PlainValue.{PlainValue, PlainValues, null, truth, int, bytes, items, is_null, of_list, whole_or_zero, items_or_empty}
 use Rattle.vx_base.specs.TypeOf.{value_of}
@@ -24,12 +23,9 @@ pub ruleset held = (whole_held)
 
 -- ---- the fields' values of each struct
 
-pub within-some : (default v : PlainValue) → is_null v ≡ false → within (or_default default v) ≡ of_list (items_or_empty v)
-within-some default null e = absurd cc
-within-some default (truth b) e = refl
-within-some default (int z) e = refl
-within-some default (bytes bs) e = refl
-within-some default (items vs) e = sym (of_list-list_of vs)
+pub within-of_list : (v : PlainValue) → of_list (items_or_empty v) ≡ within v
+within-of_list (items vs) = of_list-list_of vs
+within-of_list v = refl
 
 -- columns without a row
 pub columns-none : (n : ℕ) → replicate n [] ≡ columns_of n []
@@ -110,16 +106,6 @@ ends-more here now left rest v all offsets next longer h =
     append_assoc offsets (now ∷ []) (ends_from now (list_rows (map value_of rest)))
     ∙ ap (λ n. offsets ++ n ∷ ends_from n (list_rows (map value_of rest))) (sym longer)
     ∙ ap (λ vs. offsets ++ ends_from here (list_rows (map value_of vs))) (sym next) ∙ h
-
--- in place of a null stands the default
-pub default-null : (default v : PlainValue) → is_null v ≡ true → or_default default v ≡ default
-default-null default null e = refl
-default-null default v e = absurd cc
-
--- and any other value stays
-pub default-some : (default v : PlainValue) → is_null v ≡ false → or_default default v ≡ v
-default-some default null e = absurd cc
-default-some default v e = refl
 
 -- ---- values within one that is lent
 

@@ -30,20 +30,20 @@ pub fn wrapped(ptype: PType, whole: i128) -> i128
 }
 
 /// `len` rows: row r of a block of 1,024 is the block's base plus its differences 0 to r, wrapping in the bases' type; 0 where
-/// `valid` is false.
+/// `valid` is false. They are written over the differences.
 pub fn decoded_delta(
     alloc: Global,
     bases: &Ints,
-    deltas: &Ints,
+    deltas: Ints,
     len: u64,
     valid: &Option<Mask>,
 ) -> VortexResult<Decoded>
-    requires kinds { ptype_of deltas.now ≡ ptype_of bases.now }
+    requires kinds { ptype_of deltas ≡ ptype_of bases.now }
     requires begins { length (wholes_of bases.now) ≡ block_count len }
-    requires enough { length (wholes_of deltas.now) ≡ block_rows * block_count len }
+    requires enough { length (wholes_of deltas) ≡ block_rows * block_count len }
     requires bits { validity_length valid.now len ≡ true }
-    ensures { OrMemory result (AreRows (ints (ptype_of bases.now)) (map int (zeroed_by (pos 0) valid.now (take len (undelta (ptype_of bases.now) (wholes_of bases.now) (wholes_of deltas.now))))) valid.now) }
+    ensures { OrMemory result (AreRows (ints (ptype_of bases.now)) (map int (zeroed_by (pos 0) valid.now (take len (undelta (ptype_of bases.now) (wholes_of bases.now) (wholes_of deltas))))) valid.now) }
 {
-    let rows = bases.undelta(alloc, deltas)?.truncated(len);
+    let rows = deltas.rows_from(bases).truncated(len);
     Ok(behind(rows, copy_validity(alloc, valid)?))
 }

@@ -1,35 +1,27 @@
 //! The values of nested columns, out of those of structs and lists.
 
-ghost use Rattle.std.specs.Prelude.{◌≡◌, ◌++◌, [], OnOk, IfErr, length, map, replicate};
+ghost use Rattle.std.specs.Prelude.{◌≡◌, ◌++◌, [], OnOk, IfErr, map, replicate};
 ghost use Rattle.std.specs.Vec.Iter.{into_iter_items};
 ghost use Rattle.vx_flat.specs.Columns.{columns_of, with_row};
 ghost use Rattle.vx_base.specs.Answers.{OrMemory};
-ghost use Rattle.vx_base.specs.Defaults.{default_of, field_defaults, null_or_default, or_default};
-ghost use Rattle.vx_base.specs.PlainType.{of_fields, fixed_size_list};
-ghost use Rattle.vx_base.specs.PlainValue.{items, items_or_empty, of_list};
-ghost use Rattle.vx_base.specs.TypeOf.{type_of, value_of, fields_of};
-ghost use Rattle.vx_base.specs.declared.dtype.Nullability.TheVariants.{NonNullable};
+ghost use Rattle.vx_base.specs.PlainValue.{items_or_empty, of_list};
+ghost use Rattle.vx_base.specs.TypeOf.{value_of};
 ghost use Rattle.vx_base.specs.declared.error.VortexError.TheVariants.{NoMemory};
-ghost use Rattle.vx_model.specs.Nested.{within, first_within, rest_within, struct_rows, list_rows, elements, fixed_rows};
+ghost use Rattle.vx_model.specs.Nested.{within, first_within, rest_within, list_rows, elements};
 ghost use Rattle.vx_model.specs.Offsets.{offsets_of};
 
-use crate::lists::is_null;
 use std::alloc::Global;
 use std::vec::IntoIter;
-use vx_base::{DType, Fields, Scalar, Value, Values, VortexResult};
+use vx_base::{Value, VortexResult};
 
-/// One column of values for each field of structs; a null struct has its fields' defaults. The values are moved; NoMemory
-/// drops them.
-pub fn field_columns(
-    alloc: Global,
-    fields: &Fields,
-    values: Vec<Value>,
-) -> VortexResult<Vec<Vec<Value>>>
-    ensures { let fs = fields_of fields.now in OrMemory result (λ columns. map (λ column. map value_of column.items) columns.items ≡ columns_of (length fs) (struct_rows (of_fields fs) (map value_of values.items))) }
+/// One column of values for each of `count` fields of structs, null where a struct has fewer values. The values are moved;
+/// NoMemory drops them.
+pub fn field_columns(alloc: Global, count: u64, values: Vec<Value>) -> VortexResult<Vec<Vec<Value>>>
+    ensures { OrMemory result (λ columns. map (λ column. map value_of column.items) columns.items ≡ columns_of count (map within (map value_of values.items))) }
 {
-    let mut columns = empty_columns(alloc, fields.len(), values.len())?;
+    let mut columns = empty_columns(alloc, count, values.len())?;
     for value in values {
-        push_row(&mut columns, field_row(alloc, fields, value)?)?;
+        push_row(&mut columns, field_row(alloc, value))?;
     }
     Ok(columns)
 }
@@ -68,33 +60,11 @@ fn next_or_null(values: &mut IntoIter<Value>) -> Value
     }
 }
 
-// The values of one struct's fields, the defaults of null.
-fn field_row(alloc: Global, fields: &Fields, value: Value) -> VortexResult<Vec<Value>>
-    ensures { OrMemory result (λ row. of_list (map value_of row.items) ≡ within (or_default (items (field_defaults (of_fields (fields_of fields.now)))) (value_of value))) }
+// The values of one struct's fields.
+fn field_row(alloc: Global, value: Value) -> Vec<Value>
+    ensures { of_list (map value_of result.items) ≡ within (value_of value) }
 {
-    if is_null(&value) {
-        return default_row(alloc, fields);
-    }
-    Ok(value.into_values(alloc).into_vec())
-}
-
-// Each field's default.
-fn default_row(alloc: Global, fields: &Fields) -> VortexResult<Vec<Value>>
-    ensures { OrMemory result (λ row. of_list (map value_of row.items) ≡ field_defaults (of_fields (fields_of fields.now))) }
-{
-    let mut values = Vec::new(alloc);
-    for field in fields.as_slice() {
-        values.push(default_value(alloc, &field.1)?)?;
-    }
-    Ok(values)
-}
-
-// What stands beneath a null in a column of this type: null where the type is nullable, else its default.
-fn default_value(alloc: Global, dtype: &DType) -> VortexResult<Value>
-    ensures { OrMemory result (λ value. value_of value ≡ null_or_default (type_of dtype.now)) }
-{
-    let scalar = Scalar::default_value(alloc, dtype)?;
-    scalar.value().copy(alloc)
+    value.into_values(alloc).into_vec()
 }
 
 /// All lists' items, concatenated, and the offsets between the lists; a null list has no items. The values are moved;
@@ -112,41 +82,6 @@ pub fn list_items(alloc: Global, values: Vec<Value>) -> VortexResult<(Vec<Value>
     Ok((items, offsets))
 }
 
-/// Fixed-size lists, with a list of `size` defaults in place of each null. The values are moved; NoMemory drops them.
-pub fn filled_lists(
-    alloc: Global,
-    dtype: &DType,
-    size: u32,
-    values: Vec<Value>,
-) -> VortexResult<Vec<Value>>
-    ensures { OrMemory result (λ lists. map value_of lists.items ≡ fixed_rows (type_of dtype.now) size (map value_of values.items)) }
-{
-    let mut lists = Vec::with_capacity(alloc, values.len())?;
-    for value in values {
-        lists.push(list_or_default(alloc, dtype, size, value)?)?;
-    }
-    Ok(lists)
-}
-
-// A list, or `size` defaults in place of null.
-fn list_or_default(alloc: Global, dtype: &DType, size: u32, value: Value) -> VortexResult<Value>
-    ensures { OrMemory result (λ list. value_of list ≡ or_default (default_of (fixed_size_list (type_of dtype.now) size NonNullable)) (value_of value)) }
-{
-    if is_null(&value) {
-        return default_list(alloc, dtype, size);
-    }
-    Ok(value)
-}
-
-// A list of `size` defaults.
-fn default_list(alloc: Global, dtype: &DType, size: u32) -> VortexResult<Value>
-    ensures { OrMemory result (λ list. value_of list ≡ default_of (fixed_size_list (type_of dtype.now) size NonNullable)) }
-{
-    let mut items = Vec::with_capacity(alloc, size as usize)?;
-    push_defaults(alloc, &mut items, dtype, size)?;
-    Ok(Value::List(Values::from_vec(items)))
-}
-
 // Moves the values within a value to the end of `items`.
 fn push_items(alloc: Global, items: &mut Vec<Value>, value: Value) -> VortexResult<()>
     ensures ok { OnOk result (map value_of items.new.items ≡ map value_of items.old.items ++ items_or_empty (value_of value)) }
@@ -154,23 +89,6 @@ fn push_items(alloc: Global, items: &mut Vec<Value>, value: Value) -> VortexResu
 {
     for item in value.into_values(alloc).into_vec() {
         items.push(item)?;
-    }
-    Ok(())
-}
-
-// Adds `size` defaults.
-fn push_defaults(
-    alloc: Global,
-    items: &mut Vec<Value>,
-    dtype: &DType,
-    size: u32,
-) -> VortexResult<()>
-    ensures ok { OnOk result (map value_of items.new.items ≡ map value_of items.old.items ++ replicate size (null_or_default (type_of dtype.now))) }
-    ensures err { IfErr result (λ e. e ≡ NoMemory) }
-{
-    let default = Scalar::default_value(alloc, dtype)?;
-    for _ in 0..size {
-        items.push(default.value().copy(alloc)?)?;
     }
     Ok(())
 }

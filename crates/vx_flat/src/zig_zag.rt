@@ -1,22 +1,25 @@
 //! Integers as their zigzag: a row, decoding.
 
-ghost use Rattle.std.specs.Prelude.{◌≡◌, IsTrue, true, not, map};
+ghost use Rattle.std.specs.Prelude.{◌≡◌, IsTrue, length, map, nat_le, not, pos, true};
 ghost use Rattle.vx_base.specs.Answers.{OrMemory};
 ghost use Rattle.vx_base.specs.CellValue.{cell_value};
-ghost use Rattle.vx_base.specs.Integers.{is_signed, signed_of};
+ghost use Rattle.vx_base.specs.Integers.{is_signed, natural_bits, signed_of};
+ghost use Rattle.vx_base.specs.Packed.{packed_row, packed_size};
 ghost use Rattle.vx_base.specs.PlainScalar.{fits};
 ghost use Rattle.vx_base.specs.PlainType as types;
 ghost use Rattle.vx_base.specs.PlainValue.{int};
 ghost use Rattle.vx_base.specs.declared.dtype.Nullability.TheVariants.{Nullable};
 ghost use Rattle.vx_base.specs.declared.ptype.PType.TheVariants.{U64};
-ghost use Rattle.vx_model.specs.Rows.{unzigzagged, unzigzagged_whole};
+ghost use Rattle.vx_model.specs.Decoded.{zeroed_by};
+ghost use Rattle.vx_model.specs.Refusals.{validity_length};
+ghost use Rattle.vx_model.specs.Rows.{below, unzigzagged, unzigzagged_whole};
 ghost use Rattle.vx_values.specs.IntsOf.{ptype_of, wholes_of};
 ghost use Rattle.vx_values.specs.ValuesOf.{ints, AreRows};
 
 use std::alloc::Global;
-use vx_base::{Cell, Mask, VortexResult};
+use vx_base::{Bytes, Cell, Mask, PType, VortexResult};
 use vx_blocks::unzigzag;
-use vx_values::{Decoded, Ints, Values};
+use vx_values::{Decoded, Ints, Values, behind, copy_validity};
 
 /// The integer whose zigzag is given, null of null.
 pub fn unzigzagged_at(word: Cell<'_>) -> Cell<'static>
@@ -36,4 +39,24 @@ pub fn decoded_zig_zag(alloc: Global, zigzags: Ints, valid: Option<Mask>) -> Vor
 {
     let values = Values::Ints(zigzags.unzigzagged(alloc)?);
     Ok(Decoded { values, valid })
+}
+
+/// The integers of `len` packed zigzags of an unsigned type, in the signed type of the width; 0 beneath nulls. No list of the
+/// zigzags is made.
+pub fn decoded_zig_zag_words(
+    alloc: Global,
+    ptype: PType,
+    width: u32,
+    packed: &Bytes,
+    len: u64,
+    valid: &Option<Mask>,
+) -> VortexResult<Decoded>
+    requires unsigned { not (is_signed ptype) ≡ true }
+    requires narrow { IsTrue (nat_le width (natural_bits ptype)) }
+    requires sized { length packed.now ≡ packed_size width len }
+    requires bits { validity_length valid.now len ≡ true }
+    ensures { OrMemory result (AreRows (ints (signed_of ptype)) (map int (zeroed_by (pos 0) valid.now (below (λ i. unzigzagged_whole (pos (packed_row packed.now width i))) len))) valid.now) }
+{
+    let values = Ints::unzigzagged_words(alloc, ptype, width, packed.as_slice(), len)?;
+    Ok(behind(values, copy_validity(alloc, valid)?))
 }

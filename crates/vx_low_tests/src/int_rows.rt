@@ -108,7 +108,7 @@ fn are_rows(alloc: Global, bases: &Ints, deltas: &Ints) -> VortexResult<bool> {
     if bases.len() != 1 || deltas.len() != 1024 || deltas.ptype() != bases.ptype() {
         return Ok(false);
     }
-    Ok(is_block(&bases.undelta(alloc, deltas)?, 5, 7, 7))
+    Ok(is_block(&deltas.copy(alloc)?.rows_from(bases), 5, 7, 7))
 }
 
 #[test]

@@ -1,5 +1,5 @@
 -- Repeated blocks: the next one, none and one, blocks of one item, length, map, tests, and blocks of lists concatenated.
-use Rattle.std.proofs.Common.{◌≡◌, ℕ, zero, suc, ◌+◌, ◌*◌, Bool, true, List, [], ◌∷◌, ◌++◌, map, length, get_or, ◌<◌, ◌≤◌, refl, sym, ◌∙◌, ap, arith}
+use Rattle.std.proofs.Common.{◌≡◌, ℕ, zero, suc, ◌+◌, ◌*◌, Bool, true, List, [], ◌∷◌, ◌++◌, map, length, get_or, ◌<◌, ◌≤◌, refl, sym, ◌∙◌, ap, arith, append_assoc}
 use Rattle.std.proofs.Math.Nat.{zero-mul, suc-mul}
 use Rattle.std.specs.Prelude.{replicate}
 use Rattle.std.specs.List.{list_all}
@@ -17,6 +17,11 @@ replicate-next n x = sym (replicate-append-replicate n 1 x)
 
 pub repeated-next : {A : Type 0} (n : ℕ) (xs : List A) → repeated (n + 1) xs ≡ repeated n xs ++ xs
 repeated-next n xs = ap concatenated (replicate-next n xs) ∙ concatenated-append (replicate n xs) (xs ∷ []) ∙ ap (λ ys. repeated n xs ++ ys) (append-nil xs)
+
+-- a loop that appends a block each time
+pub repeated-more : {A : Type 0} {all next : List A} (before block : List A) (n : ℕ) → next ≡ all ++ block → all ≡ before ++ repeated n block → next ≡ before ++ repeated (n + 1) block
+repeated-more before block n is so_far =
+    is ∙ ap (λ xs. xs ++ block) so_far ∙ append_assoc before (repeated n block) block ∙ ap (λ xs. before ++ xs) (sym (repeated-next n block))
 
 -- ---- blocks of no item and of one, and a block alone
 

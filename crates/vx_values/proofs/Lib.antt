@@ -15,3 +15,4 @@ pub mod DifferenceBlocks
 pub mod DifferenceRows
 pub mod BlockGrowth
 pub mod BlockOffsets
+pub mod PackedWords

@@ -97,6 +97,7 @@ mod filling;
 mod frame_of_reference;
 mod gathering;
 mod one_value;
+mod packed_words;
 mod reference_blocks;
 mod runs;
 mod sequences;

@@ -1,8 +1,8 @@
 use Rattle.std.proofs.Common.{◌-◌, ◌*◌, ◌∙◌, ap, arith, length, map, sym, subst, rules, ◌≡◌, ◌<◌, ◌+◌, ◌++◌, [], ◌∷◌, drop, get_or, pos, None, false}
 use Rattle.std.specs.Prelude.{not, slice_index_or}
-use Rattle.std.specs.List.{list_all}
+use Rattle.std.specs.List.{list_all, list_any}
 use Rattle.vx_base.specs.Answers.{Answers}
-use Rattle.vx_base.specs.PlainValue.{int, null}
+use Rattle.vx_base.specs.PlainValue.{int, is_null, null}
 use Rattle.vx_model.specs.Refusals.{validity_length, kept, structure_refusal, list_refusal, fixed_size_list_refusal}
 use Rattle.vx_model.specs.Rows.{rows, masked_rows}
 use Rattle.vx_model.specs.Tree.{Tree, fixed_size_list, list, primitive, structure, of_list, list_of}
@@ -13,7 +13,7 @@ use Rattle.vx_model.proofs.StructLemmas.{length-structure}
 use Rattle.vx_pieces.specs.Bits.{pieced_validity}
 use Rattle.vx_pieces.specs.Lengths.{lengths_between, sums_from}
 use Rattle.vx_pieces.specs.Pieces.{are_pieces, inner_pieces, pieced, Gives}
-use Rattle.vx_array.specs.PlainPieced.{plain_pieced}
+use Rattle.vx_array.specs.PlainPieced.{has_rows_within, plain_pieced}
 use Rattle.vx_array.proofs.AtNode.{at_node}
 use Rattle.vx_array.proofs.PiecedFixed.{fixed_pieced, fixed_within}
 use Rattle.vx_array.proofs.PiecedLists.{elements_within, list_pieced, lists_within, some_words}
@@ -24,20 +24,22 @@ use Rattle.std.specs.Vec.Iter.{into_iter_items}
 use Rattle.std.proofs.lemmas.List.{length-map, length-append, length-replicate}
 use Rattle.vx_base.specs.declared.dtype.Nullability.TheVariants.{NonNullable}
 use Rattle.vx_base.specs.declared.ptype.PType.TheVariants.{U64}
-use Rattle.vx_base.specs.PlainScalar.{fits}
+use Rattle.vx_base.specs.PlainScalar.{fields_fit, fits}
 use Rattle.vx_base.specs.PlainType.{of_fields, is_flat}
+use Rattle.vx_base.specs.PlainType as types
 use Rattle.vx_base.specs.TypeOf.{type_of, value_of, field_of, fields_of}
 use Rattle.vx_base.proofs.FallLemmas.{field_falls, field_list_count, type_count}
+use Rattle.vx_base.proofs.FieldLemmas.{type_of-FixedSizeList, type_of-Struct}
 use Rattle.vx_base.proofs.MakesLemmas.{Makes_ok, Makes_err}
-use Rattle.vx_model.specs.Nested.{elements, struct_rows}
+use Rattle.vx_model.specs.Nested.{elements, within}
 use Rattle.vx_flat.specs.Columns.{columns_of}
-use Rattle.vx_model.specs.Plain.{validity, plain_of}
+use Rattle.vx_model.specs.Plain.{validity, plain_fields, plain_of}
 use Rattle.vx_model.proofs.PlainAdmittedLemmas.{structure_admitted, list_admitted, fixed_size_list_admitted}
 use Rattle.vx_model.proofs.DecodeLemmas.{kept-validity}
 use Rattle.vx_model.proofs.NestedLemmas.{struct_rows-fit, elements-fit, fixed_elements-fit}
 use Rattle.vx_array.proofs.FieldTrees.{fields_from, columns_fit, trees_of, columns-fit, trees-columns, length-columns, column-fits, others-fit, trees-more, trees-all}
 use Rattle.vx_array.proofs.PieceFalls.{at_most_six, fixed-lighter, heavy, list-lighter, plain-lighter, struct-lighter, type_falls, types_count, weight}
-use Rattle.vx_array.proofs.SpreadTrees.{constant-tree, constant-within, spread-fit, spread-tree, spread-within, one-fit, spread-long, valid_of, within-nested}
+use Rattle.vx_array.proofs.SpreadTrees.{constant-tree, constant-within, kept-valid, none-null, spread-fit, spread-tree, spread-within, one-fit, spread-long, valid-lists, valid-none, valid-structs, valid_of, within-nested}
 use Rattle.vx_model.specs.TreeType.{tree_type}
 use Rattle.vx_pieces.specs.Kept.{kept_items}
 use Rattle.vx_array.proofs.+plain_pieces.Goals as goal
@@ -248,30 +250,39 @@ array::ArrayRef::other_pieces-returns-in-Constant t c =
 -- ---- structs of values
 
 pub of_values::of_structs-field_trees-requires : goal.of_values::of_structs-field_trees-requires
-of_values::of_structs-field_trees-requires t c = (omega arith, struct_rows-fit (of_fields (fields_of c.args.fields.now)) c.args.nullability (map value_of c.args.values.items) c.requires)
+of_values::of_structs-field_trees-requires t c =
+    let fs = of_fields (fields_of c.args.fields.now) in
+    let vs = map value_of c.args.values.items in
+    (omega arith, ap (list_all (fields_fit fs)) (sym (valid-structs vs c.requires.valid fs)) ∙ struct_rows-fit fs c.args.nullability vs c.requires.fit)
 
 pub of_values::of_structs-returns-in-Ok : goal.of_values::of_structs-returns-in-Ok
 of_values::of_structs-returns-in-Ok t c =
+    let fs = of_fields (fields_of c.args.fields.now) in
     let vs = map value_of c.args.values.items in
-    let len : c.len-len.result ≡ length vs = c.len-len.ensures ∙ sym c.as_slice.ensures.len ∙ ap length c.as_slice.ensures.value ∙ sym (length-map c.args.values.items value_of) in
-    let valid = ap kept (c.in_ok-valid.ensures ∙ ap (λ ws. validity (map value_of ws)) c.as_slice.ensures.value) ∙ kept-validity vs in
-    Makes_ok _ _ _ _ c.in-Ok.ensures ∙ (λ i. structure (c.in_ok-names.ensures i) (c.in_ok-trees.ensures i) (len i) (valid i) c.args.nullability)
+    let size : c.len-len.result ≡ length c.args.values.items = search rules in
+    let len = size ∙ sym (length-map c.args.values.items value_of) in
+    let trees = c.in_ok-trees.ensures ∙ ap (plain_fields fs) (sym (valid-structs vs c.requires.valid fs)) in
+    let valid = sym (valid-none vs c.requires.valid) in
+    Makes_ok _ _ _ _ c.in-Ok.ensures ∙ (λ i. structure (c.in_ok-names.ensures i) (trees i) (len i) (valid i) c.args.nullability)
 
 pub of_values::of_structs-returns-in-Err : goal.of_values::of_structs-returns-in-Err
 of_values::of_structs-returns-in-Err t c =
+    let fs = of_fields (fields_of c.args.fields.now) in
     let vs = map value_of c.args.values.items in
-    let len : c.len-len.result ≡ length vs = c.len-len.ensures ∙ sym c.as_slice.ensures.len ∙ ap length c.as_slice.ensures.value ∙ sym (length-map c.args.values.items value_of) in
-    let valid = c.in_ok-valid.ensures ∙ ap (λ ws. validity (map value_of ws)) c.as_slice.ensures.value in
+    let size : c.len-len.result ≡ length c.args.values.items = search rules in
+    let len = size ∙ sym (length-map c.args.values.items value_of) in
+    let trees = c.in_ok-trees.ensures ∙ ap (plain_fields fs) (sym (valid-structs vs c.requires.valid fs)) in
+    let valid = sym (valid-none vs c.requires.valid) in
     Makes_err _ _ _ _
-    ((λ i. structure_refusal (c.in_ok-names.ensures i) (c.in_ok-trees.ensures i) (len i) (valid i) c.args.nullability) ∙ structure_admitted (of_fields (fields_of c.args.fields.now)) c.args.nullability vs c.requires)
+    ((λ i. structure_refusal (c.in_ok-names.ensures i) (trees i) (len i) (valid i) c.args.nullability) ∙ structure_admitted (of_fields (fields_of c.args.fields.now)) c.args.nullability vs c.requires.fit)
     c.in-Err.ensures
 
 pub of_values::field_trees-loop-column-init : goal.of_values::field_trees-loop-column-init
 of_values::field_trees-loop-column-init t c =
     let all = fields_of c.args.fields.now in
-    let rows = struct_rows (of_fields all) (map value_of c.args.values.items) in
+    let rows = map within (map value_of c.args.values.items) in
     let seen : map (λ column. map value_of column.items) (into_iter_items c.into_iter-column-iterator.result) ≡ columns_of (length all) rows =
-    ap (λ columns. map (λ column. map value_of column.items) columns) (search rules) ∙ c.in_ok-columns.ensures in
+    ap (λ columns. map (λ column. map value_of column.items) columns) (search rules) ∙ c.in_ok-columns.ensures ∙ ap (λ n. columns_of n rows) c.len.ensures in
     let fs = c.as_slice-parts.result.now in
     let parts = c.as_slice-parts.ensures in
     let none = c.in_ok-trees.ensures.items in
@@ -360,24 +371,28 @@ of_values::of_lists-returns-in-Err t c =
 pub of_values::of_fixed_lists-list_elements-requires : goal.of_values::of_fixed_lists-list_elements-requires
 of_values::of_fixed_lists-list_elements-requires t c =
     let s = type_of c.args.dtype.now in
-    (omega arith, ap (λ vs. list_all (fits s) (elements vs)) c.in_ok-lists.ensures ∙ fixed_elements-fit s c.args.size c.args.nullability (map value_of c.args.values.items) c.requires)
+    let vs = map value_of c.args.values.items in
+    (omega arith, ap (λ ws. list_all (fits s) (elements ws)) (sym (valid-lists vs c.requires.valid s c.args.size)) ∙ fixed_elements-fit s c.args.size c.args.nullability vs c.requires.fit)
 
 pub of_values::of_fixed_lists-returns-in-Ok : goal.of_values::of_fixed_lists-returns-in-Ok
 of_values::of_fixed_lists-returns-in-Ok t c =
+    let s = type_of c.args.dtype.now in
     let vs = map value_of c.args.values.items in
-    let len : c.len-len.result ≡ length vs = c.len-len.ensures ∙ sym c.as_slice.ensures.len ∙ ap length c.as_slice.ensures.value ∙ sym (length-map c.args.values.items value_of) in
-    let valid = ap kept (c.in_ok-valid.ensures ∙ ap (λ ws. validity (map value_of ws)) c.as_slice.ensures.value) ∙ kept-validity vs in
-    let inside = c.in_ok-elements.ensures.0 ∙ ap (λ vs. plain_of (type_of c.args.dtype.now) (elements vs)) c.in_ok-lists.ensures in
+    let size : c.len-len.result ≡ length c.args.values.items = search rules in
+    let len = size ∙ sym (length-map c.args.values.items value_of) in
+    let valid = sym (valid-none vs c.requires.valid) in
+    let inside = c.in_ok-elements.ensures.0 ∙ ap (λ ws. plain_of s (elements ws)) (sym (valid-lists vs c.requires.valid s c.args.size)) in
     Makes_ok _ _ _ _ c.in-Ok.ensures ∙ (λ i. fixed_size_list (inside i) c.args.size (len i) (valid i) c.args.nullability)
 
 pub of_values::of_fixed_lists-returns-in-Err : goal.of_values::of_fixed_lists-returns-in-Err
 of_values::of_fixed_lists-returns-in-Err t c =
-    let vs = map value_of c.args.values.items in
     let s = type_of c.args.dtype.now in
-    let len : c.len-len.result ≡ length vs = c.len-len.ensures ∙ sym c.as_slice.ensures.len ∙ ap length c.as_slice.ensures.value ∙ sym (length-map c.args.values.items value_of) in
-    let valid = c.in_ok-valid.ensures ∙ ap (λ ws. validity (map value_of ws)) c.as_slice.ensures.value in
-    let inside = c.in_ok-elements.ensures.0 ∙ ap (λ vs. plain_of s (elements vs)) c.in_ok-lists.ensures in
-    Makes_err _ _ _ _ ((λ i. fixed_size_list_refusal (inside i) c.args.size (len i) (valid i) c.args.nullability) ∙ fixed_size_list_admitted s c.args.size c.args.nullability vs c.requires) c.in-Err.ensures
+    let vs = map value_of c.args.values.items in
+    let size : c.len-len.result ≡ length c.args.values.items = search rules in
+    let len = size ∙ sym (length-map c.args.values.items value_of) in
+    let valid = sym (valid-none vs c.requires.valid) in
+    let inside = c.in_ok-elements.ensures.0 ∙ ap (λ ws. plain_of s (elements ws)) (sym (valid-lists vs c.requires.valid s c.args.size)) in
+    Makes_err _ _ _ _ ((λ i. fixed_size_list_refusal (inside i) c.args.size (len i) (valid i) c.args.nullability) ∙ fixed_size_list_admitted s c.args.size c.args.nullability vs c.requires.fit) c.in-Err.ensures
 
 -- ---- value by value, and by one value
 
@@ -409,16 +424,43 @@ nested::by_values::constant_pieces-returns t c =
 
 -- ---- values with nulls
 
+pub of_values::plain_tree-typed_tree-requires : goal.of_values::plain_tree-typed_tree-requires
+of_values::plain_tree-typed_tree-requires t c =
+    let none : has_rows_within (type_of c.args.dtype.now) ≡ false = sym c.has_rows_within.ensures ∙ c.if-not-has_rows_within.true in
+    (omega arith, (c.requires, λ some. absurd cc))
+
 pub of_values::plain_tree-spread_tree-requires : goal.of_values::plain_tree-spread_tree-requires
 of_values::plain_tree-spread_tree-requires t c =
     let bits = ap (λ vs. validity (map value_of vs)) (sym c.as_slice.ensures.value) ∙ sym c.in_ok-valid.ensures ∙ c.in-Some.is in
-    (omega arith, (sym c.has_rows_within.ensures ∙ c.if-has_rows_within.true, (c.requires, bits)))
+    (omega arith, (sym c.has_rows_within.ensures ∙ c.if-not-has_rows_within.false, (c.requires, bits)))
+
+pub of_values::plain_tree-typed_tree-requires-in-None : goal.of_values::plain_tree-typed_tree-requires-in-None
+of_values::plain_tree-typed_tree-requires-in-None t c =
+    let vs = map value_of c.args.values.items in
+    let bits = ap (λ ws. validity (map value_of ws)) (sym c.as_slice.ensures.value) ∙ sym c.in_ok-valid.ensures ∙ c.in-None.is in
+    (omega arith, (c.requires, λ some. none-null vs bits))
 
 pub of_values::spread_tree-typed_tree-requires : goal.of_values::spread_tree-typed_tree-requires
 of_values::spread_tree-typed_tree-requires t c =
     let s = type_of c.args.dtype.now in
     let vs = map value_of c.args.values.items in
-    (omega arith, ap (list_all (fits s)) c.in_ok-valid_values.ensures ∙ spread-fit s vs c.args.valid.now c.requires.fit c.requires.bits)
+    let made = c.in_ok-valid_values.ensures in
+    (omega arith, (ap (list_all (fits s)) made ∙ spread-fit s vs c.args.valid.now c.requires.fit c.requires.bits, λ some. ap (list_any is_null) made ∙ kept-valid vs))
+
+-- ---- by the kind of the type
+
+pub of_values::typed_tree-of_structs-requires : goal.of_values::typed_tree-of_structs-requires
+of_values::typed_tree-of_structs-requires t c =
+    let s = ap type_of c.in-Struct.is ∙ type_of-Struct _ _ in
+    let vs = map value_of c.args.values.items in
+    (omega (arith, ap type_count s), (ap (λ q. list_all (fits q) vs) (sym s) ∙ c.requires.fit, c.requires.valid (ap has_rows_within s)))
+
+pub of_values::typed_tree-of_fixed_lists-requires : goal.of_values::typed_tree-of_fixed_lists-requires
+of_values::typed_tree-of_fixed_lists-requires t c =
+    let here = c.in-FixedSizeList in
+    let s = ap type_of here.is ∙ type_of-FixedSizeList _ _ _ ∙ ap (λ d. types.fixed_size_list (type_of d) here.size here.nullability) (sym c.deref-in-FixedSizeList.ensures) in
+    let vs = map value_of c.args.values.items in
+    (omega (arith, ap type_count s), (ap (λ q. list_all (fits q) vs) (sym s) ∙ c.requires.fit, c.requires.valid (ap has_rows_within s)))
 
 pub of_values::spread_tree-plain_pieces-requires : goal.of_values::spread_tree-plain_pieces-requires
 of_values::spread_tree-plain_pieces-requires t c =

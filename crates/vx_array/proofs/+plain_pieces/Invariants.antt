@@ -3,7 +3,7 @@ use Rattle.std.specs.Vec.Iter.{into_iter_items}
 use Rattle.vx_base.specs.PlainType.{of_fields}
 use Rattle.vx_base.specs.TypeOf.{type_of, value_of, fields_of}
 use Rattle.vx_base.proofs.FallLemmas.{type_count, field_list_count}
-use Rattle.vx_model.specs.Nested.{struct_rows}
+use Rattle.vx_model.specs.Nested.{within}
 use Rattle.vx_model.specs.Plain.{plain_fields}
 use Rattle.vx_model.specs.Tree.{list_of}
 use Rattle.vx_model.specs.TreeType.{tree_type}
@@ -76,5 +76,5 @@ invariant-of_values::field_trees-loop-column l =
     record {
       lengths : length l.trees.items + length left ≡ length l.parts;
       fitting : columns_fit fields left ≡ true;
-      made : l.trees.items ++ list_of (trees_of fields left) ≡ list_of (plain_fields all (struct_rows all (map value_of l.fn.values.items)));
+      made : l.trees.items ++ list_of (trees_of fields left) ≡ list_of (plain_fields all (map within (map value_of l.fn.values.items)));
     }

@@ -1,6 +1,6 @@
 //! Integers bit-packed in blocks of 1,024 rows, each at a width of its own, with patches for the values that are wider.
 
-ghost use Rattle.std.specs.Prelude.{◌≡◌, ◌<◌, ◌+◌, ◌*◌, ◌-◌, ◌^◌, ◌==◌, ℕ, IsTrue, MatchResult, length, min};
+ghost use Rattle.std.specs.Prelude.{◌≡◌, ◌<◌, ◌+◌, ◌*◌, ◌-◌, ◌^◌, ◌==◌, ◌||◌, ℕ, IsTrue, MatchResult, length, min};
 ghost use Rattle.vx_array.specs.TreeOf.{unboxed, tree_of};
 ghost use Rattle.vx_base.specs.Answers.{Makes, OrMemory};
 ghost use Rattle.vx_base.specs.PlainType.{is_integer};
@@ -138,12 +138,24 @@ fn are_block_offsets(offsets: &ArrayRef, most: u32) -> bool
     if !is_count(offsets.integer_at(0), 0) {
         return false;
     }
+    if offsets.is_linear() {
+        return is_first_width(offsets, most);
+    }
     for block in 0..offsets.len() - 1 {
         if !is_block_width(offsets, block, most) {
             return false;
         }
     }
     true
+}
+
+// Whether the width of the first block is 0 to `most`, if there is a block. Of linear offsets it is that of each.
+fn is_first_width(offsets: &ArrayRef, most: u32) -> bool
+    requires integers { IsTrue (is_integer (tree_type offsets.now)) }
+    requires some { 0 < length (rows offsets.now) }
+    ensures { result ≡ (length (rows offsets.now) == 1 || is_block_width most (rows offsets.now) 0) }
+{
+    offsets.len() == 1 || is_block_width(offsets, 0, most)
 }
 
 // Whether a block's width, the difference of its offset to the next, is 0 to `most`.

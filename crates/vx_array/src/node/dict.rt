@@ -1,29 +1,36 @@
 //! Dictionary encoding: values, and for each row the code of its value.
 
 ghost use Rattle.std.specs.List.{list_all};
-ghost use Rattle.std.specs.Prelude.{◌≡◌, IsTrue, MatchResult, true, length};
+ghost use Rattle.std.specs.Prelude.{◌≡◌, IsTrue, MatchResult, true, length, map};
+ghost use Rattle.vx_array.specs.Linear.{IsLinear};
 ghost use Rattle.vx_array.specs.TreeOf.{tree_of};
 ghost use Rattle.vx_base.specs.Answers.{Makes, OrMemory};
 ghost use Rattle.vx_base.specs.CellValue.{cell_value};
 ghost use Rattle.vx_base.specs.PlainType.{is_flat, is_integer};
-ghost use Rattle.vx_model.specs.Refusals.{dict_refusal};
+ghost use Rattle.vx_model.specs.Decoded.{picked, zeroed_by};
+ghost use Rattle.vx_model.specs.Refusals.{dict_refusal, validity_length};
 ghost use Rattle.vx_model.specs.Rows.{rows, looked_up};
 ghost use Rattle.vx_model.specs.Tree.{dict};
 ghost use Rattle.vx_model.specs.TreeType.{tree_type};
 ghost use Rattle.vx_model.specs.WellFormed.{is_place};
+ghost use Rattle.vx_values.specs.Codes.{validity_by_codes};
+ghost use Rattle.vx_values.specs.IntsOf.{ptype_of, wholes_of};
+ghost use Rattle.vx_values.specs.ValuesOf.{kind_in, values_of, default_in, AreRows};
 
 use crate::array::{ArrayRef, Child, Node};
 use crate::node::Made;
 use std::alloc::Global;
-use vx_base::{Cell, Refused, VortexError, VortexResult};
-use vx_flat::{constant_is_place, is_place};
+use vx_base::{Cell, Mask, Refused, VortexError, VortexResult};
+use vx_flat::is_place;
+use vx_values::{Decoded, Ints, valid_codes};
 
 impl ArrayRef {
     /// `values[code]` in each row; null where the code is null or that value is. Child 0: `codes`, one a row; child 1:
     /// `values`. The type is the values', nullable where the values or the codes are.
     ///
     /// Refuses MismatchedTypes where the codes aren't integers or the values aren't of a leaf type or timestamps; then
-    /// OutOfBounds where a code is neither null nor in bounds of `values`. Reads every code, but of a Constant only one.
+    /// OutOfBounds where a code is neither null nor in bounds of `values`. Reads every code; of equal ones and of an
+    /// arithmetic sequence only the first and the last.
     pub fn dict(alloc: Global, codes: ArrayRef, values: ArrayRef) -> Made<(ArrayRef, ArrayRef)>
         ensures { Makes (dict_refusal codes values) (dict codes values) (codes, values) result }
     {
@@ -85,6 +92,19 @@ impl ArrayRef {
         }
         true
     }
+
+    // `has_places` of linear codes, by the first and the last.
+    fn ends_are_places(&self, values: u64) -> bool
+        requires integers { IsTrue (is_integer (tree_type self.now)) }
+        requires linear { IsLinear (rows self.now) }
+        ensures { result ≡ list_all (is_place values) (rows self.now) }
+    {
+        let len = self.len();
+        if len == 0 {
+            return true;
+        }
+        is_place(self.integer_at(0), values) && is_place(self.integer_at(len - 1), values)
+    }
 }
 
 // The refusal of these inputs, if there is one.
@@ -100,18 +120,18 @@ fn refusal(alloc: Global, codes: &ArrayRef, values: &ArrayRef) -> Option<VortexE
     None
 }
 
-// Whether each code is null or in bounds of `values` values. A constant's code is tested once.
+// Whether each code is null or in bounds of `values` values.
 fn have_places(alloc: Global, codes: &ArrayRef, values: u64) -> bool
     requires { IsTrue (is_integer (tree_type codes.now)) }
     ensures { result ≡ list_all (is_place values) (rows codes.now) }
 {
-    match &codes.node {
-        Node::Constant(code, len) => constant_is_place(code, *len, values),
-        _ => decoded_have_places(alloc, codes, values),
+    if codes.is_linear() {
+        return codes.ends_are_places(values);
     }
+    decoded_have_places(alloc, codes, values)
 }
 
-// `have_places` in one pass over the decoded codes; row by row where memory for them is wanting.
+// `have_places` in one pass over the codes, stored or decoded; row by row where memory for decoded ones is wanting.
 fn decoded_have_places(alloc: Global, codes: &ArrayRef, values: u64) -> bool
     requires { IsTrue (is_integer (tree_type codes.now)) }
     ensures { result ≡ list_all (is_place values) (rows codes.now) }
@@ -121,8 +141,8 @@ fn decoded_have_places(alloc: Global, codes: &ArrayRef, values: u64) -> bool
         return codes.has_places(values);
     }
     codes.known();
-    match codes.decoded(alloc) {
-        Ok(rows) => !rows.values.integers().has_outside(values),
+    match codes.integers(alloc) {
+        Ok((ints, _)) => !ints.as_ints().has_outside(values),
         Err(_) => codes.has_places(values),
     }
 }
@@ -156,6 +176,25 @@ pub(crate) fn picked_at<'a>(values: &'a ArrayRef, code: Cell<'_>) -> Cell<'a>
         Cell::Int(place) => values.cell_at(place as u64),
         Cell::Null | Cell::Bool(_) | Cell::Bytes(_) => Cell::Null,
     }
+}
+
+// `values[code]` in each row, the default beneath nulls, and the validity: a row is valid where its code is and that value is.
+pub(crate) fn picked_by_codes(
+    alloc: Global,
+    codes: &Ints,
+    valid: Option<Mask>,
+    values: Decoded,
+) -> VortexResult<Decoded>
+    requires { validity_length valid (length (wholes_of codes.now)) ≡ true }
+    ensures { OrMemory result (AreRows (kind_in values.values) (zeroed_by (default_in (kind_in values.values)) valid (map (λ code. picked (ptype_of codes.now) (values_of values.values) (default_in (kind_in values.values)) code) (wholes_of codes.now))) (validity_by_codes (ptype_of codes.now) (wholes_of codes.now) valid values.valid)) }
+{
+    let picked = values.values.picked(alloc, codes)?;
+    let picked = picked.zeroed_by(&valid);
+    let valid = valid_codes(alloc, codes, valid, &values.valid)?;
+    Ok(Decoded {
+        values: picked,
+        valid,
+    })
 }
 
 // A deep copy of the node, over the caller's copy of the values.

@@ -1,6 +1,7 @@
 //! Frame of reference: integers as differences from one reference.
 
 ghost use Rattle.std.specs.Prelude.{◌≡◌};
+ghost use Rattle.vx_array.specs.IsDecoded.{IsDecoded};
 ghost use Rattle.vx_array.specs.TreeOf.{tree_of};
 ghost use Rattle.vx_base.specs.Answers.{Makes, OrMemory};
 ghost use Rattle.vx_base.specs.PlainType as types;
@@ -8,11 +9,14 @@ ghost use Rattle.vx_base.specs.PlainType.{is_integer};
 ghost use Rattle.vx_base.specs.PlainValue.{is_null};
 ghost use Rattle.vx_model.specs.Refusals.{for_refusal};
 ghost use Rattle.vx_model.specs.Tree.{frame_of_reference};
+ghost use Rattle.vx_model.specs.WellFormed.{WellFormed};
 
 use crate::array::{ArrayRef, Child, Node};
 use crate::node::Made;
 use std::alloc::Global;
 use vx_base::{DType, Refused, Scalar, VortexError, VortexResult};
+use vx_flat::{decoded_moved, decoded_moved_words};
+use vx_values::Decoded;
 
 impl ArrayRef {
     /// `reference + encoded[row]` in each row, wrapping in the reference's type; null where `encoded` is. Child 0:
@@ -46,6 +50,24 @@ impl ArrayRef {
                 error: VortexError::NoMemory,
                 inputs: (failed.value, reference),
             }),
+        }
+    }
+
+    // `decoded` of a frame of reference over this tree. Packed differences without patches are summed a block after another,
+    // and no list of them is made.
+    #[cycle(decoded)]
+    pub(crate) fn decoded_framed(&self, alloc: Global, reference: &Scalar) -> VortexResult<Decoded>
+        requires { WellFormed (frame_of_reference self.now reference.now) }
+        ensures { OrMemory result (λ rows. IsDecoded (frame_of_reference self.now reference.now) rows) }
+    {
+        match &self.node {
+            Node::BitPacked(_, width, packed, len, valid, patches, _) if patches.is_none() => {
+                decoded_moved_words(alloc, *width, packed, *len, valid, reference)
+            }
+            _ => {
+                let (differences, valid) = self.integers(alloc)?;
+                decoded_moved(alloc, differences.as_ints(), valid, reference)
+            }
         }
     }
 }

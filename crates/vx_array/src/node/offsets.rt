@@ -1,7 +1,8 @@
 //! Offsets into bytes or elements: tests, and single ones.
 
 ghost use Rattle.std.specs.List.{list_all};
-ghost use Rattle.std.specs.Prelude.{◌≡◌, ◌<◌, ◌≤◌, ◌≤ℤ◌, ◌+◌, ◌-◌, ◌^◌, ◌&&◌, IsTrue, not, int_le, length, pos, negsuc};
+ghost use Rattle.std.specs.Prelude.{◌≡◌, ◌<◌, ◌≤◌, ◌≤ℤ◌, ◌+◌, ◌-◌, ◌^◌, ◌&&◌, IsTrue, not, int_le, int_lt, length, pos, negsuc};
+ghost use Rattle.vx_array.specs.Linear.{IsLinear};
 ghost use Rattle.vx_base.specs.PlainType.{is_integer, is_nullable};
 ghost use Rattle.vx_base.specs.PlainValue.{cell, whole_or_zero};
 ghost use Rattle.vx_base.specs.TypeOf.{type_of};
@@ -59,12 +60,28 @@ fn lie_within(offsets: &ArrayRef, items: u64) -> bool
     requires { IsTrue (is_integer (tree_type offsets.now)) }
     ensures { result ≡ list_all (lies_between 0 (items + 1)) (rows offsets.now) }
 {
+    if offsets.is_linear() {
+        return ends_lie_within(offsets, items);
+    }
     for place in 0..offsets.len() {
         if !lies_within(offsets.integer_at(place), items) {
             return false;
         }
     }
     true
+}
+
+// `lie_within` of linear offsets, by the first and the last.
+fn ends_lie_within(offsets: &ArrayRef, items: u64) -> bool
+    requires integers { IsTrue (is_integer (tree_type offsets.now)) }
+    requires linear { IsLinear (rows offsets.now) }
+    ensures { result ≡ list_all (lies_between 0 (items + 1)) (rows offsets.now) }
+{
+    let len = offsets.len();
+    if len == 0 {
+        return true;
+    }
+    lies_within(offsets.integer_at(0), items) && lies_within(offsets.integer_at(len - 1), items)
 }
 
 fn lies_within(offset: Option<i128>, items: u64) -> bool
@@ -82,12 +99,46 @@ fn never_fall(offsets: &ArrayRef) -> bool
     requires { IsTrue (is_integer (tree_type offsets.now)) }
     ensures { result ≡ never_falls (rows offsets.now) }
 {
+    if offsets.is_linear() {
+        return ends_never_fall(offsets);
+    }
     for place in 1..offsets.len() {
         if !is_at_most(offsets, place) {
             return false;
         }
     }
     true
+}
+
+// `never_fall` of linear offsets, by the first and the last.
+fn ends_never_fall(offsets: &ArrayRef) -> bool
+    requires integers { IsTrue (is_integer (tree_type offsets.now)) }
+    requires linear { IsLinear (rows offsets.now) }
+    ensures { result ≡ never_falls (rows offsets.now) }
+{
+    let len = offsets.len();
+    if len == 0 {
+        return true;
+    }
+    is_first_at_most(offsets, len - 1)
+}
+
+// Whether the first whole number is at most the one at a place.
+fn is_first_at_most(offsets: &ArrayRef, place: u64) -> bool
+    requires integers { IsTrue (is_integer (tree_type offsets.now)) }
+    requires in_range { place < length (rows offsets.now) }
+    ensures { result ≡ int_le (whole_or_zero (row_at (rows offsets.now) 0)) (whole_or_zero (row_at (rows offsets.now) place)) }
+{
+    whole_at(offsets, 0) <= whole_at(offsets, place)
+}
+
+// Whether the first whole number is below the one at a place.
+pub(crate) fn is_first_below(offsets: &ArrayRef, place: u64) -> bool
+    requires integers { IsTrue (is_integer (tree_type offsets.now)) }
+    requires in_range { place < length (rows offsets.now) }
+    ensures { result ≡ int_lt (whole_or_zero (row_at (rows offsets.now) 0)) (whole_or_zero (row_at (rows offsets.now) place)) }
+{
+    whole_at(offsets, 0) < whole_at(offsets, place)
 }
 
 // The whole number at a place, 0 of null.

@@ -95,11 +95,16 @@ fn refusal(
 }
 
 // Whether each value is shorter than 2^32 bytes.
+#[tactic(auto, using(crate::proofs::EmptyTexts::short_texts))]
 fn are_short(offsets: &ArrayRef, bytes: &Bytes) -> bool
     requires integers { IsTrue (is_integer (tree_type offsets.now)) }
     requires ends { IsTrue (are_offsets (length bytes.now) (rows offsets.now)) }
     ensures { result ≡ list_all is_short (cut_at (rows offsets.now) bytes.now) }
 {
+    // No value is longer than all of the bytes.
+    if bytes.len() < 1 << 32 {
+        return true;
+    }
     for row in 0..row_count(offsets) {
         if !is_short(piece(offsets, bytes, row)) {
             return false;
@@ -109,6 +114,7 @@ fn are_short(offsets: &ArrayRef, bytes: &Bytes) -> bool
 }
 
 // Whether each row fits the type.
+#[tactic(auto, using(crate::proofs::EmptyTexts::empty_texts))]
 fn are_values(offsets: &ArrayRef, bytes: &Bytes, valid: &Option<Mask>, dtype: &DType) -> bool
     requires bytes { IsTrue (is_bytes (type_of dtype.now)) }
     requires integers { IsTrue (is_integer (tree_type offsets.now)) }
@@ -116,6 +122,10 @@ fn are_values(offsets: &ArrayRef, bytes: &Bytes, valid: &Option<Mask>, dtype: &D
     requires lengths { validity_length valid.now (length (rows offsets.now) - 1) ≡ true }
     ensures { result ≡ list_all (fits (type_of dtype.now)) (valid_rows (kept valid.now) (map plain.bytes (cut_at (rows offsets.now) bytes.now))) }
 {
+    // Without bytes each value is empty.
+    if valid.is_none() && bytes.len() == 0 {
+        return true;
+    }
     for row in 0..row_count(offsets) {
         if !fits(dtype, piece_at(offsets, bytes, valid, row)) {
             return false;

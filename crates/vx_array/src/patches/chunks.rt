@@ -1,6 +1,7 @@
 //! Patches with chunk offsets: construction, and whether the offsets count the indices before each chunk of 1,024.
 
 ghost use Rattle.std.specs.Prelude.{◌≡◌, ◌≤◌, ◌+◌, ◌^◌, IsTrue, None, Some, length, option_copied};
+ghost use Rattle.vx_array.specs.Linear.{IsUniform};
 ghost use Rattle.vx_base.specs.Answers.{MakesSurely};
 ghost use Rattle.vx_base.specs.Packed.{block_count};
 ghost use Rattle.vx_base.specs.PlainType.{is_integer};
@@ -121,6 +122,9 @@ fn are_chunk_offsets(indices: &ArrayRef, chunks: &ArrayRef) -> bool
     requires rising { IsTrue (ascend 0 (2 ^ 65) (rows indices.now)) }
     ensures { result ≡ are_chunk_offsets (rows indices.now) (rows chunks.now) }
 {
+    if chunks.is_uniform() {
+        return are_zeros(indices, chunks);
+    }
     let mut below = 0;
     for chunk in 0..chunks.len() {
         below = place_behind(indices, below, CHUNK_ROWS * u128::from(chunk));
@@ -129,6 +133,31 @@ fn are_chunk_offsets(indices: &ArrayRef, chunks: &ArrayRef) -> bool
         }
     }
     true
+}
+
+// `are_chunk_offsets` of equal offsets. The first is 0, so there is no index before the last chunk.
+fn are_zeros(indices: &ArrayRef, chunks: &ArrayRef) -> bool
+    requires indices { IsTrue (is_integer (tree_type indices.now)) }
+    requires chunks { IsTrue (is_integer (tree_type chunks.now)) }
+    requires rising { IsTrue (ascend 0 (2 ^ 65) (rows indices.now)) }
+    requires uniform { IsUniform (rows chunks.now) }
+    ensures { result ≡ are_chunk_offsets (rows indices.now) (rows chunks.now) }
+{
+    let len = chunks.len();
+    if len == 0 {
+        return true;
+    }
+    if !is_count(chunks.integer_at(0), 0) {
+        return false;
+    }
+    let count = indices.len();
+    if count == 0 {
+        return true;
+    }
+    match as_index(indices.integer_at(0)) {
+        Some(index) => index >= CHUNK_ROWS * u128::from(len - 1),
+        None => unreachable!(),
+    }
 }
 
 // Whether an entry is the number.

@@ -10,7 +10,7 @@ ghost use Rattle.vx_values.specs.IntsOf.{ptype_of, wholes_of};
 use super::Ints;
 use std::alloc::Global;
 use vx_base::{IntList, Integer, Mask, VortexResult};
-use vx_blocks::{delta_blocks, undelta};
+use vx_blocks::{delta_blocks, undelta_in_place};
 
 // `Ok` of two lists of the same type, from each of the eight lists.
 macro_rules! map_pair {
@@ -19,6 +19,18 @@ macro_rules! map_pair {
             $(Ints::$kind($items) => {
                 let (bases, deltas) = $answer;
                 Ok((Ints::$kind(bases), Ints::$kind(deltas)))
+            })*
+        }
+    };
+}
+
+// The rows from deltas and bases of the same type, of each of the eight.
+macro_rules! with_bases {
+    ($deltas:expr, $bases:expr; $($kind:ident),*) => {
+        match $deltas {
+            $(Ints::$kind(deltas) => match $bases {
+                Ints::$kind(bases) => Ints::$kind(rows_of(bases, deltas)),
+                _ => unreachable!(),
             })*
         }
     };
@@ -36,24 +48,15 @@ impl Ints {
         map_pair!(self, items => blocks_of(alloc, items.as_slice(), valid)?; U8, U16, U32, U64, I8, I16, I32, I64)
     }
 
-    /// The rows from these bases and from deltas of the same type, 1,024 for each base: row r of a block is its base plus the
-    /// sum of the block's deltas 0 to r, wrapping.
-    pub fn undelta(&self, alloc: Global, deltas: &Ints) -> VortexResult<Ints>
-        requires kinds { ptype_of deltas.now ≡ ptype_of self.now }
-        requires lengths { length (wholes_of deltas.now) ≡ 1024 * length (wholes_of self.now) }
-        ensures { OrMemory result (λ ints. (ptype_of ints ≡ ptype_of self.now) × (wholes_of ints ≡ undelta (ptype_of self.now) (wholes_of self.now) (wholes_of deltas.now))) }
+    /// The rows from these deltas and from bases of the same type, one for each 1,024 deltas: row r of a block is its base plus
+    /// the sum of the block's deltas 0 to r, wrapping. They are written over the deltas.
+    pub fn rows_from(self, bases: &Ints) -> Ints
+        requires kinds { ptype_of self ≡ ptype_of bases.now }
+        requires lengths { length (wholes_of self) ≡ 1024 * length (wholes_of bases.now) }
+        ensures ptype { ptype_of result ≡ ptype_of bases.now }
+        ensures wholes { wholes_of result ≡ undelta (ptype_of bases.now) (wholes_of bases.now) (wholes_of self) }
     {
-        match (self, deltas) {
-            (Ints::U8(b), Ints::U8(d)) => Ok(Ints::U8(rows_of(alloc, b, d)?)),
-            (Ints::U16(b), Ints::U16(d)) => Ok(Ints::U16(rows_of(alloc, b, d)?)),
-            (Ints::U32(b), Ints::U32(d)) => Ok(Ints::U32(rows_of(alloc, b, d)?)),
-            (Ints::U64(b), Ints::U64(d)) => Ok(Ints::U64(rows_of(alloc, b, d)?)),
-            (Ints::I8(b), Ints::I8(d)) => Ok(Ints::I8(rows_of(alloc, b, d)?)),
-            (Ints::I16(b), Ints::I16(d)) => Ok(Ints::I16(rows_of(alloc, b, d)?)),
-            (Ints::I32(b), Ints::I32(d)) => Ok(Ints::I32(rows_of(alloc, b, d)?)),
-            (Ints::I64(b), Ints::I64(d)) => Ok(Ints::I64(rows_of(alloc, b, d)?)),
-            _ => unreachable!(),
-        }
+        with_bases!(self, bases; U8, U16, U32, U64, I8, I16, I32, I64)
     }
 
     /// The first `len` integers.
@@ -80,16 +83,14 @@ fn blocks_of<T: Integer>(
     Ok((IntList::from_vec(bases), IntList::from_vec(deltas)))
 }
 
-// The rows as a list.
-fn rows_of<T: Integer>(
-    alloc: Global,
-    bases: &IntList<T>,
-    deltas: &IntList<T>,
-) -> VortexResult<IntList<T>>
-    requires { length deltas.now ≡ 1024 * length bases.now }
-    ensures { OrMemory result (λ rows. map T.whole rows ≡ undelta T.kind (map T.whole bases.now) (map T.whole deltas.now)) }
+// The rows, written over the deltas.
+fn rows_of<T: Integer>(bases: &IntList<T>, deltas: IntList<T>) -> IntList<T>
+    requires { length deltas ≡ 1024 * length bases.now }
+    ensures { map T.whole result ≡ undelta T.kind (map T.whole bases.now) (map T.whole deltas) }
 {
-    Ok(IntList::from_vec(undelta(alloc, bases.as_slice(), deltas.as_slice())?))
+    let mut rows = deltas.into_vec();
+    undelta_in_place(bases.as_slice(), rows.as_mut_slice());
+    IntList::from_vec(rows)
 }
 
 // The first items.

@@ -99,7 +99,7 @@ fn unzigzagged_item<W: Integer, T: Integer>(word: W) -> T
 }
 
 // The integer of each zigzag, written to a slice.
-fn write_integers<W: Integer, T: Integer>(words: &[W], items: &mut [T])
+pub(super) fn write_integers<W: Integer, T: Integer>(words: &[W], items: &mut [T])
     requires kinds { T.kind ≡ signed_of W.kind }
     requires unsigned { not (is_signed W.kind) ≡ true }
     requires length { length items.old ≡ length words.now }

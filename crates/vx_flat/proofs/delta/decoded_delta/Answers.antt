@@ -15,18 +15,18 @@ long p bs ds = length-map-range_with_len (undelta_row p bs ds) 0 (length ds)
 
 pub truncated-rows-requires : goal.truncated-rows-requires
 truncated-rows-requires c =
-    let made = ap length c.in_ok-undelta.ensures.1 ∙ long (ptype_of c.args.bases.now) (wholes_of c.args.bases.now) (wholes_of c.args.deltas.now) in
+    let made = ap length c.rows_from.ensures.wholes ∙ long (ptype_of c.args.bases.now) (wholes_of c.args.bases.now) (wholes_of c.args.deltas) in
     omega (arith, made, c.requires.enough)
 
 pub behind-requires : goal.behind-requires
 behind-requires c =
-    let made = ap length c.in_ok-undelta.ensures.1 ∙ long (ptype_of c.args.bases.now) (wholes_of c.args.bases.now) (wholes_of c.args.deltas.now) in
-    let len = ap length c.truncated-rows.ensures.wholes ∙ length-take-le c.args.len (wholes_of c.in_ok-undelta.field-0) (omega (arith, made, c.requires.enough)) in
+    let made = ap length c.rows_from.ensures.wholes ∙ long (ptype_of c.args.bases.now) (wholes_of c.args.bases.now) (wholes_of c.args.deltas) in
+    let len = ap length c.truncated-rows.ensures.wholes ∙ length-take-le c.args.len (wholes_of c.rows_from.result) (omega (arith, made, c.requires.enough)) in
     (λ i. validity_length (c.in_ok-copy_validity.ensures i) (len i)) ∙ c.requires.bits
 
 pub returns : goal.returns
 returns c =
-    let wholes = c.truncated-rows.ensures.wholes ∙ ap (take c.args.len) c.in_ok-undelta.ensures.1 in
+    let wholes = c.truncated-rows.ensures.wholes ∙ ap (take c.args.len) c.rows_from.ensures.wholes in
     let valid = c.in_ok-copy_validity.ensures in
     let h = c.behind.ensures in
-    (h.0 ∙ ap ints (c.truncated-rows.ensures.ptype ∙ c.in_ok-undelta.ensures.0), h.1 ∙ (λ i. map int (zeroed_by (pos 0) (valid i) (wholes i))), h.2 ∙ valid)
+    (h.0 ∙ ap ints (c.truncated-rows.ensures.ptype ∙ c.rows_from.ensures.ptype), h.1 ∙ (λ i. map int (zeroed_by (pos 0) (valid i) (wholes i))), h.2 ∙ valid)

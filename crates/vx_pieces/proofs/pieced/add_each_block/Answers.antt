@@ -1,11 +1,5 @@
-use Rattle.std.proofs.Common.{◌∙◌, ◌++◌, ap, sym, append_assoc}
-use Rattle.vx_pieces.specs.Pieces.{repeated}
-use Rattle.vx_pieces.proofs.RepeatLemmas.{repeated-next}
+use Rattle.vx_pieces.proofs.RepeatLemmas.{repeated-more}
 use Rattle.vx_pieces.proofs.pieced.add_each_block.Goals as goal
 
 pub loop-time-preserved : goal.loop-time-preserved
-loop-time-preserved g c =
-    let block = c.args.block.now in
-    let first = c.args.all.now.items in
-    let time = c.loop-time._time in
-    c.in_ok-extend_from_slice.ensures.items ∙ ap (λ ys. ys ++ block) c.loop-time.invariant ∙ append_assoc first (repeated time block) block ∙ ap (λ ys. first ++ ys) (sym (repeated-next time block))
+loop-time-preserved g c = repeated-more c.args.all.now.items c.args.block.now c.loop-time._time c.in_ok-extend_from_slice.ensures.items c.loop-time.invariant

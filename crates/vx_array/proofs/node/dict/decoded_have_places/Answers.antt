@@ -9,16 +9,14 @@ use Rattle.vx_model.specs.TreeType.{tree_type}
 use Rattle.vx_model.specs.WellFormed.{is_place}
 use Rattle.vx_model.proofs.DictLemmas.{places-wholes}
 use Rattle.vx_model.proofs.MadeLemmas.{rows_fit}
-use Rattle.vx_array.proofs.Decodings.{integers_of, held_integers, integer_is}
+use Rattle.vx_array.proofs.Decodings.{integer_is, lent_integers}
 use Rattle.vx_array.proofs.node.dict.decoded_have_places.Goals as goal
-
-pub integers-requires : goal.integers-requires
-integers-requires c = held_integers c.args.codes.now c.in-Ok.rows c.requires c.in-Ok.ensures
 
 pub returns-in-Ok : goal.returns-in-Ok
 returns-in-Ok c =
     let t = c.args.codes.now in
+    let got = c.in-Ok in
     let outside = list_any (λ z. not (is_place c.args.values (int z))) in
-    let codes = integers_of t c.in-Ok.rows c.integers.result.now c.in-Ok.rows.valid c.known.ensures c.requires c.integers.ensures refl c.in-Ok.ensures in
+    let codes = lent_integers _ t got.ints c.as_ints.result.now got.field-0-1 refl c.as_ints.ensures got.ensures in
     let fitting = subst (λ s. list_all (fits s) (rows t) ≡ true) (integer_is (tree_type t) c.requires) (rows_fit t c.known.ensures) in
     ap not (c.has_outside.ensures ∙ ap outside codes.wholes) ∙ sym (places-wholes (integer_of (tree_type t)) (nullability_of (tree_type t)) c.args.values (rows t) c.if-values-eq0.false fitting)

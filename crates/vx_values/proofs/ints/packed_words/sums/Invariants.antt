@@ -1,0 +1,9 @@
+use Rattle.std.proofs.Common.{◌*◌, map}
+use Rattle.std.specs.Prelude.{◌+ℤ◌}
+use Rattle.vx_base.specs.Wrapping.{wrap}
+use Rattle.vx_values.proofs.BlockGrowth.{IsGrown}
+use Rattle.vx_values.proofs.PackedWords.{of_row}
+use Rattle.vx_values.proofs.ints.packed_words.sums.Given as goal
+
+abbrev pub invariant-loop-block : goal.invariant-loop-block
+invariant-loop-block g l = IsGrown (of_row (λ z. wrap g.T.Integer.kind (g.T.Integer.whole l.reference +ℤ z)) l.packed l.width) l.len (map g.T.Integer.whole l.items.items) (1024 * l.block)
