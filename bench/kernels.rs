@@ -552,7 +552,7 @@ pub fn values<T: Integer>(rows: usize, width: u32) -> Vec<T> {
 }
 
 /// Runs of such values, each RUN_ROWS long.
-fn repeated<T: Integer>(rows: usize, width: u32) -> Vec<T> {
+pub fn repeated<T: Integer>(rows: usize, width: u32) -> Vec<T> {
     let (mut state, mut left) = (SEED, 0);
     let next = || {
         if left == 0 {
@@ -589,8 +589,21 @@ fn processor_time() -> Duration {
     Duration::new(time.seconds as u64, time.nanos as u32)
 }
 
-fn digest<T: Integer>(items: &[T]) -> u64 {
+pub fn digest<T: Integer>(items: &[T]) -> u64 {
     items.iter().fold(0, |sum: u64, item| sum.wrapping_mul(DIGEST_FACTOR).wrapping_add(item.to_bits()))
+}
+
+/// Runs a kernel once, and then by the clock: the least processor time in microseconds, and the answer.
+pub fn best_of<A>(repeats: u32, kernel: impl Fn() -> A) -> (u128, A) {
+    let mut best = u128::MAX;
+    let mut answer = kernel();
+    for _ in 0..repeats {
+        drop(answer);
+        let start = processor_time();
+        answer = black_box(kernel());
+        best = best.min((processor_time() - start).as_micros());
+    }
+    (best, answer)
 }
 
 /// The rows that the kernels run on, and the number of timed runs of each.
@@ -610,16 +623,9 @@ impl Setting {
         self.time_by::<T, _>(name, kernel, |answer| digest(answer))
     }
 
-    /// Runs a kernel once, and then by the clock; writes its line, and gives the answer.
+    /// Times a kernel, writes its line, and gives the answer.
     fn time_by<T: Integer, A>(&self, name: &str, kernel: impl Fn() -> A, digest: impl Fn(&A) -> u64) -> A {
-        let mut best = u128::MAX;
-        let mut answer = kernel();
-        for _ in 0..self.repeats {
-            drop(answer);
-            let start = processor_time();
-            answer = black_box(kernel());
-            best = best.min((processor_time() - start).as_micros());
-        }
+        let (best, answer) = best_of(self.repeats, kernel);
         println!("{name} {} {} {} {best} {}", T::NAME, self.width, self.rows, digest(&answer));
         answer
     }

@@ -7,6 +7,7 @@ ghost use Rattle.vx_base.specs.Packed.{packed_size};
 
 mod blocks;
 mod columns;
+mod decoding;
 mod frames;
 mod parts;
 mod rows;
@@ -16,6 +17,7 @@ mod timing;
 use anyhow::{Result, bail};
 use blocks::tell_blocks;
 use columns::Listed;
+pub use decoding::{Decoding, tell_decoding};
 use frames::tell_frames;
 use parts::tell_parts;
 use rows::{digest, values};

@@ -1,21 +1,22 @@
-//! Times the phases of a compression, or the kernels, by std's clock.
+//! Times the phases of a compression, the kernels, or the decoding of each node, by std's clock.
 #![tactic(auto)]
 
 mod kernels;
 mod phases;
 
 use anyhow::Result;
-use kernels::{Setting, tell_kernels};
+use kernels::{Decoding, Setting, tell_decoding, tell_kernels};
 use phases::{tell_phases, tell_rows};
 use std::env;
 use std::env::Env;
-use vx_base::PType;
+use vx_base::{Nullability, PType};
 
 /// What the arguments ask for.
 enum Form {
     Compress,
     Parse,
     Kernels(Setting),
+    Decode(Decoding),
     Usage,
 }
 
@@ -37,12 +38,35 @@ fn setting_of(args: &[String]) -> Option<Setting> {
     })
 }
 
+fn nullability_of(name: &str) -> Option<Nullability> {
+    match name {
+        "full" => Some(Nullability::NonNullable),
+        "nulls" => Some(Nullability::Nullable),
+        _ => None,
+    }
+}
+
+fn decoding_of(args: &[String]) -> Option<Decoding> {
+    let [nulls, rows, repeats] = args else {
+        return None;
+    };
+    Some(Decoding {
+        nullability: nullability_of(nulls.as_str())?,
+        rows: rows.parse().ok()?,
+        repeats: repeats.parse().ok()?,
+    })
+}
+
 fn form_of(args: &[String]) -> Form {
     match args {
         [form] if form.as_str() == "compress" => Form::Compress,
         [form] if form.as_str() == "parse" => Form::Parse,
         [form, rest @ ..] if form.as_str() == "kernels" => match setting_of(rest) {
             Some(setting) => Form::Kernels(setting),
+            None => Form::Usage,
+        },
+        [form, rest @ ..] if form.as_str() == "decode" => match decoding_of(rest) {
+            Some(decoding) => Form::Decode(decoding),
             None => Form::Usage,
         },
         _ => Form::Usage,
@@ -58,10 +82,12 @@ fn main(rt: HostRuntime) -> Result<()> {
         Form::Compress => tell_phases(&rt, rt.reader()),
         Form::Parse => tell_rows(&rt, rt.reader()),
         Form::Kernels(setting) => tell_kernels(&rt, &setting),
+        Form::Decode(decoding) => tell_decoding(&rt, &decoding),
         Form::Usage => {
             println!(rt; "usage: vx_bench compress < document")?;
             println!(rt; "       vx_bench parse < document")?;
             println!(rt; "       vx_bench kernels u8|u32|u64|i64 WIDTH ROWS REPEATS")?;
+            println!(rt; "       vx_bench decode full|nulls ROWS REPEATS")?;
             Ok(())
         }
     }
