@@ -6,6 +6,7 @@ pub mod Canonicals
 pub mod ChunkCounts
 pub mod Decodings
 pub mod DefaultLemmas
+pub mod DefaultRanges
 pub mod DictRuns
 pub mod EmptyTexts
 pub mod Falls
@@ -33,9 +34,11 @@ pub mod PlainFixed
 pub mod PlainLists
 pub mod PlainNested
 pub mod PlainRows
+pub mod Ranges
 pub mod RunDecodings
 pub mod RunNulls
 pub mod RunRows
+pub mod RunTests
 pub mod Runs
 pub mod SparseOf
 pub mod SpreadTrees

@@ -22,17 +22,22 @@ pub convex-between : (p : ℤ → Bool) → Convex p → (a z b : ℤ) → p a �
 convex-between p c a z b h k (inl w) = c a z b h k w.0 w.1
 convex-between p c a z b h k (inr w) = c b z a k h w.0 w.1
 
-step_between : (first step : ℤ) (i last : ℕ) → i ≤ last → Between (first +ℤ pos 0 *ℤ step) (first +ℤ pos i *ℤ step) (first +ℤ pos last *ℤ step)
-step_between first (pos s) i last l = let up = mul-le-mul_right s l in inl (omega (arith, ints), omega (arith, ints))
-step_between first (negsuc s) i last l = let down = mul-le-mul_right (suc s) l in inr (omega (arith, ints), omega (arith, ints))
+step_between : (first step : ℤ) (start i last : ℕ) → start ≤ i → i ≤ last → Between (first +ℤ pos start *ℤ step) (first +ℤ pos i *ℤ step) (first +ℤ pos last *ℤ step)
+step_between first (pos s) start i last k l = let low = mul-le-mul_right s k in let high = mul-le-mul_right s l in inl (omega (arith, ints, low), omega (arith, ints, high))
+step_between first (negsuc s) start i last k l =
+    let low = mul-le-mul_right (suc s) k in let high = mul-le-mul_right (suc s) l in inr (omega (arith, ints, high), omega (arith, ints, low))
 
--- each number lies between those at the ends
-pub line-between : (f : ℕ → ℤ) (n i last : ℕ) → IsLine f n → i ≤ last → last < n → Between (f 0) (f i) (f last)
-line-between f n i last h l m =
-    rw (h.each 0 (omega arith), h.each i (omega arith), h.each last m) (step_between h.first h.step i last l)
+-- each number lies between one before it and one after it
+pub line-between : (f : ℕ → ℤ) (n start i last : ℕ) → IsLine f n → start ≤ i → i ≤ last → last < n → Between (f start) (f i) (f last)
+line-between f n start i last h k l m =
+    rw (h.each start (omega arith), h.each i (omega arith), h.each last m) (step_between h.first h.step start i last k l)
+
+-- it passes a test that they pass
+pub line-passes_from : (p : ℤ → Bool) → Convex p → (f : ℕ → ℤ) (n start i last : ℕ) → IsLine f n → start ≤ i → i ≤ last → last < n → p (f start) ≡ true → p (f last) ≡ true → p (f i) ≡ true
+line-passes_from p c f n start i last h k l m a b = convex-between p c (f start) (f i) (f last) a b (line-between f n start i last h k l m)
 
 pub line-passes : (p : ℤ → Bool) → Convex p → (f : ℕ → ℤ) (n i last : ℕ) → IsLine f n → i ≤ last → last < n → p (f 0) ≡ true → p (f last) ≡ true → p (f i) ≡ true
-line-passes p c f n i last h l m a b = convex-between p c (f 0) (f i) (f last) a b (line-between f n i last h l m)
+line-passes p c f n i last h l m a b = line-passes_from p c f n 0 i last h (omega arith) l m a b
 
 -- ---- lines from others
 

@@ -1,53 +1,19 @@
--- Which rows are null in sparse, run-end and run-length nodes.
-use Rattle.std.proofs.Common.{◌≡◌, inl, inr, ◌<◌, ◌≤◌, ◌+◌, ◌-◌, ◌^◌, ◌∙◌, ℕ, zero, suc, List, [], ◌∷◌, length, refl, ap, sym, arith, Bool, true, false, cond, Option, Some, None}
+-- Which rows are null in sparse nodes and runs in blocks.
+use Rattle.std.proofs.Common.{◌≡◌, ◌<◌, ◌+◌, ◌-◌, ◌∙◌, ℕ, List, length, refl, ap, sym, arith, Bool, true, false, cond, Option, Some, None}
 use Rattle.std.specs.Prelude.{nat_lt, position, ◌&&◌, ◌||◌}
 use Rattle.std.specs.List.{list_any, position_or_len}
-use Rattle.std.proofs.lemmas.Bool.{lt-ltb, ltb-true, cases_lt, true≢false}
+use Rattle.std.proofs.lemmas.Bool.{lt-ltb, ltb-true, true≢false}
 use Rattle.vx_base.specs.PlainScalar.{PlainScalar}
 use Rattle.vx_base.specs.PlainValue.{PlainValue, is_null}
-use Rattle.vx_model.specs.Rows.{rows, row_at, index_of, is_index, place_of, patched, offset_at}
-use Rattle.vx_model.specs.Tree.{Tree, PlainPatches, sparse_of, run_end, rle}
+use Rattle.vx_model.specs.Rows.{rows, row_at, index_of, is_index, place_of, patched}
+use Rattle.vx_model.specs.Tree.{Tree, PlainPatches, sparse_of, rle}
 use Rattle.vx_model.specs.WellFormed.{WellFormed, IsPatches}
 use Rattle.vx_model.proofs.PatchLemmas.{ascend-within, ascend-index}
 use Rattle.vx_model.proofs.PatchedLemmas.{patched-place, patched-fill}
 use Rattle.vx_model.proofs.RleLemmas.{length-rle, row_at-rle, rle-some}
-use Rattle.vx_model.proofs.RunEndLemmas.{length-run_end, row_at-run_end, run_value-some, row_at-run, end-between, ends-rise}
 use Rattle.vx_model.proofs.SparseLemmas.{patched-found, length-sparse_of, row_at-sparse_of}
 use Rattle.vx_array.proofs.Holes.{hole-few, unpatched, few-hole}
-
--- ---- a null row, or none
-
-pub record SomeNull (vs : List PlainValue) : Type 0 where
-  pub place : ℕ
-  pub within : place < length vs
-  pub is_so : is_null (row_at vs place) ≡ true
-
-pub null-found : (vs : List PlainValue) (i : ℕ) → i < length vs → is_null (row_at vs i) ≡ true → list_any is_null vs ≡ true
-null-found [] i l e = absurd (omega arith)
-null-found (v ∷ vs) zero l e = rw e refl
-null-found (v ∷ vs) (suc i) l e = rw (null-found vs i (omega arith) e) (either (is_null v))
-  where
-    either : (b : Bool) → (b || true) ≡ true
-    either true = refl
-    either false = refl
-
-some-behind : (v : PlainValue) (vs : List PlainValue) → SomeNull vs → SomeNull (v ∷ vs)
-some-behind v vs rest = record { place = suc rest.place; within = let l = rest.within in omega arith; is_so = rest.is_so }
-
-some-first : (v : PlainValue) (vs : List PlainValue) (b : Bool) → is_null v ≡ b → (b || list_any is_null vs) ≡ true → (list_any is_null vs ≡ true → SomeNull vs) → SomeNull (v ∷ vs)
-some-first v vs true e h rest = record { place = 0; within = omega arith; is_so = e }
-some-first v vs false e h rest = some-behind v vs (rest h)
-
-pub null-some : (vs : List PlainValue) → list_any is_null vs ≡ true → SomeNull vs
-null-some [] h = absurd cc
-null-some (v ∷ vs) h = some-first v vs (is_null v) refl h (null-some vs)
-
--- a truth value that holds exactly where another does
-pub both_ways : (b c : Bool) → (b ≡ true → c ≡ true) → (c ≡ true → b ≡ true) → b ≡ c
-both_ways true true f g = refl
-both_ways true false f g = sym (f refl)
-both_ways false true f g = g refl
-both_ways false false f g = refl
+use Rattle.vx_array.proofs.RunTests.{row-found, row-some, both_ways}
 
 position-within : (test : PlainValue → Bool) (vs : List PlainValue) (place : ℕ) → position test vs ≡ Some place → place < length vs
 position-within test vs place e = pick (nat_lt (position_or_len test vs) (length vs)) refl e
@@ -82,7 +48,7 @@ module _ (p : PlainPatches) (fill : PlainScalar) (h : IsPatches p.array_len p.of
       pick (Some place) f =
           let own = patched-place (rows p.indices) (rows p.values) fill.value (p.offset + i) place h.lengths f in
           let within = position-within (λ v. is_index v (p.offset + i)) (rows p.indices) place f in
-          let any = null-found (rows p.values) place (let same = h.lengths in omega arith) (sym (ap is_null own) ∙ e) in
+          let any = row-found is_null (rows p.values) place (let same = h.lengths in omega arith) (sym (ap is_null own) ∙ e) in
           rw any refl
       pick None f =
           let own = patched-fill (rows p.indices) (rows p.values) fill.value (p.offset + i) f in
@@ -105,7 +71,7 @@ module _ (p : PlainPatches) (fill : PlainScalar) (h : IsPatches p.array_len p.of
           let before = b.1 in
           let same : p.offset + (n - p.offset) ≡ n = omega arith in
           let own = patched-found p.offset (p.offset + p.array_len) (rows p.indices) (rows p.values) fill.value n j h.ascending h.lengths here f in
-          null-found (rows (sparse_of p fill)) (n - p.offset) (let len = length-own in omega arith) (ap is_null (row-own (n - p.offset) (omega arith) ∙ ap (patched (rows p.indices) (rows p.values) fill.value) same ∙ own) ∙ e)
+          row-found is_null (rows (sparse_of p fill)) (n - p.offset) (let len = length-own in omega arith) (ap is_null (row-own (n - p.offset) (omega arith) ∙ ap (patched (rows p.indices) (rows p.values) fill.value) same ∙ own) ∙ e)
 
   of_fill : is_null fill.value ≡ true → 0 < p.array_len - length (rows p.values) → list_any is_null (rows (sparse_of p fill)) ≡ true
   of_fill e l =
@@ -113,7 +79,7 @@ module _ (p : PlainPatches) (fill : PlainScalar) (h : IsPatches p.array_len p.of
       let from = hole.from in
       let before = hole.before in
       let same : p.offset + (hole.number - p.offset) ≡ hole.number = omega arith in
-      null-found (rows (sparse_of p fill)) (hole.number - p.offset) (let len = length-own in omega arith)
+      row-found is_null (rows (sparse_of p fill)) (hole.number - p.offset) (let len = length-own in omega arith)
       (ap is_null (row-own (hole.number - p.offset) (omega arith) ∙ ap (patched (rows p.indices) (rows p.values) fill.value) same ∙ hole.filled (rows p.values) fill.value) ∙ e)
 
   pub any_null-sparse : list_any is_null (rows (sparse_of p fill)) ≡ some_null
@@ -121,7 +87,7 @@ module _ (p : PlainPatches) (fill : PlainScalar) (h : IsPatches p.array_len p.of
     where
       there : list_any is_null (rows (sparse_of p fill)) ≡ true → some_null ≡ true
       there e =
-          let s = null-some (rows (sparse_of p fill)) e in
+          let s = row-some is_null (rows (sparse_of p fill)) e in
           let l : s.place < p.array_len = let own = length-own in let w = s.within in omega arith in
           by_row s.place l (sym (ap is_null (row-own s.place l)) ∙ s.is_so)
 
@@ -129,37 +95,10 @@ module _ (p : PlainPatches) (fill : PlainScalar) (h : IsPatches p.array_len p.of
       back e = pick (list_any is_null (rows p.values)) (is_null fill.value) (nat_lt 0 (p.array_len - length (rows p.values))) refl refl refl e
         where
           pick : (a b c : Bool) → list_any is_null (rows p.values) ≡ a → is_null fill.value ≡ b → nat_lt 0 (p.array_len - length (rows p.values)) ≡ c → (a || (b && c)) ≡ true → list_any is_null (rows (sparse_of p fill)) ≡ true
-          pick true b c f g k q = let s = null-some (rows p.values) f in of_patch s.place s.within s.is_so
+          pick true b c f g k q = let s = row-some is_null (rows p.values) f in of_patch s.place s.within s.is_so
           pick false true true f g k q = of_fill g (ltb-true 0 _ k)
           pick false true false f g k q = absurd cc
           pick false false c f g k q = absurd cc
-
--- each run has a row
-pub any_null-run_end : (ends values : Tree) → WellFormed (run_end ends values) → list_any is_null (rows (run_end ends values)) ≡ list_any is_null (rows values)
-any_null-run_end ends values h = both_ways _ _ there back
-  where
-    there : list_any is_null (rows (run_end ends values)) ≡ true → list_any is_null (rows values) ≡ true
-    there e =
-        let s = null-some (rows (run_end ends values)) e in
-        let l : s.place < offset_at (rows ends) (length (rows ends) - 1) = let own = length-run_end ends values in let w = s.within in omega arith in
-        let v = run_value-some (rows ends) (rows values) s.place h.2.lengths l in
-        null-found (rows values) v.place v.within (sym (ap is_null (row_at-run_end ends values s.place l ∙ v.is)) ∙ s.is_so)
-
-    back : list_any is_null (rows values) ≡ true → list_any is_null (rows (run_end ends values)) ≡ true
-    back e =
-        let s = null-some (rows values) e in
-        let k = s.place in
-        let here : k < length (rows ends) = let same = h.2.lengths in let w = s.within in omega arith in
-        let end = end-between 1 (2 ^ 64) (rows ends) k h.2.rising here in
-        let some = end.0 in
-        let i = offset_at (rows ends) k - 1 in
-        let most : offset_at (rows ends) k ≤ offset_at (rows ends) (length (rows ends) - 1) =
-        elim (cases_lt k (length (rows ends) - 1)) [
-          | inl less ↦ let rising = ends-rise 1 (2 ^ 64) (rows ends) k (length (rows ends) - 1) h.2.rising less (omega arith) in omega arith
-          | inr more ↦ let same : k ≡ length (rows ends) - 1 = omega arith in let there = ap (offset_at (rows ends)) same in omega arith
-        ] in
-        let own = row_at-run ends values h i k here (λ p. let rising = ends-rise 1 (2 ^ 64) (rows ends) (k - 1) k h.2.rising (omega arith) here in omega arith) (omega arith) in
-        null-found (rows (run_end ends values)) i (let len = length-run_end ends values in omega arith) (ap is_null own ∙ s.is_so)
 
 -- a row is null only where a value is
 pub no_null-rle : (values indices offsets : Tree) (len : ℕ) → WellFormed (rle values indices offsets len) → list_any is_null (rows values) ≡ false → list_any is_null (rows (rle values indices offsets len)) ≡ false
@@ -168,7 +107,7 @@ no_null-rle values indices offsets len h none = pick (list_any is_null (rows (rl
     pick : (b : Bool) → list_any is_null (rows (rle values indices offsets len)) ≡ b → list_any is_null (rows (rle values indices offsets len)) ≡ false
     pick false e = e
     pick true e =
-        let s = null-some (rows (rle values indices offsets len)) e in
+        let s = row-some is_null (rows (rle values indices offsets len)) e in
         let l : s.place < len = let own = length-rle values indices offsets len in let w = s.within in omega arith in
         let v = rle-some (rows values) (rows offsets) (rows indices) len s.place h.3.places l in
-        absurd (true≢false (sym (null-found (rows values) v.place v.within (sym (ap is_null (row_at-rle values indices offsets len s.place l ∙ v.is)) ∙ s.is_so)) ∙ none))
+        absurd (true≢false (sym (row-found is_null (rows values) v.place v.within (sym (ap is_null (row_at-rle values indices offsets len s.place l ∙ v.is)) ∙ s.is_so)) ∙ none))

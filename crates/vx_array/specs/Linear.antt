@@ -1,8 +1,9 @@
 -- Rows in a line: all equal, or an arithmetic sequence of integers.
 use Rattle.std.specs.Prelude.{◌≡◌, ◌<◌, ◌⊎◌, ℕ, ◌+◌, ◌-◌, ◌*◌, min, ℤ, pos, ◌+ℤ◌, ◌*ℤ◌, Bool, ◌&&◌, ◌||◌, int_le, List, length}
+use Rattle.std.specs.List.{list_all, range_with_len}
 use Rattle.vx_base.specs.PlainValue.{PlainValue, int, whole_or_zero}
 use Rattle.vx_model.specs.Rows.{row_at, block_rows, rle_place}
-use Rattle.vx_model.specs.WellFormed.{is_place}
+use Rattle.vx_model.specs.WellFormed.{is_canonical_at, is_place}
 use Rattle.vx_time.specs.declared.parts.TimestampParts.{TimestampParts}
 use Rattle.vx_time.specs.PartsOf.{parts}
 
@@ -28,13 +29,15 @@ has_place values offsets indices i = is_place values (rle_place offsets indices 
 abbrev pub block_end : ℕ → ℕ → ℕ
 block_end len block = block_rows * block + min (len - block_rows * block) block_rows - 1
 
--- whether neither of two numbers is negative, and whether neither is positive
+-- whether neither of two numbers is negative
 abbrev pub are_up : ℤ → ℤ → Bool
 are_up a b = int_le (pos 0) a && int_le (pos 0) b
 
+-- whether neither of two numbers is positive
 abbrev pub are_down : ℤ → ℤ → Bool
 are_down a b = int_le a (pos 0) && int_le b (pos 0)
 
+-- whether two numbers are 0
 abbrev pub are_zero : ℤ → ℤ → Bool
 are_zero a b = are_up a b && are_down a b
 
@@ -50,3 +53,7 @@ keep_sign p q =
 -- the parts in row i, 0 of null
 abbrev pub parts_at : List PlainValue → List PlainValue → List PlainValue → ℕ → TimestampParts
 parts_at days seconds subseconds i = parts (whole_or_zero (row_at days i)) (whole_or_zero (row_at seconds i)) (whole_or_zero (row_at subseconds i))
+
+-- whether each row of parts from `first` to `last` is null, or canonical
+abbrev pub are_canonical_between : ℤ → List PlainValue → List PlainValue → List PlainValue → ℕ → ℕ → Bool
+are_canonical_between d days seconds subseconds first last = list_all (is_canonical_at d days seconds subseconds) (range_with_len first (last - first + 1))

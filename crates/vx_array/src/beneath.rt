@@ -1,14 +1,13 @@
 //! Whether a nested node is plain: what stands beneath its nulls. Its children are plain already.
 
 ghost use Rattle.std.specs.List.{list_all};
-ghost use Rattle.std.specs.Prelude.{◌≡◌, ◌↔◌, ◌<◌, ◌≤◌, ◌+◌, ◌*◌, ◌-◌, ◌==◌, IsTrue, None, length, nat_le, nat_lt, true};
-ghost use Rattle.vx_array.specs.Beneath.{ArePlain, defaults_beneath, defaults_within, empty_beneath, has_words, is_default, is_zero};
-ghost use Rattle.vx_base.specs.CellValue.{cell_value};
+ghost use Rattle.std.specs.Prelude.{◌≡◌, ◌↔◌, ◌<◌, ◌+◌, ◌*◌, ◌-◌, ◌==◌, IsTrue, length, nat_le, true};
+ghost use Rattle.vx_array.specs.Beneath.{ArePlain, defaults_beneath, defaults_within, empty_beneath, has_words};
 ghost use Rattle.vx_base.specs.Masks.{rows_between};
 ghost use Rattle.vx_base.specs.PlainType.{is_integer};
 ghost use Rattle.vx_model.specs.Plain.{IsPlain};
 ghost use Rattle.vx_model.specs.Refusals.{validity_length};
-ghost use Rattle.vx_model.specs.Rows.{rows, row_at, offset_at, cut_at, parts_of};
+ghost use Rattle.vx_model.specs.Rows.{rows, offset_at, cut_at, parts_of};
 ghost use Rattle.vx_model.specs.Tree.{of_list};
 ghost use Rattle.vx_model.specs.TreeType.{tree_type};
 ghost use Rattle.vx_model.specs.WellFormed.{are_offsets};
@@ -16,53 +15,10 @@ ghost use Rattle.vx_model.specs.WellFormed.{are_offsets};
 use crate::array::{ArrayRef, Node};
 use crate::arrays::Arrays;
 use crate::node::offset_at;
-use vx_base::{Cell, Mask};
+use vx_base::Mask;
 use vx_values::Ints;
 
 impl ArrayRef {
-    // Whether a row of a plain tree is the default of the tree's type, null where that is nullable.
-    #[cycle(is_default)]
-    fn is_default_at(&self, row: u64) -> bool
-        requires plain { IsPlain self.now }
-        requires in_range { row < length (rows self.now) }
-        ensures { result ≡ is_default (tree_type self.now) (row_at (rows self.now) row) }
-    {
-        self.known();
-        if self.dtype().is_nullable() {
-            return self.is_null_at(row);
-        }
-        match &self.node {
-            Node::Struct(_, fields, _, _, _) => fields.are_default_at(row),
-            Node::List(elements, offsets, _, _) => is_empty_at(
-                &elements.array,
-                &offsets.array,
-                row,
-            ),
-            Node::FixedSizeList(elements, size, _, _, _) => elements
-                .array
-                .part_is_default(*size, row),
-            Node::Null(_) | Node::Constant(_, _) | Node::Sparse(_, _) => unreachable!(),
-            _ => is_zero(self.cell_at(row)),
-        }
-    }
-
-    // Whether each row of one part is the default, where the rows are cut into parts of one size.
-    #[cycle(is_default)]
-    fn part_is_default(&self, size: u32, part: u64) -> bool
-        requires plain { IsPlain self.now }
-        requires in_range { part * size + size ≤ length (rows self.now) }
-        ensures { result ≡ list_all (is_default (tree_type self.now)) (rows_between (rows self.now) (part * size) (part * size + size)) }
-    {
-        let _rows = self.len();
-        let from = part * size as u64;
-        for row in from..from + size as u64 {
-            if !self.is_default_at(row) {
-                return false;
-            }
-        }
-        true
-    }
-
     // Whether each row where `valid` is false is the default.
     #[tactic(auto, using(vx_model::proofs::ZeroLemmas::zeroing))]
     fn is_default_beneath(&self, valid: &Option<Mask>) -> bool
@@ -120,37 +76,10 @@ impl Arrays {
         }
         true
     }
-
-    // Whether a row of each tree is the default.
-    #[cycle(is_default)]
-    fn are_default_at(&self, row: u64) -> bool
-        requires plain { ArePlain None (of_list self.now) }
-        requires in_range { IsTrue (list_all (λ t. nat_lt row (length (rows t))) self.now) }
-        ensures { result ≡ list_all (λ t. is_default (tree_type t) (row_at (rows t) row)) self.now }
-    {
-        for tree in self.as_slice() {
-            if !tree.is_default_at(row) {
-                return false;
-            }
-        }
-        true
-    }
-}
-
-// Whether a cell is false, 0 or without bytes.
-fn is_zero(cell: Cell<'_>) -> bool
-    ensures { result ≡ is_zero (cell_value cell.entry) }
-{
-    match cell {
-        Cell::Null => false,
-        Cell::Bool(bit) => !bit,
-        Cell::Int(whole) => whole == 0,
-        Cell::Bytes(bytes) => bytes.is_empty(),
-    }
 }
 
 // Whether the list in a row has no elements.
-fn is_empty_at(elements: &ArrayRef, offsets: &ArrayRef, row: u64) -> bool
+pub(crate) fn is_empty_at(elements: &ArrayRef, offsets: &ArrayRef, row: u64) -> bool
     requires integers { IsTrue (is_integer (tree_type offsets.now)) }
     requires in_range { row + 1 < length (rows offsets.now) }
     requires ends { IsTrue (are_offsets (length (rows elements.now)) (rows offsets.now)) }

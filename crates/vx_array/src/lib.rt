@@ -7,6 +7,7 @@ mod arrays;
 mod beneath;
 mod canonical;
 mod copies;
+mod defaults;
 mod joined_bytes;
 mod lent;
 mod linear;

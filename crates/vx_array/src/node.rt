@@ -13,6 +13,7 @@ mod dict_rows;
 mod fixed_size_list;
 mod frame_of_reference;
 mod frame_of_reference_v2;
+mod linear_parts;
 mod list;
 mod masked;
 mod null;

@@ -64,6 +64,21 @@ fn codes_in_a_frame_of_reference(rt: HostRuntime) -> Result<(), Fail> {
     Ok(())
 }
 
+// The refusal of a dictionary of these values whose code is 0 in the first row and 1 in all others.
+fn of_runs(alloc: Global, values: &[i128]) -> VortexResult<Option<VortexError>> {
+    let ends = flat(alloc, U64, NonNullable, &[1, i128::from(MANY)])?;
+    let codes = accepted(ArrayRef::run_end(alloc, ends, flat(alloc, U8, NonNullable, &[0, 1])?))?;
+    Ok(refusal(ArrayRef::dict(alloc, codes, flat(alloc, I16, NonNullable, values)?)))
+}
+
+#[test]
+fn codes_in_runs(rt: HostRuntime) -> Result<(), Fail> {
+    let alloc = rt.alloc();
+    let refused = of_runs(alloc, &[300])?;
+    assert!(rt; of_runs(alloc, &[300, -7])?.is_none() && refused == Some(VortexError::OutOfBounds));
+    Ok(())
+}
+
 #[test]
 fn codes_in_a_sequence(rt: HostRuntime) -> Result<(), Fail> {
     let alloc = rt.alloc();
@@ -199,6 +214,19 @@ fn days(alloc: Global, days: ArrayRef, seconds: i128) -> VortexResult<Option<Vor
     Ok(refusal(ArrayRef::datetime_parts(alloc, kind, NonNullable, days, seconds, rest)))
 }
 
+// The refusal of days over seconds of the day, with microseconds that count up from `first`.
+fn moments(
+    alloc: Global,
+    days: ArrayRef,
+    seconds: i128,
+    first: i128,
+) -> VortexResult<Option<VortexError>> {
+    let kind = accepted(TimestampType::new(TimeUnit::Microseconds, None))?;
+    let (len, nullability) = (days.len(), days.dtype().nullability());
+    let (seconds, rest) = (equal(seconds, I64, len)?, steps(first, 1, len)?);
+    Ok(refusal(ArrayRef::datetime_parts(alloc, kind, nullability, days, seconds, rest)))
+}
+
 #[test]
 fn parts_of_timestamps(rt: HostRuntime) -> Result<(), Fail> {
     let alloc = rt.alloc();
@@ -210,6 +238,13 @@ fn parts_of_timestamps(rt: HostRuntime) -> Result<(), Fail> {
     // The first days are negative, the seconds aren't.
     assert!(rt; days(alloc, steps(-half, 1, MANY)?, 1)? == error);
     assert!(rt; days(alloc, steps(0, 1, MANY)?, 86_400)? == error);
+    // Days and microseconds pass 0 in the same row; then two rows apart, so that the parts of one row are -1, 0 and 1.
+    let together = moments(alloc, steps(-500_000, 1, 1_500_000)?, 0, -500_000)?;
+    let apart = moments(alloc, steps(-500_000, 1, 1_499_998)?, 0, -499_998)?;
+    assert!(rt; together.is_none() && apart == error);
+    // Null days take any parts, though the microseconds change their sign and the seconds don't.
+    let null = accepted(Scalar::null(DType::primitive(I64, Nullable)))?;
+    assert!(rt; moments(alloc, ArrayRef::constant(null, MANY), 1, -5)?.is_none());
     Ok(())
 }
 

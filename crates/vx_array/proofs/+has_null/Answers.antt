@@ -25,7 +25,8 @@ use Rattle.vx_model.proofs.DateTimePartsLemmas.{any_null-datetime_parts}
 use Rattle.vx_model.proofs.FrameOfReferenceV2Lemmas.{any_null-frame_of_reference_v2}
 use Rattle.vx_array.proofs.AtNode.{at_node}
 use Rattle.vx_array.proofs.Flat.{dict_flat}
-use Rattle.vx_array.proofs.RunNulls.{any_null-sparse, any_null-run_end, no_null-rle}
+use Rattle.vx_array.proofs.RunNulls.{any_null-sparse, no_null-rle}
+use Rattle.vx_array.proofs.RunTests.{any-run_end}
 use Rattle.vx_array.proofs.+has_null.Goals as goal
 
 -- some row is null where there are rows
@@ -116,7 +117,7 @@ array::ArrayRef::has_null-returns-in-Sparse t c =
 pub array::ArrayRef::has_null-returns-in-RunEnd : goal.array::ArrayRef::has_null-returns-in-RunEnd
 array::ArrayRef::has_null-returns-in-RunEnd t c =
     let a = at_node c.self.view_is c.self.invariant c.in-RunEnd.is in
-    rw a.is (c.has_null-in-RunEnd.ensures ∙ ap (λ t. list_any is_null (rows t)) c.deref-in-RunEnd.ensures ∙ sym (any_null-run_end c.in-RunEnd.field-0.array.value c.in-RunEnd.values.array.value a.well_formed))
+    rw a.is (c.has_null-in-RunEnd.ensures ∙ ap (λ t. list_any is_null (rows t)) c.deref-in-RunEnd.ensures ∙ sym (any-run_end is_null c.in-RunEnd.field-0.array.value c.in-RunEnd.values.array.value a.well_formed))
 
 pub array::ArrayRef::has_null-returns-in-Sequence : goal.array::ArrayRef::has_null-returns-in-Sequence
 array::ArrayRef::has_null-returns-in-Sequence t c =

@@ -30,7 +30,7 @@ impl ArrayRef {
     ///
     /// Refuses MismatchedTypes where the codes aren't integers or the values aren't of a leaf type or timestamps; then
     /// OutOfBounds where a code is neither null nor in bounds of `values`. Reads every code; of equal ones and of an
-    /// arithmetic sequence only the first and the last.
+    /// arithmetic sequence only the first and the last, and of runs one each.
     pub fn dict(alloc: Global, codes: ArrayRef, values: ArrayRef) -> Made<(ArrayRef, ArrayRef)>
         ensures { Makes (dict_refusal codes values) (dict codes values) (codes, values) result }
     {
@@ -120,7 +120,7 @@ fn refusal(alloc: Global, codes: &ArrayRef, values: &ArrayRef) -> Option<VortexE
     None
 }
 
-// Whether each code is null or in bounds of `values` values.
+// Whether each code is null or in bounds of `values` values. Each run has a row, so of runs their values are looked at.
 fn have_places(alloc: Global, codes: &ArrayRef, values: u64) -> bool
     requires { IsTrue (is_integer (tree_type codes.now)) }
     ensures { result ≡ list_all (is_place values) (rows codes.now) }
@@ -128,7 +128,10 @@ fn have_places(alloc: Global, codes: &ArrayRef, values: u64) -> bool
     if codes.is_linear() {
         return codes.ends_are_places(values);
     }
-    decoded_have_places(alloc, codes, values)
+    match &codes.node {
+        Node::RunEnd(_, runs) => have_places(alloc, &runs.array, values),
+        _ => decoded_have_places(alloc, codes, values),
+    }
 }
 
 // `have_places` in one pass over the codes, stored or decoded; row by row where memory for decoded ones is wanting.

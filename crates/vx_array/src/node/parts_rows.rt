@@ -1,17 +1,17 @@
 //! The rows of timestamps in parts: whether they are canonical, and the timestamp in one.
 
 ghost use Rattle.std.specs.Prelude.{◌≡◌, ◌<◌, ℤ, IsTrue, Some, length, true};
-ghost use Rattle.vx_array.specs.Linear.{IsLinear, are_down, are_up, keep_sign, parts_at};
 ghost use Rattle.vx_base.specs.Answers.{OrMemory};
 ghost use Rattle.vx_base.specs.CellValue.{cell_value};
 ghost use Rattle.vx_base.specs.PlainType.{is_integer};
-ghost use Rattle.vx_base.specs.PlainValue.{cell, whole_or_zero};
-ghost use Rattle.vx_model.specs.Rows.{rows, row_at, each_int};
+ghost use Rattle.vx_base.specs.PlainValue.{cell};
+ghost use Rattle.vx_model.specs.Rows.{rows, each_int};
 ghost use Rattle.vx_model.specs.TreeType.{tree_type};
 ghost use Rattle.vx_model.specs.WellFormed.{are_canonical, is_canonical_at};
 ghost use Rattle.vx_time.specs.CanonicalParts.{is_canonical};
 ghost use Rattle.vx_time.specs.PartsOf.{parts, sum_of, units_per_second};
 
+use super::linear_parts::linear_are_canonical;
 use super::offsets::whole_at;
 use crate::array::ArrayRef;
 use std::alloc::Global;
@@ -19,7 +19,7 @@ use vx_base::{Cell, TimestampType, VortexResult};
 use vx_flat::parts_are_canonical;
 use vx_time::{is_canonical, sum_of, units_in_second};
 
-// Whether each row is null or canonical: of linear columns by the first and the last row, else of the decoded columns, or row
+// Whether each row is null or canonical: of linear columns by few rows, else of the decoded columns, or row
 // by row where memory for them is wanting.
 pub(super) fn are_canonical(
     alloc: Global,
@@ -43,75 +43,6 @@ pub(super) fn are_canonical(
         Ok(held) => held,
         Err(_) => rows_are_canonical(divisor, days, seconds, subseconds),
     }
-}
-
-// `are_canonical` of linear columns. Where both ends are canonical and share a sign, or two columns are 0, so are the rows
-// between them. Else seconds or subseconds pass 0 between canonical ends, and each row is read: fewer than twice the seconds of
-// a day, or than twice the units of a second.
-fn linear_are_canonical(
-    divisor: i64,
-    days: &ArrayRef,
-    seconds: &ArrayRef,
-    subseconds: &ArrayRef,
-) -> bool
-    requires days { IsTrue (is_integer (tree_type days.now)) }
-    requires seconds { IsTrue (is_integer (tree_type seconds.now)) }
-    requires subseconds { IsTrue (is_integer (tree_type subseconds.now)) }
-    requires seconds_length { length (rows seconds.now) ≡ length (rows days.now) }
-    requires subseconds_length { length (rows subseconds.now) ≡ length (rows days.now) }
-    requires linear_days { IsLinear (rows days.now) }
-    requires linear_seconds { IsLinear (rows seconds.now) }
-    requires linear_subseconds { IsLinear (rows subseconds.now) }
-    ensures { result ≡ are_canonical divisor (rows days.now) (rows seconds.now) (rows subseconds.now) }
-{
-    let len = days.len();
-    if len == 0 {
-        return true;
-    }
-    if !is_canonical_row(divisor, days, seconds, subseconds, 0) {
-        return false;
-    }
-    if !is_canonical_row(divisor, days, seconds, subseconds, len - 1) {
-        return false;
-    }
-    if keep_sign(days, seconds, subseconds, len - 1) {
-        return true;
-    }
-    rows_are_canonical(divisor, days, seconds, subseconds)
-}
-
-// Whether the rows of linear columns share a sign where the first and the last each do.
-fn keep_sign(days: &ArrayRef, seconds: &ArrayRef, subseconds: &ArrayRef, last: u64) -> bool
-    requires days { IsTrue (is_integer (tree_type days.now)) }
-    requires seconds { IsTrue (is_integer (tree_type seconds.now)) }
-    requires subseconds { IsTrue (is_integer (tree_type subseconds.now)) }
-    requires in_days { last < length (rows days.now) }
-    requires in_seconds { last < length (rows seconds.now) }
-    requires in_subseconds { last < length (rows subseconds.now) }
-    ensures { result ≡ keep_sign (parts_at (rows days.now) (rows seconds.now) (rows subseconds.now) 0) (parts_at (rows days.now) (rows seconds.now) (rows subseconds.now) last) }
-{
-    let (days_up, days_down) = signs(days, last);
-    let (seconds_up, seconds_down) = signs(seconds, last);
-    let (rest_up, rest_down) = signs(subseconds, last);
-    let days_zero = days_up & days_down;
-    let seconds_zero = seconds_up & seconds_down;
-    let rest_zero = rest_up & rest_down;
-    (days_up & seconds_up & rest_up)
-        | (days_down & seconds_down & rest_down)
-        | (days_zero & seconds_zero)
-        | (days_zero & rest_zero)
-        | (seconds_zero & rest_zero)
-}
-
-// Whether the first and the last of a column aren't negative, and whether they aren't positive.
-fn signs(column: &ArrayRef, last: u64) -> (bool, bool)
-    requires integers { IsTrue (is_integer (tree_type column.now)) }
-    requires in_range { last < length (rows column.now) }
-    ensures up { result.0 ≡ are_up (whole_or_zero (row_at (rows column.now) 0)) (whole_or_zero (row_at (rows column.now) last)) }
-    ensures down { result.1 ≡ are_down (whole_or_zero (row_at (rows column.now) 0)) (whole_or_zero (row_at (rows column.now) last)) }
-{
-    let (first, last) = (whole_at(column, 0), whole_at(column, last));
-    ((first >= 0) & (last >= 0), (first <= 0) & (last <= 0))
 }
 
 // `are_canonical` of the decoded columns, by the units in a second.
@@ -159,7 +90,7 @@ fn rows_are_canonical(
 }
 
 // Whether a row is null or canonical.
-fn is_canonical_row(
+pub(super) fn is_canonical_row(
     divisor: i64,
     days: &ArrayRef,
     seconds: &ArrayRef,

@@ -1,5 +1,5 @@
 use Rattle.std.proofs.Common.{refl}
-use Rattle.vx_array.proofs.node.parts_rows.keep_sign.Goals as goal
+use Rattle.vx_array.proofs.node.linear_parts.keep_sign.Goals as goal
 
 pub returns : goal.returns
 returns c =
