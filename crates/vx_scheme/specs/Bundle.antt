@@ -13,13 +13,15 @@ pub record Bundle : Type 0 where
   pub options : GenerateStatsOptions
   pub summary_kept : Bool
   pub integers_kept : Bool
+  pub bools_kept : Bool
+  pub strings_kept : Bool
 
 -- a bundle is coded by its fields
 abbrev pub bundle_code : Coded Bundle
 bundle_code =
-    code_by ((Tree × Bool) × (Bool × Bool)) (coded× (coded× tree_code coded_bool) (coded× coded_bool coded_bool))
-    (λ b. ((b.array, b.options.count_distinct_values), (b.summary_kept, b.integers_kept)))
-    (λ p. record { array = p.0.0; options = record { count_distinct_values = p.0.1 }; summary_kept = p.1.0; integers_kept = p.1.1 })
+    code_by ((Tree × Bool) × ((Bool × Bool) × (Bool × Bool))) (coded× (coded× tree_code coded_bool) (coded× (coded× coded_bool coded_bool) (coded× coded_bool coded_bool)))
+    (λ b. ((b.array, b.options.count_distinct_values), ((b.summary_kept, b.integers_kept), (b.bools_kept, b.strings_kept))))
+    (λ p. record { array = p.0.0; options = record { count_distinct_values = p.0.1 }; summary_kept = p.1.0.0; integers_kept = p.1.0.1; bools_kept = p.1.1.0; strings_kept = p.1.1.1 })
     (λ _. refl)
 
 -- the array and the options are unchanged; more statistics may be kept
@@ -31,6 +33,8 @@ pub record SameArray (old new : Bundle) : Type 0 where
 pub record StaysKept (old new : Bundle) : Type 0 where
   pub summary : old.summary_kept ≡ true → new.summary_kept ≡ true
   pub integers : old.integers_kept ≡ true → new.integers_kept ≡ true
+  pub bools : old.bools_kept ≡ true → new.bools_kept ≡ true
+  pub strings : old.strings_kept ≡ true → new.strings_kept ≡ true
 
 -- a kept statistic is returned without fail; one that is not yet kept may be refused, or run out of memory
 abbrev pub KeptOrDecided : {A : Type 0} → Bool → Option VortexError → (A → Type 0) → Result A VortexError → Type 0

@@ -11,11 +11,13 @@ ghost use Rattle.vx_scheme.specs.Bundle.{KeptOrDecided, SameArray, StaysKept};
 ghost use Rattle.vx_stats.specs.Options.{no_options};
 ghost use Rattle.vx_stats.specs.Stats.{stats_of, stats_refusal, value_count, distinct_count};
 
+mod bools_and_strings;
+
 use std::alloc::Global;
 use std::marker::Model;
 use vx_array::ArrayRef;
 use vx_base::{ExecutionCtx, VortexError, VortexResult};
-use vx_stats::{GenerateStatsOptions, IntegerStats};
+use vx_stats::{BoolStats, GenerateStatsOptions, IntegerStats, StringStats};
 
 /// A plain array with its statistics, each of which is computed by the first call that asks for it, and then kept. The
 /// summary has no distinct values; the statistics have what the options request.
@@ -25,6 +27,8 @@ pub struct ArrayAndStats {
     opts: GenerateStatsOptions,
     summary: Option<IntegerStats>,
     integers: Option<IntegerStats>,
+    bools: Option<BoolStats>,
+    strings: Option<StringStats>,
 }
 
 impl Model for ArrayAndStats {
@@ -35,15 +39,17 @@ impl Model for ArrayAndStats {
     ghost use Rattle.vx_model.specs.TreeType.{tree_type};
     ghost use Rattle.vx_scheme.specs.Bundle.{Bundle, bundle_code};
     ghost use Rattle.vx_stats.specs.Options.{no_options};
+    ghost use Rattle.vx_stats.specs.Bools.{bools_of};
     ghost use Rattle.vx_stats.specs.Stats.{stats_of};
+    ghost use Rattle.vx_stats.specs.Strings.{strings_of};
 
     ghost Value = { Bundle };
 
     ghost coded = { bundle_code };
 
-    ghost view = { λ a. record { array = a.array; options = a.opts; summary_kept = is_some a.summary; integers_kept = is_some a.integers } };
+    ghost view = { λ a. record { array = a.array; options = a.opts; summary_kept = is_some a.summary; integers_kept = is_some a.integers; bools_kept = is_some a.bools; strings_kept = is_some a.strings } };
 
-    ghost invariant = { λ a. IsPlain a.array × IfSome a.summary (λ stats. stats ≡ stats_of no_options (integer_of (tree_type a.array)) (rows a.array)) × IfSome a.integers (λ stats. stats ≡ stats_of a.opts (integer_of (tree_type a.array)) (rows a.array)) };
+    ghost invariant = { λ a. IsPlain a.array × IfSome a.summary (λ stats. stats ≡ stats_of no_options (integer_of (tree_type a.array)) (rows a.array)) × IfSome a.integers (λ stats. stats ≡ stats_of a.opts (integer_of (tree_type a.array)) (rows a.array)) × IfSome a.bools (λ stats. stats ≡ bools_of (rows a.array)) × IfSome a.strings (λ stats. stats ≡ strings_of a.opts (rows a.array)) };
 }
 
 impl ArrayAndStats {
@@ -52,13 +58,15 @@ impl ArrayAndStats {
     /// A plain array with no statistics kept yet. `opts` says what they will include.
     pub fn new(array: ArrayRef, opts: GenerateStatsOptions) -> ArrayAndStats
         requires { IsPlain array }
-        ensures { result ≡ record { array = array; options = opts; summary_kept = false; integers_kept = false } }
+        ensures { result ≡ record { array = array; options = opts; summary_kept = false; integers_kept = false; bools_kept = false; strings_kept = false } }
     {
         ArrayAndStats {
             array,
             opts,
             summary: None,
             integers: None,
+            bools: None,
+            strings: None,
         }
     }
 

@@ -25,8 +25,8 @@ pub use scheme_id::SchemeId;
 pub use selection::ChildSelection;
 pub use split::Split;
 pub use vx_stats::{
-    Counts, DistinctInfo, ErasedStats, GenerateStatsOptions, IntegerStats, PValue, TypedStats,
-    laws_of_distinct, laws_of_merge,
+    BoolStats, Counts, DistinctInfo, ErasedStats, GenerateStatsOptions, IntegerStats, PValue,
+    StringStats, TypedStats, laws_of_distinct, laws_of_merge,
 };
 
 /// The budget of a fresh site: this many schemes may stand one below another below the first, so at most five on one path.

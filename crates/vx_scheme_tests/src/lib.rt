@@ -4,6 +4,8 @@
 #[cfg(test)]
 mod bit_packing;
 #[cfg(test)]
+mod bool_statistics;
+#[cfg(test)]
 mod bundles;
 #[cfg(test)]
 mod delta;
@@ -31,5 +33,7 @@ mod shapes;
 mod sparse;
 #[cfg(test)]
 mod statistics;
+#[cfg(test)]
+mod string_statistics;
 #[cfg(test)]
 mod zig_zag;

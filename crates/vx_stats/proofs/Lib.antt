@@ -1,9 +1,16 @@
 pub mod DenseLemmas
 pub mod DistinctLemmas
+pub mod EstimateLemmas
+pub mod KeptKeys
+pub mod KeyLemmas
 pub mod PickLemmas
+pub mod RootLemmas
+pub mod RowCountLemmas
 pub mod SeenLemmas
 pub mod SlotLemmas
 pub mod StatsFacts
 pub mod StatsLemmas
 pub mod TableLemmas
 pub mod TallyLemmas
+pub mod TruthLemmas
+pub mod WordLemmas

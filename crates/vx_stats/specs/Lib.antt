@@ -1,11 +1,16 @@
+pub mod Bools
 pub mod Counts
 pub mod Distinct
 pub mod Erased
 pub mod Frequent
+pub mod Keys
 pub mod Options
+pub mod Rows
 pub mod Runs
 pub mod Seen
 pub mod Slots
 pub mod Stats
+pub mod Strings
 pub mod Tables
 pub mod Tally
+pub mod Words
