@@ -1,0 +1,5 @@
+pub mod Joined
+pub mod Settled
+pub mod Split
+pub mod SplitOf
+pub mod SplitRows
