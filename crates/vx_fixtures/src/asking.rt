@@ -45,8 +45,8 @@ fn told_by_verdict(verdict: EstimateVerdict) -> Told {
     }
 }
 
-// An estimate as plain data.
-fn told_by_estimate(estimate: CompressionEstimate) -> Told {
+/// An estimate as plain data.
+pub fn told_by_estimate(estimate: CompressionEstimate) -> Told {
     match estimate {
         CompressionEstimate::Verdict(verdict) => told_by_verdict(verdict),
         CompressionEstimate::Deferred(DeferredEstimate::Sample) => Told::Sampled,
@@ -137,8 +137,8 @@ fn made<S: Scheme, L: Ledger>(
     }
 }
 
-// That of a column of 1 to 4,096 rows which the scheme takes.
-fn made_of_taken<S: Scheme>(
+/// `made_of` of a column whose options ask for distinct values.
+pub fn made_of_taken<S: Scheme>(
     scheme: &S,
     column: &mut ArrayAndStats,
     ctx: &mut ExecutionCtx,

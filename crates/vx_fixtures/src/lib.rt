@@ -7,7 +7,9 @@ mod columns;
 mod making;
 mod rows;
 
-pub use asking::{Told, made_of, rules_of, told_above, told_of};
+pub use asking::{
+    Told, made_of, made_of_taken, rules_of, told_above, told_by_estimate, told_of,
+};
 pub use columns::{bundle, column, context};
 pub use making::{
     accepted, bits, byte_rows, flat, integers, list, list_scalar, packed, with_nulls,

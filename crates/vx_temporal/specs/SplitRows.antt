@@ -12,9 +12,11 @@ use Rattle.vx_time.specs.PartsOf.{parts_of}
 abbrev pub day_in : ℤ → ℤ → ℤ
 day_in d t = (parts_of d t).days
 
+-- The seconds of a moment's day, with the moment's sign.
 abbrev pub second_in : ℤ → ℤ → ℤ
 second_in d t = (parts_of d t).seconds
 
+-- What is left within a moment's second, in the column's unit, with the moment's sign.
 abbrev pub subsecond_in : ℤ → ℤ → ℤ
 subsecond_in d t = (parts_of d t).subseconds
 
