@@ -13,7 +13,8 @@ use Rattle.vx_model.specs.Tree.{Tree}
 use Rattle.vx_model.proofs.PackedOfLemmas.{encoding-packed_of}
 use Rattle.vx_schemes.specs.BitPacking.Meaning.{bit_packing_meaning}
 use Rattle.vx_schemes.specs.BitPacking.Tree.{is_negative, packed_tree, bit_packing_made}
-use Rattle.vx_schemes.specs.Dictionary.Meaning.{int_dict_meaning, dictionary_or_plain, unfinished}
+use Rattle.vx_schemes.specs.Dictionary.Meaning.{int_dict_meaning, unfinished}
+use Rattle.vx_schemes_common.specs.Dictionaries.{dictionary_or_plain}
 use Rattle.vx_schemes.specs.FrameOfReference.Meaning.{for_meaning}
 use Rattle.vx_schemes.specs.FrameOfReference.Tree.{least_value, framed, for_made}
 use Rattle.vx_schemes_common.specs.Pairs.{pair_of}

@@ -6,6 +6,6 @@ mod frame_of_reference;
 mod zig_zag;
 
 pub use bit_packing::BitPackingScheme;
-pub use dictionary::{IntDictScheme, dictionary_tree, integer_dictionary_encode};
+pub use dictionary::{IntDictScheme, integer_dictionary_encode};
 pub use frame_of_reference::{FoRScheme, differences, framed};
 pub use zig_zag::ZigZagScheme;

@@ -8,7 +8,7 @@ mod patches;
 
 pub use extremes::least_value;
 pub use integer::{
-    BitPackingScheme, FoRScheme, IntDictScheme, ZigZagScheme, dictionary_tree, differences, framed,
+    BitPackingScheme, FoRScheme, IntDictScheme, ZigZagScheme, differences, framed,
     integer_dictionary_encode,
 };
 pub use patches::compress_patches;

@@ -6,3 +6,4 @@ pub mod NarrowedLemmas
 pub mod PairLemmas
 pub mod Produced
 pub mod StandardFacts
+pub mod TripleLemmas

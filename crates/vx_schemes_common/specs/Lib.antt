@@ -1,3 +1,5 @@
+pub mod Dictionaries
+pub mod DictionaryLaws
 pub mod Exclusions
 pub mod Finishing
 pub mod FinishingLaws
@@ -6,6 +8,8 @@ pub mod NarrowedLaws
 pub mod OnePart
 pub mod OnePartLaws
 pub mod Pairs
+pub mod PartsLaws
 pub mod Produced
 pub mod Rising
 pub mod StandsFor
+pub mod Triples

@@ -5,4 +5,3 @@ pub mod RunsProduced
 pub mod Sequence
 pub mod Sparse
 pub mod ThresholdLemmas
-pub mod TripleLemmas

@@ -6,12 +6,12 @@ use Rattle.vx_model.specs.Tree.{Tree}
 use Rattle.vx_schemes_common.specs.Pairs.{pair_of}
 use Rattle.vx_schemes_common.specs.Produced.{IsProduced, MakesProduced}
 use Rattle.vx_schemes_common.proofs.Produced.{plain-produced}
-use Rattle.vx_schemes_runs.specs.PartsLaws.{never_finished}
+use Rattle.vx_schemes_common.specs.PartsLaws.{never_finished}
 use Rattle.vx_schemes_runs.specs.RunEnd.Meaning.{run_end_meaning}
 use Rattle.vx_schemes_runs.specs.RunEnd.Tree.{run_values, narrowed_ends, runs_or_plain}
 use Rattle.vx_schemes_runs.specs.RunLength.Meaning.{int_rle_meaning}
 use Rattle.vx_schemes_runs.specs.RunLength.Tree.{head_values, narrowed_run_numbers, narrowed_offsets, rle_or_plain}
-use Rattle.vx_schemes_runs.specs.Triples.{triple_of}
+use Rattle.vx_schemes_common.specs.Triples.{triple_of}
 use Rattle.vx_schemes_runs.specs.declared.integer.run_end.RunEndScheme.{RunEndScheme}
 use Rattle.vx_schemes_runs.specs.declared.integer.run_length.IntRLEScheme.{IntRLEScheme}
 

@@ -1,5 +1,4 @@
 pub mod Delta
-pub mod PartsLaws
 pub mod RowsAt
 pub mod RowsAtLaws
 pub mod RunEnd
@@ -7,4 +6,3 @@ pub mod RunLength
 pub mod Sequence
 pub mod Sparse
 pub mod Thresholds
-pub mod Triples

@@ -4,6 +4,5 @@
 
 mod integer;
 mod thresholds;
-mod triples;
 
 pub use integer::{DeltaScheme, IntRLEScheme, RunEndScheme, SequenceScheme, SparseScheme};

@@ -19,7 +19,8 @@ use Rattle.vx_stats.specs.Stats.{valid_wholes, distinct_values}
 use Rattle.vx_stats.proofs.DistinctLemmas.{times-next, distinct-times}
 use Rattle.vx_stats.proofs.TallyLemmas.{same-eq}
 use Rattle.vx_stats.proofs.StatsLemmas.{valid_wholes-map-int}
-use Rattle.vx_schemes.specs.Dictionary.Tree.{code_of, code_in, code_type}
+use Rattle.vx_schemes_common.specs.Dictionaries.{code_type}
+use Rattle.vx_schemes.specs.Dictionary.Tree.{code_of, code_in}
 use Rattle.vx_schemes.specs.Dictionary.Places.{place-holds}
 use Rattle.vx_schemes.specs.Dictionary.Codes.{as_code, codes_in}
 

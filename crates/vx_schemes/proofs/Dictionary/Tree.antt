@@ -20,7 +20,8 @@ use Rattle.vx_stats.specs.Distinct.{times}
 use Rattle.vx_scheme.specs.Meaning.{parts}
 use Rattle.vx_scheme.specs.Meaning.{kept as nothing}
 use Rattle.vx_stats.specs.Stats.{valid_wholes, value_count, distinct_values, distinct_counts, distinct_count}
-use Rattle.vx_schemes.specs.Dictionary.Tree.{code_of, code_in, code_type, dictionary_values, dictionary_codes}
+use Rattle.vx_schemes_common.specs.Dictionaries.{code_type}
+use Rattle.vx_schemes.specs.Dictionary.Tree.{code_of, code_in, dictionary_values, dictionary_codes}
 use Rattle.vx_schemes.specs.Dictionary.Meaning.{values_found, dictionary_parts}
 use Rattle.vx_schemes_common.specs.Pairs.{pair_of}
 use Rattle.vx_schemes.specs.Dictionary.Laws.{dictionary-admitted}

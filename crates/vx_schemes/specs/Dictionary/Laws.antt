@@ -1,9 +1,9 @@
 -- The codes of a column's rows are places of its distinct values, and give the rows back.
-use Rattle.std.proofs.Common.{◌≡◌, ◌<◌, ◌≤◌, ◌-◌, ◌^◌, ◌∙◌, ℕ, suc, ℤ, pos, Bool, true, false, cond, List, [], ◌∷◌, length, map, Option, None, Some, refl, ap, arith, inl, inr}
-use Rattle.std.specs.Prelude.{◌==◌, nat_lt, int_lt, All}
+use Rattle.std.proofs.Common.{◌≡◌, ◌<◌, ◌≤◌, ◌-◌, ◌^◌, ◌∙◌, ℕ, suc, ℤ, pos, Bool, true, false, cond, List, [], ◌∷◌, length, map, Option, None, Some, refl, ap, arith}
+use Rattle.std.specs.Prelude.{◌==◌, int_lt, All}
 use Rattle.std.specs.List.{list_all}
 use Rattle.std.specs.Ordering.{int_eq}
-use Rattle.std.proofs.lemmas.Bool.{and_from, and_parts, cond_both, cases_lt, lt-ltb, le-ltb}
+use Rattle.std.proofs.lemmas.Bool.{and_from, and_parts, cond_both, lt-ltb}
 use Rattle.std.proofs.lemmas.Bool.Decides.{nat_tests}
 use Rattle.std.proofs.lemmas.List.{length-map, get_or-map}
 use Rattle.std.proofs.lemmas.List.Elements.{All-from_recursion}
@@ -29,8 +29,10 @@ use Rattle.vx_scheme.specs.Lawful.{IsPart}
 use Rattle.vx_stats.specs.Stats.{valid_wholes, distinct_values, distinct_count}
 use Rattle.vx_stats.proofs.DistinctLemmas.{times-next, distinct-times}
 use Rattle.vx_stats.proofs.TallyLemmas.{same-eq}
-use Rattle.vx_schemes.specs.Dictionary.Tree.{code_of, code_in, code_type, dictionary_values, dictionary_codes}
+use Rattle.vx_schemes_common.specs.Dictionaries.{code_type}
+use Rattle.vx_schemes_common.specs.DictionaryLaws.{code_type-holds}
 use Rattle.vx_schemes_common.specs.StandsFor.{StandsFor}
+use Rattle.vx_schemes.specs.Dictionary.Tree.{code_of, code_in, dictionary_values, dictionary_codes}
 use Rattle.vx_schemes.specs.Dictionary.Places.{place-holds}
 
 -- ---- the values of the rows are among the distinct ones
@@ -98,23 +100,6 @@ module _ (c : Column) (j : is_integer c.dtype ≡ true) (h : IsColumn c) (number
 
   rows-placed : list_all (is_place (length numbers)) (map (code_in numbers) c.values) ≡ true
   rows-placed = of_integers (λ vs. list_all (is_place (length numbers)) (map (code_in numbers) vs) ≡ true) (codes-placed numbers)
-
--- ---- the type of the codes holds each place
-
-code_type-holds : (count k : ℕ) → count ≤ 4_294_967_296 → k < count → lies_in (code_type count) (pos k) ≡ true
-code_type-holds count k few h =
-    elim (cases_lt (count - 1) 256) [
-      | inl l ↦ let t : nat_lt (count - 1) 256 ≡ true = lt-ltb _ _ l in rw t (lt-ltb k 256 (omega arith))
-      | inr g ↦
-          let t : nat_lt (count - 1) 256 ≡ false = le-ltb _ _ g in
-          elim (cases_lt (count - 1) 65_536) [
-            | inl l ↦ let u : nat_lt (count - 1) 65_536 ≡ true = lt-ltb _ _ l in rw (t, u) (lt-ltb k 65_536 (omega arith))
-            | inr m ↦
-                let u : nat_lt (count - 1) 65_536 ≡ false = le-ltb _ _ m in
-                let v : nat_lt (count - 1) 4_294_967_296 ≡ true = lt-ltb _ _ (omega arith) in
-                rw (t, u, v) (lt-ltb k 4_294_967_296 (omega arith))
-          ]
-    ]
 
 -- ---- the distinct values are as few as the rows, and of their type
 

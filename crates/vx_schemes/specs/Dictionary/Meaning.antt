@@ -9,8 +9,7 @@ use Rattle.vx_base.specs.Integers.{bits_of}
 use Rattle.vx_base.specs.PlainType.{is_integer, integer_of}
 use Rattle.vx_base.specs.PlainValue.{PlainValue}
 use Rattle.vx_model.specs.Column.{Column, IsColumn, column_of}
-use Rattle.vx_model.specs.Plain.{plain}
-use Rattle.vx_model.specs.Tree.{Tree, dict}
+use Rattle.vx_model.specs.Tree.{Tree}
 use Rattle.vx_model.specs.WellFormed.{WellFormed}
 use Rattle.vx_scheme.specs.Lawful.{Lawful, IsPart}
 use Rattle.vx_scheme.specs.Meaning.{Meaning, PlainSplit, kept, finished, parts}
@@ -20,6 +19,7 @@ use Rattle.vx_scheme.specs.declared.estimate.CompressionEstimate.TheVariants.{Ve
 use Rattle.vx_scheme.specs.declared.estimate.EstimateVerdict.{EstimateVerdict}
 use Rattle.vx_scheme.specs.declared.estimate.EstimateVerdict.TheVariants.{Skip}
 use Rattle.vx_schemes.specs.Dictionary.Tree.{dictionary_values, dictionary_codes}
+use Rattle.vx_schemes_common.specs.Dictionaries.{dictionary_or_plain}
 use Rattle.vx_schemes_common.specs.Pairs.{pair_of}
 use Rattle.vx_schemes_common.specs.StandsFor.{StandsFor}
 use Rattle.vx_schemes.specs.Dictionary.Laws.{dictionary-small, dictionary-stands}
@@ -45,11 +45,6 @@ values_found values = if value_count values == 0 then None else Some (distinct_v
 -- the values and the codes; nothing where there is no value
 abbrev pub dictionary_parts : Column → PlainSplit
 dictionary_parts c = if value_count c.values == 0 then kept else parts (dictionary_values c ∷ dictionary_codes c ∷ [])
-
--- the dictionary of the pair, values first, then codes; plain unless there are two trees
-abbrev pub dictionary_or_plain : Column → Option (Tree × Tree) → Tree
-dictionary_or_plain c None = plain c
-dictionary_or_plain c (Some pair) = dict pair.1 pair.0
 
 -- the distinct values are part 0, and the codes part 1
 abbrev pub int_dict_meaning : IntDictScheme → Meaning

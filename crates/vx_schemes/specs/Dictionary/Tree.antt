@@ -1,11 +1,7 @@
 -- What a dictionary makes of a column of integers: its distinct values, ascending, and for each row the place of its value.
-use Rattle.std.specs.Prelude.{ℕ, ◌-◌, ℤ, pos, true, List, map}
+use Rattle.std.specs.Prelude.{ℕ, ℤ, pos, true, List, map}
 use Rattle.std.specs.List.{position_or_len}
-use Rattle.std.specs.Option.{unwrap_or}
 use Rattle.std.specs.Ordering.{int_eq}
-use Rattle.vx_base.specs.declared.ptype.PType.{PType}
-use Rattle.vx_base.specs.declared.ptype.PType.TheVariants.{U8}
-use Rattle.vx_base.specs.Narrow.{narrow_of}
 use Rattle.vx_base.specs.PlainType.{nullability_of}
 use Rattle.vx_base.specs.PlainType as types
 use Rattle.vx_base.specs.PlainValue.{PlainValue, int}
@@ -15,6 +11,7 @@ use Rattle.vx_model.specs.Rows.{each_int}
 use Rattle.vx_model.specs.Tree.{Tree, dict}
 use Rattle.vx_stats.specs.Stats.{distinct_values, distinct_count}
 use Rattle.vx_stats.specs.declared.options.GenerateStatsOptions.{GenerateStatsOptions}
+use Rattle.vx_schemes_common.specs.Dictionaries.{code_type}
 
 -- the code of a number: its place among the distinct ones, from 0; their number where it isn't among them
 abbrev pub code_of : List ℤ → ℤ → ℕ
@@ -23,10 +20,6 @@ code_of numbers z = position_or_len (int_eq z) numbers
 -- the code of a row; null stays
 abbrev pub code_in : List ℤ → PlainValue → PlainValue
 code_in numbers = each_int (λ z. pos (code_of numbers z))
-
--- the narrowest unsigned type that holds the codes of count values
-abbrev pub code_type : ℕ → PType
-code_type count = unwrap_or (narrow_of (pos 0) (pos (count - 1))) U8
 
 -- the distinct values, of the column's type
 abbrev pub dictionary_values : Column → Column

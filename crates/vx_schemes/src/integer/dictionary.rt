@@ -27,7 +27,6 @@ pub use encoding::integer_dictionary_encode;
 use ratio::verdict_by;
 use std::alloc::Global;
 use std::sync::ledger::Ledger;
-pub use tree::dictionary_tree;
 use tree::values_and_codes;
 use vx_array::{ArrayRef, Arrays};
 use vx_base::{ArrayId, DType, ExecutionCtx, Fraction, IdSet, Steps, VortexResult};
@@ -35,7 +34,7 @@ use vx_scheme::{
     AllowedIds, AncestorRules, ArrayAndStats, CompressionEstimate, CompressorContext,
     DescendantRules, EstimateVerdict, GenerateStatsOptions, Scheme, Split,
 };
-use vx_schemes_common::{pair_of, two_parts};
+use vx_schemes_common::{dictionary_tree, pair_of, two_parts};
 use vx_values::Ints;
 
 /// Dictionary, `vortex.int.dict`: each row as the code of its value, its place among the distinct values. Skips a column

@@ -16,7 +16,7 @@ use Rattle.vx_scheme.specs.declared.selection.ChildSelection.TheVariants.{One}
 use Rattle.vx_stats.specs.Stats.{average_run_length}
 use Rattle.vx_schemes_common.specs.Exclusions.{not_in_values}
 use Rattle.vx_schemes_common.specs.Pairs.{pair_of}
-use Rattle.vx_schemes_runs.specs.PartsLaws.{never_finished, parts_same}
+use Rattle.vx_schemes_common.specs.PartsLaws.{never_finished, parts_same}
 use Rattle.vx_schemes_runs.specs.RunEnd.Tree.{run_values, narrowed_ends, runs_or_plain}
 use Rattle.vx_schemes_runs.specs.RunEnd.Laws.{runs-small, joined}
 use Rattle.vx_schemes_runs.specs.declared.integer.run_end.RunEndScheme.{RunEndScheme}

@@ -28,7 +28,7 @@ use Rattle.vx_schemes_runs.specs.RowsAt.{optional_wholes}
 use Rattle.vx_schemes_runs.specs.RowsAtLaws.{rows_follow, rows_at-column, all_filtered, few_filtered, all_mapped, below-is}
 use Rattle.vx_schemes_runs.specs.RunLength.Back.{blocks-back, head-within, place-is}
 use Rattle.vx_schemes_runs.specs.RunLength.Tree.{head_values, narrowed_run_numbers, narrowed_offsets, rle_or_plain}
-use Rattle.vx_schemes_runs.specs.Triples.{triple_of}
+use Rattle.vx_schemes_common.specs.Triples.{triple_of}
 
 optional-long : (c : Column) → length (optional_wholes c) ≡ length c.values
 optional-long c = length-map c.values integer_in

@@ -16,8 +16,8 @@ use Rattle.vx_scheme.specs.declared.estimate.EstimateVerdict.TheVariants.{Skip}
 use Rattle.vx_scheme.specs.declared.selection.ChildSelection.TheVariants.{Many}
 use Rattle.vx_stats.specs.Stats.{average_run_length}
 use Rattle.vx_schemes_common.specs.Exclusions.{not_in_values}
-use Rattle.vx_schemes_runs.specs.Triples.{triple_of}
-use Rattle.vx_schemes_runs.specs.PartsLaws.{never_finished, parts_same}
+use Rattle.vx_schemes_common.specs.Triples.{triple_of}
+use Rattle.vx_schemes_common.specs.PartsLaws.{never_finished, parts_same}
 use Rattle.vx_schemes_runs.specs.RunLength.Tree.{head_values, narrowed_run_numbers, narrowed_offsets, rle_or_plain}
 use Rattle.vx_schemes_runs.specs.RunLength.Laws.{blocks-small, joined}
 use Rattle.vx_schemes_runs.specs.declared.integer.run_length.IntRLEScheme.{IntRLEScheme}

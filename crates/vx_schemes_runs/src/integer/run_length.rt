@@ -14,7 +14,6 @@ ghost use Rattle.vx_schemes_runs.specs.RunLength.Tree.{head_values, narrowed_run
 mod tree;
 
 use crate::integer::runs::has_short_runs;
-use crate::triples::{three_parts, triple_of};
 use std::alloc::Global;
 use std::sync::ledger::Ledger;
 use tree::{rle_tree, values_numbers_offsets};
@@ -25,7 +24,7 @@ use vx_scheme::{
     CompressorContext, DeferredEstimate, DescendantRules, EstimateVerdict, GenerateStatsOptions,
     Scheme, Split,
 };
-use vx_schemes_common::{excluded, not_in_values};
+use vx_schemes_common::{excluded, not_in_values, three_parts, triple_of};
 
 /// Run length, `vortex.int.rle`: runs of equal rows that end with each block of 1,024 rows. Skips a column whose average
 /// run length is below 4, and any at budget 0, since its gain comes mostly from the schemes of its children; any other is

@@ -12,7 +12,8 @@ ghost use Rattle.vx_model.specs.Rows.{valid_rows};
 ghost use Rattle.vx_values.specs.IntsOf.{ptype_of, wholes_of};
 ghost use Rattle.vx_stats.specs.Stats.{distinct_values};
 ghost use Rattle.vx_schemes.specs.Dictionary.Codes.{as_code, codes_in};
-ghost use Rattle.vx_schemes.specs.Dictionary.Tree.{code_in, code_type};
+ghost use Rattle.vx_schemes_common.specs.Dictionaries.{code_type};
+ghost use Rattle.vx_schemes.specs.Dictionary.Tree.{code_in};
 
 use super::recent_codes::RecentCodes;
 use std::alloc::Global;

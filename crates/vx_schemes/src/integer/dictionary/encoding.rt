@@ -12,11 +12,12 @@ ghost use Rattle.vx_stats.specs.Stats.{distinct_values, stats_of};
 ghost use Rattle.vx_schemes.specs.Dictionary.Tree.{dictionary_of, distinct_options};
 
 use super::distinct_ints::distinct_ints;
-use super::tree::{dictionary_tree, values_and_codes};
+use super::tree::values_and_codes;
 use std::alloc::Global;
 use vx_array::ArrayRef;
 use vx_base::{ExecutionCtx, VortexResult};
 use vx_scheme::IntegerStats;
+use vx_schemes_common::dictionary_tree;
 use vx_values::Ints;
 
 /// Dictionary-encodes a column of integers: a Dict over the distinct values, ascending and of the column's type, with a

@@ -1,18 +1,18 @@
-//! The values and the codes of a dictionary of integers, as plain trees, and the dictionary that they make.
+//! The values and the codes of a dictionary of integers, as plain trees.
 
-ghost use Rattle.std.specs.Prelude.{◌≡◌, ◌<◌, ◌^◌, length, map, true, None, IsTrue};
+ghost use Rattle.std.specs.Prelude.{◌≡◌, ◌<◌, ◌^◌, length, map, true, IsTrue};
 ghost use Rattle.vx_values.specs.IntsOf.{ptype_of, wholes_of};
 ghost use Rattle.vx_base.specs.Answers.{Answers, OrMemory};
 ghost use Rattle.vx_base.specs.PlainType.{is_integer, integer_of};
 ghost use Rattle.vx_base.specs.PlainValue.{int, whole_or_zero};
 ghost use Rattle.vx_model.specs.Column.{column_of};
 ghost use Rattle.vx_model.specs.Plain.{IsPlain, plain};
-ghost use Rattle.vx_model.specs.Refusals.{validity_length, dict_refusal};
+ghost use Rattle.vx_model.specs.Refusals.{validity_length};
 ghost use Rattle.vx_model.specs.Rows.{rows, valid_rows};
-ghost use Rattle.vx_model.specs.Tree.{dict};
 ghost use Rattle.vx_model.specs.TreeType.{tree_type};
 ghost use Rattle.vx_stats.specs.Stats.{distinct_values};
-ghost use Rattle.vx_schemes.specs.Dictionary.Tree.{code_in, code_type, dictionary_values, dictionary_codes};
+ghost use Rattle.vx_schemes_common.specs.Dictionaries.{code_type};
+ghost use Rattle.vx_schemes.specs.Dictionary.Tree.{code_in, dictionary_values, dictionary_codes};
 
 use super::codes::narrowed_codes;
 use std::alloc::Global;
@@ -98,15 +98,4 @@ pub(crate) fn values_and_codes(
     let codes = codes_tree(alloc, array, &values)?;
     let values = values_tree(array, values)?;
     Ok((values, codes))
-}
-
-/// The Dict of the codes over the values. Each code is null or in bounds of the values.
-pub fn dictionary_tree(alloc: Global, codes: ArrayRef, values: ArrayRef) -> VortexResult<ArrayRef>
-    requires { dict_refusal codes values ≡ None }
-    ensures { Answers result (dict codes values) }
-{
-    match ArrayRef::dict_of_places(alloc, codes, values) {
-        Ok(tree) => Ok(tree),
-        Err(refused) => Err(refused.error),
-    }
 }

@@ -3,7 +3,8 @@ use Rattle.vx_base.specs.Answers.{Answers}
 use Rattle.vx_base.specs.PlainValue.{int, whole_or_zero}
 use Rattle.vx_model.specs.Rows.{valid_rows}
 use Rattle.vx_values.specs.IntsOf.{wholes_of}
-use Rattle.vx_schemes.specs.Dictionary.Tree.{code_in, code_type}
+use Rattle.vx_schemes_common.specs.Dictionaries.{code_type}
+use Rattle.vx_schemes.specs.Dictionary.Tree.{code_in}
 use Rattle.vx_schemes.proofs.Dictionary.Tree.{codes_long, codes_tree}
 use Rattle.vx_schemes.proofs.integer.dictionary.tree.codes_tree.Goals as goal
 

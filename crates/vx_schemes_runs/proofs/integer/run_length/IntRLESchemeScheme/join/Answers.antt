@@ -8,7 +8,7 @@ use Rattle.vx_model.specs.WellFormed.{WellFormed}
 use Rattle.vx_model.proofs.MadeLemmas.{rows_fit}
 use Rattle.vx_schemes_runs.specs.RunLength.Tree.{head_values, narrowed_run_numbers, narrowed_offsets}
 use Rattle.vx_schemes_runs.specs.RunLength.Laws.{blocks-admitted}
-use Rattle.vx_schemes_runs.proofs.TripleLemmas.{triple-fits}
+use Rattle.vx_schemes_common.proofs.TripleLemmas.{triple-fits}
 use Rattle.vx_schemes_runs.proofs.integer.run_length.IntRLESchemeScheme.join.Goals as goal
 
 pub rle_tree-requires : goal.rle_tree-requires

@@ -3,7 +3,7 @@
 ghost use Rattle.std.specs.Prelude.{◌≡◌, [], ◌∷◌};
 ghost use Rattle.vx_base.specs.Answers.{Answers};
 ghost use Rattle.vx_scheme.specs.declared.split.Split.TheVariants.{Parts};
-ghost use Rattle.vx_schemes_runs.specs.Triples.{triple_of};
+ghost use Rattle.vx_schemes_common.specs.Triples.{triple_of};
 
 use std::alloc::Global;
 use vx_array::{ArrayRef, Arrays};
@@ -11,7 +11,7 @@ use vx_base::VortexResult;
 use vx_scheme::Split;
 
 /// The answer of a scheme with three parts, child 0 first. All are plain trees.
-pub(crate) fn three_parts(
+pub fn three_parts(
     alloc: Global,
     first: ArrayRef,
     second: ArrayRef,
@@ -27,7 +27,7 @@ pub(crate) fn three_parts(
 }
 
 /// The three trees, child 0 first; None unless there are exactly three.
-pub(crate) fn triple_of(trees: Arrays) -> Option<(ArrayRef, ArrayRef, ArrayRef)>
+pub fn triple_of(trees: Arrays) -> Option<(ArrayRef, ArrayRef, ArrayRef)>
     ensures { result ≡ triple_of trees }
 {
     if trees.len() != 3 {

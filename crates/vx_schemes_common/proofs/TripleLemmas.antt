@@ -2,7 +2,7 @@
 use Rattle.std.proofs.Common.{◌≡◌, ◌∙◌, List, [], ◌∷◌, map, Some, ap}
 use Rattle.vx_model.specs.Column.{Column, column_of}
 use Rattle.vx_model.specs.Tree.{Tree}
-use Rattle.vx_schemes_runs.specs.Triples.{triple_of}
+use Rattle.vx_schemes_common.specs.Triples.{triple_of}
 
 some_same : {A : Type 0} (a b : A) → Some a ≡ Some b → a ≡ b
 some_same a b e = cc
