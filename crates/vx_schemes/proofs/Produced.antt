@@ -1,9 +1,9 @@
 -- What the schemes of this crate make has an encoding that they produce.
-use Rattle.std.proofs.Common.{◌≡◌, ℤ, Bool, true, false, Option, Some, None, cond, refl, ap, subst, inr}
+use Rattle.std.proofs.Common.{◌≡◌, ℤ, Bool, true, false, Option, Some, None, cond, refl, ap, subst, inl, inr}
 use Rattle.std.specs.Prelude.{◌||◌, ◌==◌, map, option_map}
 use Rattle.std.specs.List.{list_any}
 use Rattle.vx_base.specs.Integers.{bits_of}
-use Rattle.vx_base.specs.PlainType.{is_integer, integer_of, nullability_of}
+use Rattle.vx_base.specs.PlainType.{integer_of, nullability_of}
 use Rattle.vx_base.specs.PlainValue.{whole_or_zero}
 use Rattle.vx_base.specs.declared.array_id.ArrayId.TheVariants as ids
 use Rattle.vx_model.specs.Column.{Column}
@@ -19,7 +19,7 @@ use Rattle.vx_schemes.specs.FrameOfReference.Meaning.{for_meaning}
 use Rattle.vx_schemes.specs.FrameOfReference.Tree.{least_value, framed, for_made}
 use Rattle.vx_schemes_common.specs.Pairs.{pair_of}
 use Rattle.vx_schemes_common.specs.Produced.{IsProduced, MakesProduced}
-use Rattle.vx_schemes_common.proofs.Produced.{plain-produced, finishing-produced, one_part-produced}
+use Rattle.vx_schemes_common.proofs.Produced.{finishing-produced, one_part-produced}
 use Rattle.vx_schemes.specs.Widths.{best_width_of}
 use Rattle.vx_schemes.specs.ZigZag.Meaning.{zig_zag_meaning}
 use Rattle.vx_schemes.specs.declared.integer.bit_packing.BitPackingScheme.{BitPackingScheme}
@@ -40,7 +40,7 @@ encoding-made c tree e =
 
 pub packings-produced : (s : BitPackingScheme) → MakesProduced (bit_packing_meaning s)
 packings-produced s =
-    finishing-produced (bit_packing_meaning s) bit_packing_made (λ c site. refl) (λ c tree e. ap (bit_packing_meaning s).produces (encoding-made c tree e)) (λ c i. i) (λ c site trees. refl)
+    finishing-produced (bit_packing_meaning s) bit_packing_made (λ c site. refl) (λ c tree e. ap (bit_packing_meaning s).produces (encoding-made c tree e)) (λ c site trees. refl)
 
 pub encoding-framed : (c : Column) (tree : Tree) → for_made c ≡ Some tree → encoding tree ≡ ids.FoR
 encoding-framed c tree e = by_least (least_value c.values) e
@@ -50,17 +50,17 @@ encoding-framed c tree e = by_least (least_value c.values) e
     by_least (Some z) q = let same : framed c z ≡ tree = cc in subst (λ t. encoding t ≡ ids.FoR) same refl
 
 pub frames-produced : (s : FoRScheme) → MakesProduced (for_meaning s)
-frames-produced s = finishing-produced (for_meaning s) for_made (λ c site. refl) (λ c tree e. ap (for_meaning s).produces (encoding-framed c tree e)) (λ c i. i) (λ c site trees. refl)
+frames-produced s = finishing-produced (for_meaning s) for_made (λ c site. refl) (λ c tree e. ap (for_meaning s).produces (encoding-framed c tree e)) (λ c site trees. refl)
 
 pub zigzags-produced : (s : ZigZagScheme) → MakesProduced (zig_zag_meaning s)
-zigzags-produced s = one_part-produced (zig_zag_meaning s) _ _ _ (λ c site. refl) (λ c site trees. refl) (λ c i. i) (λ c tree. refl)
+zigzags-produced s = one_part-produced (zig_zag_meaning s) _ _ _ (λ c site. refl) (λ c site trees. refl) (λ c tree. refl)
 
 pub dictionaries-produced : (s : IntDictScheme) → MakesProduced (int_dict_meaning s)
 dictionaries-produced s = record {
   by_finishing = λ c site tree e. absurd (unfinished c tree e);
-  by_joining = λ c site trees taken. by_pair c (pair_of trees) taken;
+  by_joining = λ c site trees. by_pair c (pair_of trees);
 }
   where
-    by_pair : (c : Column) (pair : Option (Tree × Tree)) → is_integer c.dtype ≡ true → IsProduced (int_dict_meaning s) (dictionary_or_plain c pair)
-    by_pair c None i = plain-produced (int_dict_meaning s) c i
-    by_pair c (Some pair) i = inr refl
+    by_pair : (c : Column) (pair : Option (Tree × Tree)) → IsProduced (int_dict_meaning s) c (dictionary_or_plain c pair)
+    by_pair c None = inl refl
+    by_pair c (Some pair) = inr refl

@@ -20,4 +20,4 @@ encoding-sequence c tree e = by_found (sequence_in c) e
 
 pub sequences-produced : (s : SequenceScheme) → MakesProduced (sequence_meaning s)
 sequences-produced s =
-    finishing-produced (sequence_meaning s) sequence_made (λ c site. refl) (λ c tree e. ap (sequence_meaning s).produces (encoding-sequence c tree e)) (λ c i. i) (λ c site trees. refl)
+    finishing-produced (sequence_meaning s) sequence_made (λ c site. refl) (λ c tree e. ap (sequence_meaning s).produces (encoding-sequence c tree e)) (λ c site trees. refl)
