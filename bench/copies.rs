@@ -2,8 +2,8 @@
 //!
 //!     copies < document
 //!
-//! One line: `copy` and its milliseconds by the clock. The document is one of bench/run's, without nulls: a flat list of
-//! truth values, of timestamps, of texts without an escape, or of binaries as their digits.
+//! One line: `copy` and its milliseconds by the clock. The document is one of bench/run's: a flat list of truth values, of
+//! timestamps, of texts without an escape, or of binaries as their digits, which may be nullable.
 
 use std::hint::black_box;
 use std::io::{self, Read};
@@ -20,6 +20,19 @@ fn tell<T: Clone>(rows: Option<Vec<T>>) -> Option<()> {
     drop(copy);
     println!("copy {:.3}", time.as_secs_f64() * 1000.0);
     Some(())
+}
+
+/// `tell` of rows that are read one by one; nulls among them where the type is nullable.
+fn tell_rows<'a, T: Clone>(
+    rows: impl Iterator<Item = &'a str>,
+    nullable: bool,
+    read: impl Fn(&'a str) -> Option<T>,
+) -> Option<()> {
+    if !nullable {
+        return tell(rows.map(read).collect());
+    }
+    let or_null = |row| if row == "null" { Some(None) } else { read(row).map(Some) };
+    tell::<Option<T>>(rows.map(or_null).collect())
 }
 
 /// The text within quotes.
@@ -42,11 +55,13 @@ fn between<'a>(text: &'a str, key: &str, end: char) -> Option<&'a str> {
 
 fn told(text: &str) -> Option<()> {
     let rows = between(text, "\"rows\":[", ']')?.split(',');
-    match between(text, "\"type\":\"", '"')? {
-        "bool" => tell::<bool>(rows.map(|row| row.parse().ok()).collect()),
-        "timestamp us" => tell::<i64>(rows.map(|row| row.parse().ok()).collect()),
-        "text" => tell::<String>(rows.map(|row| unquoted(row).map(String::from)).collect()),
-        "binary" => tell::<Vec<u8>>(rows.map(|row| bytes_of(unquoted(row)?)).collect()),
+    let named = between(text, "\"type\":\"", '"')?;
+    let nullable = named.ends_with('?');
+    match named.trim_end_matches('?').split(' ').next()? {
+        "bool" => tell_rows(rows, nullable, |row| row.parse::<bool>().ok()),
+        "timestamp" => tell_rows(rows, nullable, |row| row.parse::<i64>().ok()),
+        "text" => tell_rows(rows, nullable, |row| unquoted(row).map(String::from)),
+        "binary" => tell_rows(rows, nullable, |row| bytes_of(unquoted(row)?)),
         _ => None,
     }
 }

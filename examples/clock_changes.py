@@ -2,7 +2,9 @@
 """Writes the document clock_changes.json: each moment at which the clocks of a time zone are changed.
 
     examples/clock_changes.py [FOLDER] > examples/clock_changes.json
+    examples/clock_changes.py --names [FOLDER] > examples/clock_names.json
 
+With --names it writes for each of these moments, in the same order, the letters of the time that begins there, as CEST.
 FOLDER is /usr/share/zoneinfo unless it is given: the compiled time zone database, as Debian's package tzdata has it,
 with its list of names in tzdata.zi. The column has the names in alphabetical order, and of each the moments in their
 order, as seconds since 1970 began. A moment that the database lists and at which the time of day stays, as where only
@@ -13,7 +15,8 @@ import struct
 import sys
 
 HEAD = struct.Struct('>4sc15x6I')       # of a block: what it is, a version, and how many there are of each item
-KIND = struct.Struct('>iBB')            # of local time: seconds from universal time, and two bytes that don't count
+KIND = struct.Struct('>iBB')            # of local time: seconds from universal time, a byte that doesn't count, and
+                                        # where its letters begin
 
 
 def head_of(data, start):
@@ -25,7 +28,8 @@ def head_of(data, start):
 
 
 def changes_of(path):
-    """The moments at which a zone's clocks are changed, by the second block of its file, which has 64-bit moments."""
+    """The moments at which a zone's clocks are changed, each with the letters of the time that begins, by the second block
+    of its file, which has 64-bit moments."""
     with open(path, 'rb') as file:
         data = file.read()
     moments, kinds, letters, leaps, rest = head_of(data, 0)
@@ -34,9 +38,11 @@ def changes_of(path):
     start += HEAD.size
     moments = struct.unpack_from('>%dq' % count, data, start)
     numbers = data[start + 8 * count:start + 9 * count]
-    seconds = [KIND.unpack_from(data, start + 9 * count + KIND.size * kind)[0] for kind in range(kinds)]
-    before = [seconds[0]] + [seconds[number] for number in numbers]
-    return [moment for moment, number, old in zip(moments, numbers, before) if seconds[number] != old]
+    times = [KIND.unpack_from(data, start + 9 * count + KIND.size * kind) for kind in range(kinds)]
+    letters = data[start + 9 * count + KIND.size * kinds:]
+    before = [times[0]] + [times[number] for number in numbers]
+    return [(moment, letters[times[number][2]:].split(b'\0')[0].decode())
+            for moment, number, old in zip(moments, numbers, before) if times[number][0] != old[0]]
 
 
 def names_of(folder):
@@ -47,9 +53,14 @@ def names_of(folder):
 
 
 def main():
-    folder = sys.argv[1] if len(sys.argv) == 2 else '/usr/share/zoneinfo'
-    rows = [moment for name in names_of(folder) for moment in changes_of(os.path.join(folder, name))]
-    print('{"type":"i64","rows":[%s],"words":[0]}' % ','.join(map(str, rows)))
+    words = sys.argv[1:]
+    named = words[:1] == ['--names']
+    folder = words[named] if len(words) > named else '/usr/share/zoneinfo'
+    changes = [change for name in names_of(folder) for change in changes_of(os.path.join(folder, name))]
+    if named:
+        print('{"type":"text","rows":[%s],"words":[0]}' % ','.join('"%s"' % letters for _, letters in changes))
+    else:
+        print('{"type":"i64","rows":[%s],"words":[0]}' % ','.join(str(moment) for moment, _ in changes))
 
 
 if __name__ == '__main__':

@@ -18,8 +18,12 @@ use Rattle.vx_schemes_runs.specs.RunLength.Meaning.{int_rle_meaning, int_rle_law
 use Rattle.vx_schemes_runs.specs.Sequence.Meaning.{sequence_meaning, sequence_lawful}
 use Rattle.vx_schemes_runs.specs.Sparse.Meaning.{sparse_meaning, sparse_lawful}
 use Rattle.vx_schemes_runs.specs.Thresholds.{above}
+use Rattle.vx_schemes_text.specs.Dictionary.Meaning.{string_dict_meaning, string_dict_lawful, binary_dict_meaning, binary_dict_lawful}
+use Rattle.vx_schemes_text.specs.NullSparse.Meaning.{null_dominated_meaning, null_dominated_lawful}
+use Rattle.vx_schemes_text.specs.VarBin.Meaning.{var_bin_meaning, var_bin_lawful}
+use Rattle.vx_schemes_time.specs.Temporal.Meaning.{temporal_meaning, temporal_lawful}
 use Rattle.vx_btrblocks.specs.declared.any_scheme.AnyScheme.{AnyScheme}
-use Rattle.vx_btrblocks.specs.declared.any_scheme.AnyScheme.TheVariants.{FoR, ZigZag, BitPacking, Sparse, IntDict, RunEnd, Sequence, IntRLE, Delta, Own}
+use Rattle.vx_btrblocks.specs.declared.any_scheme.AnyScheme.TheVariants.{FoR, ZigZag, BitPacking, Sparse, IntDict, RunEnd, Sequence, IntRLE, Delta, StringDict, NullDominatedSparse, BinaryDict, VarBin, Temporal, Own}
 
 -- the meaning of the scheme inside
 abbrev pub any_meaning : {X : Type 0} → (X → Meaning) → AnyScheme X → Meaning
@@ -32,6 +36,11 @@ any_meaning own (RunEnd s) = run_end_meaning s
 any_meaning own (Sequence s) = sequence_meaning s
 any_meaning own (IntRLE s) = int_rle_meaning s
 any_meaning own (Delta s) = delta_meaning s
+any_meaning own (StringDict s) = string_dict_meaning s
+any_meaning own (NullDominatedSparse s) = null_dominated_meaning s
+any_meaning own (BinaryDict s) = binary_dict_meaning s
+any_meaning own (VarBin s) = var_bin_meaning s
+any_meaning own (Temporal s) = temporal_meaning s
 any_meaning own (Own x) = own x
 
 -- the scheme inside refined to these encodings; the shipped ones stay as they are
@@ -45,6 +54,11 @@ any_refined own (RunEnd s) allowed = RunEnd s
 any_refined own (Sequence s) allowed = Sequence s
 any_refined own (IntRLE s) allowed = IntRLE s
 any_refined own (Delta s) allowed = Delta s
+any_refined own (StringDict s) allowed = StringDict s
+any_refined own (NullDominatedSparse s) allowed = NullDominatedSparse s
+any_refined own (BinaryDict s) allowed = BinaryDict s
+any_refined own (VarBin s) allowed = VarBin s
+any_refined own (Temporal s) allowed = Temporal s
 any_refined own (Own x) allowed = Own (own x allowed)
 
 -- what the scheme inside answers at a threshold, by its meaning's verdict: exactly `above` of it for the sequence and the delta
@@ -59,6 +73,11 @@ IsResolvedBy (RunEnd s) threshold verdict result = OrMemory result (IsResolved t
 IsResolvedBy (Sequence s) threshold verdict result = result ≡ Ok (above threshold verdict)
 IsResolvedBy (IntRLE s) threshold verdict result = OrMemory result (IsResolved threshold verdict)
 IsResolvedBy (Delta s) threshold verdict result = Answers result (above threshold verdict)
+IsResolvedBy (StringDict s) threshold verdict result = OrMemory result (IsResolved threshold verdict)
+IsResolvedBy (NullDominatedSparse s) threshold verdict result = OrMemory result (IsResolved threshold verdict)
+IsResolvedBy (BinaryDict s) threshold verdict result = OrMemory result (IsResolved threshold verdict)
+IsResolvedBy (VarBin s) threshold verdict result = OrMemory result (IsResolved threshold verdict)
+IsResolvedBy (Temporal s) threshold verdict result = OrMemory result (IsResolved threshold verdict)
 IsResolvedBy (Own x) threshold verdict result = OrMemory result (IsResolved threshold verdict)
 
 pub any_lawful : {X : Type 0} (own : X → Meaning) → ((x : X) → Lawful (own x)) → (s : AnyScheme X) → Lawful (any_meaning own s)
@@ -71,6 +90,11 @@ any_lawful own law (RunEnd s) = run_end_lawful s
 any_lawful own law (Sequence s) = sequence_lawful s
 any_lawful own law (IntRLE s) = int_rle_lawful s
 any_lawful own law (Delta s) = delta_lawful s
+any_lawful own law (StringDict s) = string_dict_lawful s
+any_lawful own law (NullDominatedSparse s) = null_dominated_lawful s
+any_lawful own law (BinaryDict s) = binary_dict_lawful s
+any_lawful own law (VarBin s) = var_bin_lawful s
+any_lawful own law (Temporal s) = temporal_lawful s
 any_lawful own law (Own x) = law x
 
 pub any_keeps_name : {X : Type 0} (own : X → Meaning) (refined : X → (ArrayId → Bool) → X) → ((x : X) (ids : ArrayId → Bool) → (own (refined x ids)).name ≡ (own x).name)
@@ -84,4 +108,9 @@ any_keeps_name own refined keeps (RunEnd s) ids = refl
 any_keeps_name own refined keeps (Sequence s) ids = refl
 any_keeps_name own refined keeps (IntRLE s) ids = refl
 any_keeps_name own refined keeps (Delta s) ids = refl
+any_keeps_name own refined keeps (StringDict s) ids = refl
+any_keeps_name own refined keeps (NullDominatedSparse s) ids = refl
+any_keeps_name own refined keeps (BinaryDict s) ids = refl
+any_keeps_name own refined keeps (VarBin s) ids = refl
+any_keeps_name own refined keeps (Temporal s) ids = refl
 any_keeps_name own refined keeps (Own x) ids = keeps x ids

@@ -13,6 +13,10 @@ use Rattle.vx_schemes_runs.specs.RunEnd.Meaning.{run_end_meaning}
 use Rattle.vx_schemes_runs.specs.RunLength.Meaning.{int_rle_meaning}
 use Rattle.vx_schemes_runs.specs.Sequence.Meaning.{sequence_meaning}
 use Rattle.vx_schemes_runs.specs.Sparse.Meaning.{sparse_meaning}
+use Rattle.vx_schemes_text.specs.Dictionary.Meaning.{string_dict_meaning, binary_dict_meaning}
+use Rattle.vx_schemes_text.specs.NullSparse.Meaning.{null_dominated_meaning}
+use Rattle.vx_schemes_text.specs.VarBin.Meaning.{var_bin_meaning}
+use Rattle.vx_schemes_time.specs.Temporal.Meaning.{temporal_meaning}
 use Rattle.vx_compressor.specs.Cascade.{Setting, leaf_tree}
 
 -- in the order in which they are judged
@@ -20,7 +24,8 @@ abbrev pub shipped_schemes : List Meaning
 shipped_schemes =
     for_meaning (record { 0 = tt }) ∷ zig_zag_meaning (record {}) ∷ bit_packing_meaning (record { 0 = tt }) ∷ sparse_meaning (record {})
     ∷ int_dict_meaning (record {}) ∷ run_end_meaning (record {}) ∷ sequence_meaning (record {}) ∷ int_rle_meaning (record {})
-    ∷ delta_meaning default_delta ∷ []
+    ∷ delta_meaning default_delta ∷ string_dict_meaning (record {}) ∷ null_dominated_meaning (record {}) ∷ binary_dict_meaning (record {})
+    ∷ var_bin_meaning (record {}) ∷ temporal_meaning (record {}) ∷ []
 
 -- the shipped schemes with these sample words
 abbrev pub shipped_setting : List ℕ → Setting

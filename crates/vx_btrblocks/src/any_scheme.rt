@@ -21,6 +21,10 @@ use vx_scheme::{
 };
 use vx_schemes::{BitPackingScheme, FoRScheme, IntDictScheme, ZigZagScheme};
 use vx_schemes_runs::{DeltaScheme, IntRLEScheme, RunEndScheme, SequenceScheme, SparseScheme};
+use vx_schemes_text::{
+    BinaryDictScheme, NullDominatedSparseScheme, StringDictScheme, VarBinScheme,
+};
+use vx_schemes_time::TemporalScheme;
 
 /// A shipped scheme, or one of a caller's. Every call hands its arguments to the scheme inside and answers what that answers.
 #[derive(Clone, Copy, Debug, PartialEq, Eq)]
@@ -34,6 +38,11 @@ pub enum AnyScheme<X> {
     Sequence(SequenceScheme),
     IntRLE(IntRLEScheme),
     Delta(DeltaScheme),
+    StringDict(StringDictScheme),
+    NullDominatedSparse(NullDominatedSparseScheme),
+    BinaryDict(BinaryDictScheme),
+    VarBin(VarBinScheme),
+    Temporal(TemporalScheme),
     Own(X),
 }
 
@@ -50,6 +59,11 @@ macro_rules! with_scheme {
             AnyScheme::Sequence($scheme) => $call,
             AnyScheme::IntRLE($scheme) => $call,
             AnyScheme::Delta($scheme) => $call,
+            AnyScheme::StringDict($scheme) => $call,
+            AnyScheme::NullDominatedSparse($scheme) => $call,
+            AnyScheme::BinaryDict($scheme) => $call,
+            AnyScheme::VarBin($scheme) => $call,
+            AnyScheme::Temporal($scheme) => $call,
             AnyScheme::Own($scheme) => $call,
         }
     };
@@ -89,6 +103,13 @@ impl<X: Scheme> Scheme for AnyScheme<X> {
             AnyScheme::Sequence(scheme) => AnyScheme::Sequence(scheme.refine(allowed)),
             AnyScheme::IntRLE(scheme) => AnyScheme::IntRLE(scheme.refine(allowed)),
             AnyScheme::Delta(scheme) => AnyScheme::Delta(scheme.refine(allowed)),
+            AnyScheme::StringDict(scheme) => AnyScheme::StringDict(scheme.refine(allowed)),
+            AnyScheme::NullDominatedSparse(scheme) => {
+                AnyScheme::NullDominatedSparse(scheme.refine(allowed))
+            }
+            AnyScheme::BinaryDict(scheme) => AnyScheme::BinaryDict(scheme.refine(allowed)),
+            AnyScheme::VarBin(scheme) => AnyScheme::VarBin(scheme.refine(allowed)),
+            AnyScheme::Temporal(scheme) => AnyScheme::Temporal(scheme.refine(allowed)),
             AnyScheme::Own(scheme) => AnyScheme::Own(scheme.refine(allowed)),
         }
     }

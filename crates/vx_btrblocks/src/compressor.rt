@@ -20,14 +20,19 @@ use vx_compressor::{CascadingCompressor, Schemes};
 use vx_scheme::Scheme;
 use vx_schemes::{BitPackingScheme, FoRScheme, IntDictScheme, ZigZagScheme};
 use vx_schemes_runs::{DeltaScheme, IntRLEScheme, RunEndScheme, SequenceScheme, SparseScheme};
+use vx_schemes_text::{
+    BinaryDictScheme, NullDominatedSparseScheme, StringDictScheme, VarBinScheme,
+};
+use vx_schemes_time::TemporalScheme;
 
 /// Compresses columns with the shipped schemes and a caller's. `X` is the type of the caller's schemes, `NoScheme` where
 /// there are none.
 #[derive(Drop)]
 pub struct BtrBlocksCompressor<X: Scheme>(pub CascadingCompressor<AnyScheme<X>>);
 
-/// The shipped schemes, in the order in which they are judged, as a list that schemes of a caller's may join: frame of
-/// reference, zigzag, bit packing, sparse, dictionary, run end, sequence, run length, delta. Refuses NoMemory alone.
+/// The shipped schemes, in the order in which they are judged, as a list that schemes of a caller's may join: of integers
+/// frame of reference, zigzag, bit packing, sparse, dictionary, run end, sequence, run length and delta; of texts dictionary
+/// and sparse; of binaries dictionary and concatenation; of timestamps their parts. Refuses NoMemory alone.
 pub fn shipped_schemes<X: Scheme>(alloc: Global) -> VortexResult<Vec<AnyScheme<X>>>
     ensures { OrMemory result (λ schemes. map (any_meaning X.meaning) schemes.items ≡ shipped_schemes) }
 {
@@ -41,6 +46,11 @@ pub fn shipped_schemes<X: Scheme>(alloc: Global) -> VortexResult<Vec<AnyScheme<X
     schemes.push(AnyScheme::Sequence(SequenceScheme))?;
     schemes.push(AnyScheme::IntRLE(IntRLEScheme))?;
     schemes.push(AnyScheme::Delta(DeltaScheme::default()))?;
+    schemes.push(AnyScheme::StringDict(StringDictScheme))?;
+    schemes.push(AnyScheme::NullDominatedSparse(NullDominatedSparseScheme))?;
+    schemes.push(AnyScheme::BinaryDict(BinaryDictScheme))?;
+    schemes.push(AnyScheme::VarBin(VarBinScheme))?;
+    schemes.push(AnyScheme::Temporal(TemporalScheme))?;
     Ok(schemes)
 }
 

@@ -19,6 +19,15 @@ ghost use Rattle.vx_schemes_runs.specs.declared.integer.run_end.RunEndScheme.{Ru
 ghost use Rattle.vx_schemes_runs.specs.declared.integer.run_length.IntRLEScheme.{IntRLEScheme};
 ghost use Rattle.vx_schemes_runs.specs.declared.integer.sequence.SequenceScheme.{SequenceScheme};
 ghost use Rattle.vx_schemes_runs.specs.declared.integer.sparse.SparseScheme.{SparseScheme};
+ghost use Rattle.vx_schemes_text.specs.Dictionary.Meaning.{string_dict_meaning, binary_dict_meaning};
+ghost use Rattle.vx_schemes_text.specs.NullSparse.Meaning.{null_dominated_meaning};
+ghost use Rattle.vx_schemes_text.specs.VarBin.Meaning.{var_bin_meaning};
+ghost use Rattle.vx_schemes_text.specs.declared.string.dictionary.StringDictScheme.{StringDictScheme};
+ghost use Rattle.vx_schemes_text.specs.declared.string.sparse.NullDominatedSparseScheme.{NullDominatedSparseScheme};
+ghost use Rattle.vx_schemes_text.specs.declared.binary.dictionary.BinaryDictScheme.{BinaryDictScheme};
+ghost use Rattle.vx_schemes_text.specs.declared.binary.var_bin.VarBinScheme.{VarBinScheme};
+ghost use Rattle.vx_schemes_time.specs.Temporal.Meaning.{temporal_meaning};
+ghost use Rattle.vx_schemes_time.specs.declared.temporal.TemporalScheme.{TemporalScheme};
 
 /// Does nothing; its contract holds the law: the root of each tree that a shipped scheme finishes or joins has an encoding
 /// that the scheme declares as produced, or is the column's plain tree.
@@ -32,4 +41,9 @@ pub fn laws_of_shipped_schemes()
     ensures sequences { (scheme : SequenceScheme) → MakesProduced (sequence_meaning scheme) }
     ensures deltas { (scheme : DeltaScheme) → MakesProduced (delta_meaning scheme) }
     ensures sparse { (scheme : SparseScheme) → MakesProduced (sparse_meaning scheme) }
+    ensures text_dictionaries { (scheme : StringDictScheme) → MakesProduced (string_dict_meaning scheme) }
+    ensures sparse_texts { (scheme : NullDominatedSparseScheme) → MakesProduced (null_dominated_meaning scheme) }
+    ensures binary_dictionaries { (scheme : BinaryDictScheme) → MakesProduced (binary_dict_meaning scheme) }
+    ensures concatenations { (scheme : VarBinScheme) → MakesProduced (var_bin_meaning scheme) }
+    ensures timestamps { (scheme : TemporalScheme) → MakesProduced (temporal_meaning scheme) }
 {}

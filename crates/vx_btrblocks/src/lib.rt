@@ -23,4 +23,8 @@ pub use vx_scheme::{
 };
 pub use vx_schemes::{BitPackingScheme, FoRScheme, IntDictScheme, ZigZagScheme};
 pub use vx_schemes_runs::{DeltaScheme, IntRLEScheme, RunEndScheme, SequenceScheme, SparseScheme};
+pub use vx_schemes_text::{
+    BinaryDictScheme, NullDominatedSparseScheme, StringDictScheme, VarBinScheme,
+};
+pub use vx_schemes_time::TemporalScheme;
 pub use vx_values::Ints;

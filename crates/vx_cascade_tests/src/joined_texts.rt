@@ -66,7 +66,8 @@ fn offsets_become_less_than_a_byte_each(rt: HostRuntime) -> Result<(), Fail> {
     Ok(())
 }
 
-// Four offsets of 8 bytes and 36 bytes of text are more than three times 16. The scheme takes texts alone, not binaries.
+// Four offsets of 8 bytes and 36 bytes of text are more than three times 16. The scheme takes texts alone: binaries become the
+// tree of the shipped scheme, their bytes over a sequence.
 #[test]
 fn no_tree_is_larger_than_the_plain_one(rt: HostRuntime) -> Result<(), Fail> {
     let twelves = byte_rows(
@@ -82,7 +83,11 @@ fn no_tree_is_larger_than_the_plain_one(rt: HostRuntime) -> Result<(), Fail> {
     )?;
     assert!(rt;
         texts == ((VarBinView, 48, None), (VarBinView, 48, None))
-            && binaries == ((VarBinView, 16368, None), (VarBinView, 16368, None))
+            && binaries
+                == (
+                    (VarBin, 2046, Some(Sequence)),
+                    (VarBin, 2046, Some(Sequence))
+                )
     );
     Ok(())
 }

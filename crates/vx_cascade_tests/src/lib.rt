@@ -26,6 +26,8 @@ mod shipped;
 #[cfg(test)]
 mod span_frame;
 #[cfg(test)]
+mod texts;
+#[cfg(test)]
 mod there_and_back;
 #[cfg(test)]
 mod timestamps;

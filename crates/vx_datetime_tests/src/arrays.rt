@@ -1,6 +1,5 @@
 //! Arrays of timestamps in parts.
 
-use crate::stamps::{has_stamps, stamps, utc};
 use std::alloc::Global;
 use std::test::Fail;
 use vx_array::ArrayRef;
@@ -9,7 +8,7 @@ use vx_base::PType::{I64, U8};
 use vx_base::TimeUnit::{Milliseconds, Seconds};
 use vx_base::{ArrayId, DType, VortexError, VortexResult};
 use vx_datetime::{DateTimeParts, DateTimePartsArray, DateTimePartsData, DateTimePartsOwnedExt};
-use vx_fixtures::{context, flat, has_rows};
+use vx_fixtures::{context, flat, has_rows, has_stamps, stamps, utc};
 use vx_temporal::decode_to_temporal;
 
 // Whether milliseconds come back from an array of parts, of the same type.

@@ -1,6 +1,5 @@
 //! Columns of timestamps, split and joined again.
 
-use crate::stamps::{has_stamps, stamps, utc};
 use std::alloc::Global;
 use std::test::Fail;
 use vx_array::ArrayRef;
@@ -8,7 +7,7 @@ use vx_base::Nullability::{NonNullable, Nullable};
 use vx_base::PType::{I32, I64};
 use vx_base::TimeUnit::{Microseconds, Milliseconds, Nanoseconds, Seconds};
 use vx_base::{ArrayId, DType, Scalar, TimeUnit, VortexError, VortexResult};
-use vx_fixtures::{context, flat, has_rows};
+use vx_fixtures::{context, flat, has_rows, has_stamps, stamps, utc};
 use vx_temporal::{DateTimePartsParts, TemporalParts, decode_to_temporal, split_temporal};
 
 // The parts of these rows.

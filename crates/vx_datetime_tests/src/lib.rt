@@ -7,5 +7,3 @@ mod arrays;
 mod columns;
 #[cfg(test)]
 mod single;
-#[cfg(test)]
-mod stamps;

@@ -3,6 +3,8 @@ use Rattle.vx_schemes_runs.proofs.Delta.Produced.{deltas-produced}
 use Rattle.vx_schemes_runs.proofs.RunsProduced.{run_ends-produced, blocks-produced}
 use Rattle.vx_schemes_runs.proofs.Sparse.Produced.{sparse-produced}
 use Rattle.vx_schemes_runs.proofs.Sequence.Produced.{sequences-produced}
+use Rattle.vx_schemes_text.proofs.Produced.{string_dicts-produced, null_sparse-produced, binary_dicts-produced, var_bins-produced}
+use Rattle.vx_schemes_time.proofs.Produced.{temporals-produced}
 use Rattle.vx_btrblocks.proofs.laws.laws_of_shipped_schemes.Goals as goal
 
 pub returns-clause-frames : goal.returns-clause-frames
@@ -31,3 +33,18 @@ returns-clause-deltas c = deltas-produced
 
 pub returns-clause-sparse : goal.returns-clause-sparse
 returns-clause-sparse c = sparse-produced
+
+pub returns-clause-text_dictionaries : goal.returns-clause-text_dictionaries
+returns-clause-text_dictionaries c = string_dicts-produced
+
+pub returns-clause-sparse_texts : goal.returns-clause-sparse_texts
+returns-clause-sparse_texts c = null_sparse-produced
+
+pub returns-clause-binary_dictionaries : goal.returns-clause-binary_dictionaries
+returns-clause-binary_dictionaries c = binary_dicts-produced
+
+pub returns-clause-concatenations : goal.returns-clause-concatenations
+returns-clause-concatenations c = var_bins-produced
+
+pub returns-clause-timestamps : goal.returns-clause-timestamps
+returns-clause-timestamps c = temporals-produced

@@ -1,0 +1,9 @@
+pub mod AppearanceLemmas
+pub mod CodeParts
+pub mod CodebookLemmas
+pub mod CodedRowLemmas
+pub mod DictionaryParts
+pub mod Produced
+pub mod SparseParts
+pub mod TextFacts
+pub mod ViewParts

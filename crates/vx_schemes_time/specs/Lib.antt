@@ -1,0 +1,4 @@
+pub mod Narrowest
+pub mod NarrowestLaws
+pub mod Stored
+pub mod Temporal
