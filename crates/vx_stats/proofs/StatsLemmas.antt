@@ -14,7 +14,7 @@ use Rattle.vx_model.specs.Rows.{masked_rows, valid_rows}
 use Rattle.vx_stats.specs.Stats.{valid_wholes, value_count, null_count, least_in, greatest_in, runs_after, run_count, distinct_counts, distinct_info}
 use Rattle.vx_stats.specs.declared.options.GenerateStatsOptions.{GenerateStatsOptions}
 use Rattle.vx_stats.specs.Tables.{LiesBetween}
-use Rattle.vx_stats.specs.Tally.{IsTallyAfter, IsTally}
+use Rattle.vx_stats.specs.Tally.{IsTallyAfter, IsTally, tally_of}
 use Rattle.vx_stats.specs.declared.integer.tally.Tally.{Tally}
 use Rattle.vx_base.specs.Masks.{true_count}
 use Rattle.vx_model.proofs.RowLemmas.{length-cells}
@@ -123,13 +123,14 @@ once-min z = grind (arith, ints)
 once-max : (z : ℤ) → int_max z z ≡ z
 once-max z = grind (arith, ints)
 
-pub all-tallied : {T : Type 0} (whole : T → ℤ) (p : PType) (first : ℤ) (zs : List ℤ) (t : Tally T) → lies_in p first ≡ true → BeginsWith first zs → IsTallyAfter whole first zs t → IsTally whole p zs t
-all-tallied whole p first zs t held begin after =
+pub all-tallied : {T : Type 0} (whole : T → ℤ) (p : PType) (x : T) (zs : List ℤ) (t : Tally T) → lies_in p (whole x) ≡ true → BeginsWith (whole x) zs → IsTallyAfter whole (tally_of x) zs t → IsTally whole p zs t
+all-tallied whole p x zs t held begin after =
+    let first = whole x in
     let runs : runs_after first zs ≡ runs_after first begin.rest = ap (runs_after first) begin.is ∙ ap (λ b. cond b 0 1 + runs_after first begin.rest) (same-eq first) ∙ omega arith in
     let low : fold int_min first zs ≡ fold int_min (greatest p) zs = rw (begin.is, once-min first, greatest-above p first held) refl in
     let high : fold int_max first zs ≡ fold int_max (least p) zs = rw (begin.is, once-max first, least-below p first held) refl in
     record {
-      runs = ap suc (after.changes ∙ runs) ∙ sym (ap run_count begin.is);
+      runs = ap suc (omega (arith, after.changes, runs)) ∙ sym (ap run_count begin.is);
       least = after.least ∙ low;
       greatest = after.greatest ∙ high;
     }

@@ -7,8 +7,8 @@ returns-in-Some g c =
     let whole = g.T.Integer.whole in
     let x = c.index-items-row.result in
     let start = begins whole c.args.mask.now c.args.items.now c.in-Some.row x c.requires.bits (sym c.first.ensures ∙ c.in-Some.is) c.index-items-row.is in
-    let after = rw c.as_slice.ensures at c.tally_valid.ensures in
-    all-tallied whole g.T.Integer.kind (whole x) _ c.tally_valid.result c.to_whole-whole.ensures.held start after
+    let after = rw c.as_slice.ensures at c.tally_groups.ensures in
+    all-tallied whole g.T.Integer.kind x _ c.tally_groups.result c.to_whole-whole.ensures.held start after
 
 pub returns-in-None : goal.returns-in-None
 returns-in-None g c = nothing g.T.Integer.whole c.args.mask.now c.args.items.now c.requires.bits (sym c.first.ensures ∙ c.in-None.is)

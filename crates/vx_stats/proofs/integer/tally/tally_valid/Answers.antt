@@ -1,6 +1,18 @@
-use Rattle.std.proofs.Common.{◌∙◌, ◌+◌, false, get_or, arith}
-use Rattle.vx_stats.proofs.TallyLemmas.{left, left-next, step}
+use Rattle.std.proofs.Common.{rules, ◌∙◌, ◌+◌, false, get_or, arith}
+use Rattle.vx_stats.proofs.TallyLemmas.{left, left-next, step, min-above, max-below}
 use Rattle.vx_stats.proofs.integer.tally.tally_valid.Goals as goal
+
+pub loop-row-init : goal.loop-row-init
+loop-row-init g c =
+    record {
+      few = omega arith;
+      above = min-above _ _ c.requires.last.least;
+      below = max-below _ _ c.requires.last.greatest;
+      changes = search rules;
+      least = search rules;
+      greatest = search rules;
+      final = search rules;
+    }
 
 pub loop-row-preserved : goal.loop-row-preserved
 loop-row-preserved g c =
@@ -21,4 +33,5 @@ loop-row-preserved g c =
       changes = omega (arith, s.changes);
       least = s.least ∙ c.loop-row.invariant.least;
       greatest = s.greatest ∙ c.loop-row.invariant.greatest;
+      final = s.final ∙ c.loop-row.invariant.final;
     }
