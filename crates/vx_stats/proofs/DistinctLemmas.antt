@@ -14,6 +14,7 @@ use Rattle.std.proofs.lemmas.List.{drop_more, length-map, map-append}
 use Rattle.std.proofs.lemmas.List.Sums.{sum_by-cons}
 use Rattle.std.proofs.lemmas.List.Sorted.{sum_by-IsPermutation}
 use Rattle.vx_stats.specs.Distinct.{times, with_number, distinct, value_counts, most_frequent}
+use Rattle.vx_stats.specs.Stats.{runs_after, run_count}
 use Rattle.vx_stats.specs.Runs.{runs, runs_from, IsRising, IsRisingFrom, better, whole_count, whole_counts}
 use Rattle.vx_blocks.proofs.Extremes.{less}
 use Rattle.vx_stats.proofs.TallyLemmas.{same-eq, left, left-next}
@@ -86,10 +87,6 @@ times-below z (w ∷ ws) b = times-next z w ws ∙ rw (lt-unequal z w b.0) (omeg
 with-at_front : (z : ℤ) (ds : List ℤ) → IsBelow z ds → with_number z ds ≡ z ∷ ds
 with-at_front z [] b = refl
 with-at_front z (d ∷ ds) b = cond-true (int_lt z d) _ _ b.0
-
-pub ascending-distinct : (zs : List ℤ) → IsAscending zs → distinct zs ≡ zs
-ascending-distinct [] a = refl
-ascending-distinct (z ∷ zs) a = ap (with_number z) (ascending-distinct zs a.1) ∙ with-at_front z zs a.0
 
 with-same : (z : ℤ) (ds : List ℤ) → with_number z (z ∷ ds) ≡ z ∷ ds
 with-same z ds = cond-false (int_lt z z) _ _ (not-below-self z) ∙ cond-true (int_eq z z) _ _ (same-eq z)
@@ -365,34 +362,38 @@ run-next whole items row v x n done all within is e =
       λ f. done-more (whole_count whole) done (v, n) (runs_from (whole x) 1 rest) all (ap (λ l. whole_counts whole done ++ l) (sym (next ∙ cond-false _ _ _ f)) ∙ e),
     )
 
--- ---- numbers of which each is above the one before
+-- ---- numbers that never fall have as many runs as distinct ones
 
-abbrev pub IsClimbing : ℤ → List ℤ → Type 0
-IsClimbing z [] = ⊤
-IsClimbing z (w ∷ ws) = (int_lt z w ≡ true) × IsClimbing w ws
+runs_from-length : (z : ℤ) (n : ℕ) (zs : List ℤ) → length (runs_from z n zs) ≡ suc (runs_after z zs)
+runs_from-length z n [] = refl
+runs_from-length z n (w ∷ ws) =
+    cond_both (int_eq z w) (runs_from z (n + 1) ws) ((z, n) ∷ runs_from w 1 ws) (λ l. length l ≡ suc (cond (int_eq z w) 0 1 + runs_after w ws))
+    (λ e. omega (arith, runs_from-length z (n + 1) ws, ap (λ x. runs_after x ws) (eq-same z w e), ap (λ b. cond {A = ℕ} b 0 1) e))
+    (λ f. omega (arith, runs_from-length w 1 ws, ap (λ b. cond {A = ℕ} b 0 1) f))
 
-climbing-below : (z w : ℤ) (ws : List ℤ) → int_lt z w ≡ true → IsClimbing w ws → IsBelow z (w ∷ ws)
-climbing-below z w [] l c = (l, tt)
-climbing-below z w (v ∷ vs) l c = (l, climbing-below z v vs (lt-trans z w v l c.0) c.1)
+runs-length : (zs : List ℤ) → length (runs zs) ≡ run_count zs
+runs-length [] = refl
+runs-length (z ∷ zs) = runs_from-length z 1 zs
 
-climbing-ascends : (z : ℤ) (zs : List ℤ) → IsClimbing z zs → IsAscending (z ∷ zs)
-climbing-ascends z [] c = (tt, tt)
-climbing-ascends z (w ∷ ws) c = (climbing-below z w ws c.0 c.1, climbing-ascends w ws c.1)
+pub rising-distinct : (zs : List ℤ) → IsRising zs → run_count zs ≡ length (distinct zs)
+rising-distinct zs r = sym (runs-length zs) ∙ ap length (value_counts-rising zs r) ∙ length-map (distinct zs) (λ z. (z, times zs z))
 
-pub climbing-start : {T : Type 0} (whole : T → ℤ) (items : List T) (x : T) → (length items == 0) ≡ false → x ≡ get_or items 0 x
-    → IsClimbing (whole x) (map whole (drop 1 items)) → IsAscending (map whole items)
-climbing-start whole [] x some is c = absurd cc
-climbing-start whole (y ∷ ys) x some is c = climbing-ascends (whole y) (map whole ys) (subst (λ v. IsClimbing (whole v) (map whole ys)) is c)
+-- the runs so far, and what is left after the last integer
+pub record RunsSoFar (last : ℤ) (runs : ℕ) (left all : List ℤ) : Type 0 where
+  pub count : runs + runs_after last left ≡ run_count all
+  pub rising : IsRisingFrom last left → IsRising all
 
-pub climbing-next : {T : Type 0} (whole : T → ℤ) (items : List T) (row : ℕ) (last x : T) → row < length items → x ≡ get_or items row x → int_lt (whole last) (whole x) ≡ true
-    → IsClimbing (whole x) (map whole (drop (row + 1) items)) → IsClimbing (whole last) (map whole (drop row items))
-climbing-next whole items row last x within is l c =
-    let next : drop row items ≡ x ∷ drop (row + 1) items = drop_more items row x within ∙ ap (λ y. y ∷ drop (row + 1) items) (sym is) in
-    let both : IsClimbing (whole last) (map whole (x ∷ drop (row + 1) items)) = (l, c) in
-    subst (λ xs. IsClimbing (whole last) (map whole xs)) (sym next) both
+pub runs-begun : {T : Type 0} (whole : T → ℤ) (items : List T) (x : T) → (length items == 0) ≡ false → x ≡ get_or items 0 x → RunsSoFar (whole x) 1 (map whole (drop 1 items)) (map whole items)
+runs-begun whole [] x some is = absurd cc
+runs-begun whole (y ∷ ys) x some is = rw is (record { count = omega arith; rising = λ r. r })
 
-pub ascending-all : {T : Type 0} (whole : T → ℤ) (items : List T) → IsAscending (map whole items) → length (distinct (map whole items)) ≡ length items
-ascending-all whole items a = ap length (ascending-distinct (map whole items) a) ∙ length-map items whole
+pub runs-next : {T : Type 0} (whole : T → ℤ) (items : List T) (row : ℕ) (last x : T) (runs change : ℕ) (all : List ℤ) → row < length items → x ≡ get_or items row x → int_lt (whole x) (whole last) ≡ false
+    → change ≡ cond (int_eq (whole last) (whole x)) 0 1 → RunsSoFar (whole last) runs (map whole (drop row items)) all → RunsSoFar (whole x) (runs + change) (map whole (drop (row + 1) items)) all
+runs-next whole items row last x runs change all within is above differs before =
+    let rest = map whole (drop (row + 1) items) in
+    let next : map whole (drop row items) ≡ whole x ∷ rest = ap (map whole) (drop_more items row x within ∙ ap (λ y. y ∷ drop (row + 1) items) (sym is)) in
+    let here = subst (λ l. RunsSoFar (whole last) runs l all) next before in
+    record { count = omega (arith, here.count, differs); rising = λ r. here.rising (above, r) }
 
 -- ---- the laws
 

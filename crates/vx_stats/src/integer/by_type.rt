@@ -1,6 +1,6 @@
 //! The parts of statistics over integers of any type: each call chooses its generic function by the type.
 
-ghost use Rattle.std.specs.Prelude.{◌≡◌, ◌<◌, ◌≤◌, ◌^◌, ◌≤ℤ◌, length, map, true};
+ghost use Rattle.std.specs.Prelude.{◌≡◌, ◌<◌, ◌≤◌, ◌^◌, ◌≤ℤ◌, length, map, true, IfSome};
 ghost use Rattle.vx_values.specs.IntsOf.{ptype_of, wholes_of};
 ghost use Rattle.vx_base.specs.Answers.{OrMemory};
 ghost use Rattle.vx_base.specs.PlainValue.{int};
@@ -8,12 +8,12 @@ ghost use Rattle.vx_model.specs.Refusals.{validity_length};
 ghost use Rattle.vx_model.specs.Rows.{valid_rows};
 ghost use Rattle.vx_stats.specs.Counts.{counts_of};
 ghost use Rattle.vx_stats.specs.Erased.{ptype_in, typed_of, extremes_of};
-ghost use Rattle.vx_stats.specs.Stats.{distinct_count, value_count, extremes_in, extremes_alone};
+ghost use Rattle.vx_stats.specs.Stats.{distinct_count, extremes_in, extremes_alone};
 ghost use Rattle.vx_stats.specs.Stats as stats;
 
 use crate::integer::counts::{RowCounts, summary, with_distinct};
 use crate::integer::erased::ErasedStats;
-use crate::integer::rising::rises;
+use crate::integer::rising::rising_runs;
 use crate::integer::slots::distinct_lower_bound;
 use crate::options::GenerateStatsOptions;
 use std::alloc::Global;
@@ -100,17 +100,18 @@ pub(crate) fn distinct_lower_bound_of(
     lower_bound_by_type!(alloc, values, valid, enough; U8, U16, U32, U64, I8, I16, I32, I64)
 }
 
-macro_rules! rises_by_type {
+macro_rules! rising_runs_by_type {
     ($values:expr, $valid:expr; $($kind:ident),*) => {
         match $values {
-            $(Ints::$kind(items) => rises(items.as_slice(), $valid),)*
+            $(Ints::$kind(items) => rising_runs(items.as_slice(), $valid),)*
         }
     };
 }
 
-/// Whether no row is null and the values ascend strictly, so that all of them are distinct. False says nothing.
-pub(crate) fn is_rising(values: &Ints, valid: &Option<Mask>) -> bool
-    ensures { result ≡ true → distinct_count (valid_rows valid.now (map int (wholes_of values.now))) ≡ value_count (valid_rows valid.now (map int (wholes_of values.now))) }
+/// The distinct count of values without nulls that never fall; None of any others.
+pub(crate) fn rising_runs_of(values: &Ints, valid: &Option<Mask>) -> Option<u32>
+    requires { length (wholes_of values.now) < 2 ^ 32 }
+    ensures { IfSome result (λ runs. runs ≡ distinct_count (valid_rows valid.now (map int (wholes_of values.now)))) }
 {
-    rises_by_type!(values, valid; U8, U16, U32, U64, I8, I16, I32, I64)
+    rising_runs_by_type!(values, valid; U8, U16, U32, U64, I8, I16, I32, I64)
 }

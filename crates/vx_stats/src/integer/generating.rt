@@ -14,7 +14,7 @@ ghost use Rattle.vx_stats.specs.Options.{no_options};
 ghost use Rattle.vx_stats.specs.Stats.{stats_of, stats_refusal, value_count, distinct_count};
 
 use super::IntegerStats;
-use super::by_type::{completed, distinct_lower_bound_of, is_rising, summary_of};
+use super::by_type::{completed, distinct_lower_bound_of, rising_runs_of, summary_of};
 use crate::options::GenerateStatsOptions;
 use std::alloc::Global;
 use vx_array::{ArrayRef, Node};
@@ -116,8 +116,8 @@ impl IntegerStats {
             return Ok(false);
         }
         let (values, valid, _) = plain.as_primitive();
-        if is_rising(values, valid) {
-            return Ok(true);
+        if let Some(distinct) = rising_runs_of(values, valid) {
+            return Ok(distinct > self.value_count() / 2);
         }
         // In a narrow range a table counts all of them, and as fast.
         if self.erased().max_minus_min() < plain.len() {

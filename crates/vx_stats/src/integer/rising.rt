@@ -1,11 +1,12 @@
-//! Whether integers ascend strictly: then all of them are distinct, which one pass finds without memory.
+//! The number of runs of integers that never fall: their distinct count, which one pass finds without memory.
 
-ghost use Rattle.std.specs.Prelude.{◌≡◌, length, map, true, int_lt};
+ghost use Rattle.std.specs.Prelude.{◌≡◌, ◌<◌, ◌^◌, length, map, IfSome, int_lt};
 ghost use Rattle.vx_base.specs.PlainValue.{int};
 ghost use Rattle.vx_model.specs.Rows.{valid_rows};
 ghost use Rattle.vx_stats.specs.Distinct.{distinct};
-ghost use Rattle.vx_stats.specs.Stats.{distinct_count, value_count};
+ghost use Rattle.vx_stats.specs.Stats.{distinct_count};
 
+use crate::integer::tally::change;
 use vx_base::{Integer, Mask};
 
 #[inline(always)]
@@ -15,30 +16,34 @@ fn is_less<T: Integer>(a: T, b: T) -> bool
     a < b
 }
 
-// Whether the integers ascend strictly. Stops at the first that isn't above the one before.
-fn all_rise<T: Integer>(items: &[T]) -> bool
-    ensures { result ≡ true → length (distinct (map T.whole items.now)) ≡ length items.now }
+// The number of runs of integers that never fall: equal ones stand side by side, so it is the distinct count. None at the
+// first integer below the one before it, which ends the pass.
+fn runs_of_all<T: Integer>(items: &[T]) -> Option<u32>
+    requires { length items.now < 2 ^ 32 }
+    ensures { IfSome result (λ runs. runs ≡ length (distinct (map T.whole items.now))) }
 {
     if items.is_empty() {
-        return true;
+        return Some(0);
     }
-    let mut last = items[0];
+    let (mut last, mut runs) = (items[0], 1);
     for row in 1..items.len() {
         let item = items[row];
-        if !is_less(last, item) {
-            return false;
+        if is_less(item, last) {
+            return None;
         }
+        runs += change(last, item);
         last = item;
     }
-    true
+    Some(runs)
 }
 
-/// Whether no row is null and the integers ascend strictly, so that all of them are distinct. False says nothing.
-pub(crate) fn rises<T: Integer>(items: &[T], valid: &Option<Mask>) -> bool
-    ensures { result ≡ true → distinct_count (valid_rows valid.now (map int (map T.whole items.now))) ≡ value_count (valid_rows valid.now (map int (map T.whole items.now))) }
+/// The distinct count of integers without nulls that never fall; None of any others.
+pub(crate) fn rising_runs<T: Integer>(items: &[T], valid: &Option<Mask>) -> Option<u32>
+    requires { length items.now < 2 ^ 32 }
+    ensures { IfSome result (λ runs. runs ≡ distinct_count (valid_rows valid.now (map int (map T.whole items.now)))) }
 {
     match valid {
-        Some(_) => false,
-        None => all_rise(items),
+        Some(_) => None,
+        None => runs_of_all(items),
     }
 }

@@ -35,9 +35,9 @@ impl<T: Integer> Tally<T> {
     }
 }
 
-// 1 where an integer differs from the one before, else 0.
+/// 1 where an integer differs from the one before, else 0.
 #[inline(always)]
-fn change<T: Integer>(last: T, item: T) -> u32
+pub(crate) fn change<T: Integer>(last: T, item: T) -> u32
     ensures value { result ≡ (if int_eq (T.whole last) (T.whole item) then 0 else 1) }
     ensures most { result ≤ 1 }
 {
