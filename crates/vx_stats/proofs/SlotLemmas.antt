@@ -1,11 +1,11 @@
 -- Slots and the integers that take them.
 use Rattle.std.proofs.Common.{◌≡◌, ℕ, suc, ◌+◌, ◌<◌, ◌≤◌, ℤ, Bool, true, false, cond, List, [], ◌∷◌, ◌++◌, length, get_or, set, refl, sym, ap, subst, inl, inr, ◌∙◌, arith}
 use mir.Val.{bool_byte}
-use Rattle.std.specs.Prelude.{not, ◌==◌}
+use Rattle.std.specs.Prelude.{not, ◌==◌, ◌||◌, ◌&&◌}
 use Rattle.std.specs.List.{AllByRecursion}
 use Rattle.std.specs.Ordering.{int_eq}
 use Rattle.std.proofs.lemmas.Bool.{cases_eq}
-use Rattle.std.proofs.lemmas.List.{get_or-set_same, get_or-set_other, get_or_past}
+use Rattle.std.proofs.lemmas.List.{get_or-set_same, get_or-set_other, get_or_past, set-get_or}
 use Rattle.std.proofs.lemmas.List.Sums.{sum_by-append}
 use Rattle.vx_base.specs.declared.ptype.PType.{PType}
 use Rattle.vx_base.specs.Integers.{bits_in}
@@ -62,7 +62,7 @@ set-keeps-all p taken shift k (z ∷ zs) within all = (set-keeps taken k _ withi
 
 -- ---- one more number takes its slot
 
-pub took : (p : PType) (zs : List ℤ) (w : ℤ) (old new : Slots) (slot : ℕ) → slot ≡ slot_of old.shift (bits_in p w) → slot < length old.taken.items → new.shift ≡ old.shift → new.taken.items ≡ set old.taken.items slot true
+took : (p : PType) (zs : List ℤ) (w : ℤ) (old new : Slots) (slot : ℕ) → slot ≡ slot_of old.shift (bits_in p w) → slot < length old.taken.items → new.shift ≡ old.shift → new.taken.items ≡ set old.taken.items slot true
     → new.count ≤ old.count + bool_byte (not (get_or old.taken.items slot true)) → TakenBy p zs old → TakenBy p (w ∷ zs) new
 took p zs w old new slot is within shift taken few before =
     let all = set-keeps-all p old.taken.items old.shift slot zs within before.taken in
@@ -79,8 +79,33 @@ took p zs w old new slot is within shift taken few before =
         let new = length-distinct-new w zs (untaken p old.taken.items old.shift w zs before.taken (ap (λ k. get_or old.taken.items k true) (sym is) ∙ e)) in
         omega (arith, few, ap (λ b. bool_byte (not b)) e, before.few, new)
 
-pub no-slot : (p : PType) (zs : List ℤ) (w : ℤ) (slots : Slots) → length slots.taken.items ≤ slot_of slots.shift (bits_in p w) → TakenBy p zs slots → TakenBy p (w ∷ zs) slots
-no-slot p zs w slots past before = record { few = omega (arith, before.few, length-with w (distinct zs)); taken = (get_or_past slots.taken.items _ true past, before.taken) }
+-- an item whose bit is false leaves its slot and the count as they were
+passed : (p : PType) (zs : List ℤ) (old new : Slots) (slot : ℕ) → slot < length old.taken.items → new.shift ≡ old.shift → new.taken.items ≡ set old.taken.items slot (get_or old.taken.items slot true) → new.count ≤ old.count → TakenBy p zs old → TakenBy p zs new
+passed p zs old new slot within shift taken few before =
+    let same : new.taken.items ≡ old.taken.items = taken ∙ set-get_or old.taken.items slot true in
+    record {
+      few = omega (arith, few, before.few);
+      taken = subst (λ n. AllByRecursion (HasSlot p new.taken.items n) zs) (sym shift) (subst (λ t. AllByRecursion (HasSlot p t old.shift) zs) (sym same) before.taken);
+    }
+
+-- one more number takes its slot where its bit is true
+pub took_if : (p : PType) (bit : Bool) (zs : List ℤ) (w : ℤ) (old new : Slots) (slot : ℕ) → slot ≡ slot_of old.shift (bits_in p w) → slot < length old.taken.items → new.shift ≡ old.shift
+    → new.taken.items ≡ set old.taken.items slot (get_or old.taken.items slot true || bit) → new.count ≤ old.count + bool_byte (bit && not (get_or old.taken.items slot true))
+    → TakenBy p zs old → TakenBy p (cond bit (w ∷ zs) zs) new
+took_if p true zs w old new slot is within shift taken few before = took p zs w old new slot is within shift (taken ∙ ap (set old.taken.items slot) (or_true (get_or old.taken.items slot true))) few before
+  where
+    or_true : (b : Bool) → (b || true) ≡ true
+    or_true true = refl
+    or_true false = refl
+took_if p false zs w old new slot is within shift taken few before = passed p zs old new slot within shift (taken ∙ ap (set old.taken.items slot) (or_false (get_or old.taken.items slot true))) (omega (arith, few)) before
+  where
+    or_false : (b : Bool) → (b || false) ≡ b
+    or_false true = refl
+    or_false false = refl
+
+pub no-slot : (p : PType) (bit : Bool) (zs : List ℤ) (w : ℤ) (slots : Slots) → length slots.taken.items ≤ slot_of slots.shift (bits_in p w) → TakenBy p zs slots → TakenBy p (cond bit (w ∷ zs) zs) slots
+no-slot p true zs w slots past before = record { few = omega (arith, before.few, length-with w (distinct zs)); taken = (get_or_past slots.taken.items _ true past, before.taken) }
+no-slot p false zs w slots past before = before
 
 -- ---- the numbers that took their slots are all but those that are left, in some order
 
@@ -92,13 +117,14 @@ pub record TakenBut (p : PType) (all left : List ℤ) (slots : Slots) : Type 0 w
 pub none-seen : (p : PType) (all : List ℤ) (slots : Slots) → TakenBy p [] slots → TakenBut p all all slots
 none-seen p all slots by = record { seen = []; split = λ z. omega arith; by = by }
 
-pub one-more : (p : PType) (all : List ℤ) (w : ℤ) (left : List ℤ) (old new : Slots) → ((zs : List ℤ) → TakenBy p zs old → TakenBy p (w ∷ zs) new) → TakenBut p all (w ∷ left) old → TakenBut p all left new
-one-more p all w left old new step before =
+pub one-more : (p : PType) (bit : Bool) (all : List ℤ) (w : ℤ) (left : List ℤ) (old new : Slots) → ((zs : List ℤ) → TakenBy p zs old → TakenBy p (cond bit (w ∷ zs) zs) new) → TakenBut p all (cond bit (w ∷ left) left) old → TakenBut p all left new
+one-more p true all w left old new step before =
     record {
       seen = w ∷ before.seen;
       split = λ z. omega (arith, before.split z, times-next z w before.seen, times-next z w left);
       by = step before.seen before.by;
     }
+one-more p false all w left old new step before = record { seen = before.seen; split = before.split; by = step before.seen before.by }
 
 -- more numbers have no fewer distinct ones
 length-more : (ls zs : List ℤ) → length (distinct zs) ≤ length (distinct (ls ++ zs))

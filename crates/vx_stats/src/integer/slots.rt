@@ -1,6 +1,6 @@
 //! A lower bound on the number of distinct integers: integers in different hash slots are distinct.
 
-ghost use Rattle.std.specs.Prelude.{◌≡◌, ◌<◌, ◌≤◌, ◌^◌, ◌/◌, ℤ, List, [], ◌∷◌, length, map, true};
+ghost use Rattle.std.specs.Prelude.{◌≡◌, ◌<◌, ◌≤◌, ◌^◌, ◌/◌, ℤ, List, [], ◌∷◌, length, map, true, if◌then◌else◌};
 ghost use Rattle.vx_base.specs.Answers.{OrMemory};
 ghost use Rattle.vx_base.specs.Integers.{bits_in};
 ghost use Rattle.vx_base.specs.PlainValue.{int};
@@ -47,16 +47,17 @@ impl Slots {
         })
     }
 
-    // Takes the slot of an item, and counts it where it was free.
+    // Takes the slot of an item whose bit is true, and counts it where it was free. Without a branch on the bit: scattered
+    // nulls would make it unpredictable.
     #[inline(always)]
-    fn take<T: Integer>(&mut self, item: T)
-        ensures { (zs : List ℤ) → TakenBy T.kind zs self.old → TakenBy T.kind (T.whole item ∷ zs) self.new }
+    fn take<T: Integer>(&mut self, item: T, bit: bool)
+        ensures { (zs : List ℤ) → TakenBy T.kind zs self.old → TakenBy T.kind (if bit then T.whole item ∷ zs else zs) self.new }
     {
         let slot = slot_of(item, self.shift);
         if slot < self.taken.len() {
-            let free = !self.taken[slot];
-            self.taken[slot] = true;
-            self.count = self.count.saturating_add(usize::from(free));
+            let taken = self.taken[slot];
+            self.taken[slot] = taken | bit;
+            self.count = self.count.saturating_add(usize::from(bit & !taken));
         }
     }
 }
@@ -71,7 +72,7 @@ fn taken_by_all<T: Integer>(alloc: Global, items: &[T], enough: usize) -> Vortex
         if slots.count > enough {
             return Ok(slots.count);
         }
-        slots.take(items[row]);
+        slots.take(items[row], true);
     }
     Ok(slots.count)
 }
@@ -92,10 +93,7 @@ fn taken_by_valid<T: Integer>(
         if slots.count > enough {
             return Ok(slots.count);
         }
-        let item = items[row];
-        if bits[row] {
-            slots.take(item);
-        }
+        slots.take(items[row], bits[row]);
     }
     Ok(slots.count)
 }

@@ -1,4 +1,4 @@
-use Rattle.std.proofs.Common.{◌≡◌, ◌∙◌, map, drop, sym, ap, subst, arith}
+use Rattle.std.proofs.Common.{◌∙◌, map, sym, ap, subst, arith}
 use Rattle.std.proofs.lemmas.List.{drop_all}
 use Rattle.vx_stats.proofs.DistinctLemmas.{RunsSoFar, runs-begun, runs-next, rising-distinct}
 use Rattle.vx_stats.proofs.integer.rising.runs_of_all.Goals as goal

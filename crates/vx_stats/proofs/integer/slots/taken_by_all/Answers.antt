@@ -1,4 +1,4 @@
-use Rattle.std.proofs.Common.{map, drop, ap, subst, arith, ◌∷◌, ◌+◌, ◌∙◌, sym}
+use Rattle.std.proofs.Common.{true, map, drop, ap, subst, arith, ◌∷◌, ◌+◌, ◌∙◌, sym}
 use Rattle.std.proofs.lemmas.List.{drop_more}
 use Rattle.vx_stats.proofs.SlotLemmas.{TakenBut, none-seen, one-more, some-seen}
 use Rattle.vx_stats.proofs.integer.slots.taken_by_all.Goals as goal
@@ -14,7 +14,7 @@ loop-row-preserved g c =
     let x = c.index-items-row.result in
     let rest = drop (c.loop-row.row + 1) items in
     let next = ap (map whole) (drop_more items c.loop-row.row x (omega arith) ∙ ap (λ y. y ∷ rest) (sym c.index-items-row.is)) in
-    one-more g.T.Integer.kind all (whole x) (map whole rest) c.loop-row.slots c.take.new.self c.take.ensures (subst (λ left. TakenBut g.T.Integer.kind all left c.loop-row.slots) next c.loop-row.invariant)
+    one-more g.T.Integer.kind true all (whole x) (map whole rest) c.loop-row.slots c.take.new.self c.take.ensures (subst (λ left. TakenBut g.T.Integer.kind all left c.loop-row.slots) next c.loop-row.invariant)
 
 pub returns : goal.returns
 returns g c = some-seen g.T.Integer.kind (map g.T.Integer.whole c.args.items.now) (map g.T.Integer.whole (drop c.loop-row.row c.args.items.now)) c.loop-row.slots c.loop-row.invariant
