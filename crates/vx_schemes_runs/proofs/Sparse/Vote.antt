@@ -1,18 +1,21 @@
 -- A vote finds the number that more than half of the numbers are, and the verdict by its count is that by the most frequent one; where runs are short, no count is needed.
-use Rattle.std.proofs.Common.{◌≡◌, ◌<◌, ◌≤◌, ◌+◌, ◌*◌, ◌∙◌, ℕ, suc, ℤ, pos, Bool, true, false, cond, List, [], ◌∷◌, length, map, refl, sym, ap, subst, arith}
+use Rattle.std.proofs.Common.{◌≡◌, ◌<◌, ◌≤◌, ◌+◌, ◌*◌, ◌∙◌, ℕ, suc, ℤ, pos, Bool, true, false, cond, List, [], ◌∷◌, length, map, take, drop, refl, sym, ap, subst, arith}
 use Rattle.std.specs.Prelude.{◌-◌, ◌==◌, ◌||◌, ◌&&◌, nat_le, nat_lt, fold}
 use Rattle.std.specs.Ordering.{int_eq}
 use Rattle.std.proofs.lemmas.Bool.{cond_both, eqb-true, eqb-false, ne_eqb, lt-ltb, leb-true, ltb-true, ltb-false, and_parts}
 use Rattle.std.proofs.lemmas.Int.{ints}
-use Rattle.vx_base.specs.PlainValue.{PlainValue}
+use Rattle.std.proofs.lemmas.List.{length-take-le, length-drop}
+use Rattle.std.proofs.lemmas.List.Sums.{count_by-le-length, sum_by-take-drop}
+use Rattle.vx_base.specs.PlainValue.{PlainValue, int}
 use Rattle.vx_stats.specs.Distinct.{times, distinct}
 use Rattle.vx_stats.specs.Distinct as numbers
 use Rattle.vx_stats.specs.Runs.{better}
 use Rattle.vx_stats.specs.Stats.{valid_wholes, value_count, average_run_length, most_frequent}
 use Rattle.vx_stats.proofs.DistinctLemmas.{times-next, distinct-times, eq-same, best-most_frequent}
+use Rattle.vx_stats.proofs.StatsLemmas.{valid_wholes-map-int}
 use Rattle.vx_sparse_array.proofs.SharedLemmas.{frequent-few}
 use Rattle.vx_schemes_runs.specs.Sparse.Meaning.{sparse_verdict}
-use Rattle.vx_schemes_runs.specs.Sparse.Vote.{after_vote, winner, winner_count}
+use Rattle.vx_schemes_runs.specs.Sparse.Vote.{after_vote, winner, CountsMost}
 use Rattle.vx_schemes_runs.proofs.Sparse.Runs.{runs-long}
 
 -- ---- a vote
@@ -119,16 +122,36 @@ often-most vs z = by_count (times (valid_wholes vs) z == 0) refl
 
 -- ---- the verdict
 
-pub winner-few : (vs : List PlainValue) → winner_count vs ≤ value_count vs
-winner-few vs = omega (arith, often-most vs (winner (valid_wholes vs)), frequent-few vs)
+pub winner-few : (vs : List PlainValue) (count : ℕ) → CountsMost vs count → count ≤ value_count vs
+winner-few vs count most = omega (arith, most.few, frequent-few vs)
 
--- the most frequent value that more than half of the values are is the winner
-winner-most : (vs : List PlainValue) → value_count vs < 2 * (most_frequent vs).1 → winner_count vs ≡ (most_frequent vs).1
-winner-most vs most =
-    let z = (most_frequent vs).0 in
-    let own = most-own (times (valid_wholes vs)) (distinct (valid_wholes vs)) in
-    let same : winner_count vs ≡ times (valid_wholes vs) z = ap (times (valid_wholes vs)) (sym (elected (valid_wholes vs) z (omega (arith, most, own)))) in
-    omega (arith, same, own, often-most vs z)
+-- how often a number occurs that is the most frequent one where that is 9 of 10
+counts-most : (vs : List PlainValue) (w : ℤ) → (0 < value_count vs → 9 * value_count vs ≤ 10 * times (valid_wholes vs) (most_frequent vs).0 → (most_frequent vs).0 ≡ w) → CountsMost vs (times (valid_wholes vs) w)
+counts-most vs w same = record { few = often-most vs w; most = λ many. by_count (value_count vs == 0) refl many }
+  where
+    own : (most_frequent vs).1 ≤ times (valid_wholes vs) (most_frequent vs).0
+    own = most-own (times (valid_wholes vs)) (distinct (valid_wholes vs))
+
+    by_count : (b : Bool) → (value_count vs == 0) ≡ b → 9 * value_count vs ≤ 10 * (most_frequent vs).1 → times (valid_wholes vs) w ≡ (most_frequent vs).1
+    by_count true none many = omega (arith, eqb-true _ _ none, often-most vs w, frequent-few vs)
+    by_count false some many =
+        let here : times (valid_wholes vs) (most_frequent vs).0 ≡ times (valid_wholes vs) w = ap (times (valid_wholes vs)) (same (omega (arith, eqb-false (value_count vs) 0 some)) (omega (arith, own, many))) in
+        omega (arith, here, own, often-most vs w)
+
+-- all values vote
+pub all-vote : (vs : List PlainValue) → CountsMost vs (times (valid_wholes vs) (winner (valid_wholes vs)))
+all-vote vs = counts-most vs (winner (valid_wholes vs)) (λ some many. elected (valid_wholes vs) (most_frequent vs).0 (omega (arith, some, many)))
+
+-- the first quarter votes
+elected-early : (n : ℕ) (zs : List ℤ) (z : ℤ) → length zs ≤ 4 * n → n ≤ length zs → 0 < length zs → 9 * length zs ≤ 10 * times zs z → z ≡ winner (take n zs)
+elected-early n zs z quarter within some many =
+    elected (take n zs) z (omega (arith, quarter, within, some, many, length-take-le n zs within, length-drop n zs, count_by-le-length (int_eq z) (drop n zs), sum_by-take-drop (λ w. cond (int_eq z w) 1 0) zs n))
+
+pub quarter-votes : (n : ℕ) (zs : List ℤ) → length zs ≤ 4 * n → n ≤ length zs → CountsMost (map int zs) (times zs (winner (take n zs)))
+quarter-votes n zs quarter within =
+    let are = valid_wholes-map-int zs in
+    let votes : CountsMost (map int zs) (times (valid_wholes (map int zs)) (winner (take n zs))) = counts-most (map int zs) (winner (take n zs)) (λ some many. elected-early n zs (most_frequent (map int zs)).0 quarter within (subst (λ l. 0 < length l) are some) (subst (λ l. 9 * length l ≤ 10 * times l (most_frequent (map int zs)).0) are many)) in
+    subst (λ l. CountsMost (map int zs) (times l (winner (take n zs)))) are votes
 
 skips : (values often : ℕ) → 10 * often < 9 * values → ((often == values) || nat_lt (10 * often) (9 * values)) ≡ true
 skips values often few = either (often == values) (nat_lt (10 * often) (9 * values)) (lt-ltb _ _ few)
@@ -137,21 +160,21 @@ skips values often few = either (often == values) (nat_lt (10 * often) (9 * valu
     either true b h = refl
     either false b h = h
 
--- where no value stands in more than half of the rows, a lower count skips as well
-verdict-by : (rows nulls values count often : ℕ) → count ≤ often → (values < 2 * often → count ≡ often) → sparse_verdict rows nulls values count ≡ sparse_verdict rows nulls values often
-verdict-by rows nulls values count often few most = by_half (nat_lt values (2 * often)) refl
+-- where no value stands in 9 of 10 rows, a lower count skips as well
+verdict-by : (rows nulls values count often : ℕ) → count ≤ often → (9 * values ≤ 10 * often → count ≡ often) → sparse_verdict rows nulls values count ≡ sparse_verdict rows nulls values often
+verdict-by rows nulls values count often few most = by_tenths (nat_lt (10 * often) (9 * values)) refl
   where
-    by_value : 2 * often ≤ values → (b : Bool) → (values == 0) ≡ b → sparse_verdict rows nulls values count ≡ sparse_verdict rows nulls values often
-    by_value half true none = rw none refl
-    by_value half false some = let more = eqb-false values 0 some in rw (skips values count (omega (arith, few, half, more)), skips values often (omega (arith, half, more))) refl
+    by_value : 10 * often < 9 * values → (b : Bool) → (values == 0) ≡ b → sparse_verdict rows nulls values count ≡ sparse_verdict rows nulls values often
+    by_value rare true none = rw none refl
+    by_value rare false some = rw (some, skips values count (omega (arith, few, rare)), skips values often rare) refl
 
-    by_half : (b : Bool) → nat_lt values (2 * often) ≡ b → sparse_verdict rows nulls values count ≡ sparse_verdict rows nulls values often
-    by_half true e = ap (sparse_verdict rows nulls values) (most (ltb-true _ _ e))
-    by_half false e = by_value (ltb-false _ _ e) (values == 0) refl
+    by_tenths : (b : Bool) → nat_lt (10 * often) (9 * values) ≡ b → sparse_verdict rows nulls values count ≡ sparse_verdict rows nulls values often
+    by_tenths true e = by_value (ltb-true _ _ e) (values == 0) refl
+    by_tenths false e = ap (sparse_verdict rows nulls values) (most (ltb-false _ _ e))
 
 -- the verdict by the winner's count is that by the greatest
-pub verdict-same : (rows nulls : ℕ) (vs : List PlainValue) → sparse_verdict rows nulls (value_count vs) (winner_count vs) ≡ sparse_verdict rows nulls (value_count vs) (most_frequent vs).1
-verdict-same rows nulls vs = verdict-by rows nulls (value_count vs) (winner_count vs) (most_frequent vs).1 (often-most vs (winner (valid_wholes vs))) (winner-most vs)
+pub verdict-same : (rows nulls : ℕ) (vs : List PlainValue) (count : ℕ) → CountsMost vs count → sparse_verdict rows nulls (value_count vs) count ≡ sparse_verdict rows nulls (value_count vs) (most_frequent vs).1
+verdict-same rows nulls vs count most = verdict-by rows nulls (value_count vs) count (most_frequent vs).1 most.few most.most
 
 -- ---- without a vote
 

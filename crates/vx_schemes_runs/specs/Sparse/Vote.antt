@@ -1,9 +1,8 @@
 -- The majority vote of Boyer and Moore: the number that more than half of the numbers are, if there is one.
-use Rattle.std.specs.Prelude.{ℕ, ◌+◌, ◌-◌, ◌==◌, ℤ, pos, if◌then◌else◌, List, fold}
+use Rattle.std.specs.Prelude.{◌≡◌, ℕ, ◌+◌, ◌-◌, ◌*◌, ◌≤◌, ◌==◌, ℤ, pos, if◌then◌else◌, List, fold}
 use Rattle.std.specs.Ordering.{int_eq}
 use Rattle.vx_base.specs.PlainValue.{PlainValue}
-use Rattle.vx_stats.specs.Distinct.{times}
-use Rattle.vx_stats.specs.Stats.{valid_wholes}
+use Rattle.vx_stats.specs.Stats.{value_count, most_frequent}
 
 -- the leader and its lead after one more vote; a leader whose lead is 0 is replaced
 abbrev pub after_vote : ℤ × ℕ → ℤ → ℤ × ℕ
@@ -13,6 +12,7 @@ after_vote leader z = if leader.1 == 0 then (z, 1) else (if int_eq leader.0 z th
 abbrev pub winner : List ℤ → ℤ
 winner zs = (fold after_vote (pos 0, 0) zs).0
 
--- how often the winner among the values occurs there
-abbrev pub winner_count : List PlainValue → ℕ
-winner_count values = times (valid_wholes values) (winner (valid_wholes values))
+-- a count for the verdict: at most the greatest count of a value, and equal to it where 9 of 10 values are one
+pub record CountsMost (values : List PlainValue) (count : ℕ) : Type 0 where
+  pub few : count ≤ (most_frequent values).1
+  pub most : 9 * value_count values ≤ 10 * (most_frequent values).1 → count ≡ (most_frequent values).1
