@@ -16,3 +16,4 @@ pub mod DifferenceRows
 pub mod BlockGrowth
 pub mod BlockOffsets
 pub mod PackedWords
+pub mod ZeroGroups

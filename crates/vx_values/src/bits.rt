@@ -1,6 +1,6 @@
 //! Rows of truth values: false beneath nulls, and rows picked by codes.
 
-ghost use Rattle.std.specs.Prelude.{◌≡◌, ◌<◌, length, map, replicate, true, false, not, ◌||◌, ◌+◌, ◌^◌, IsTrue, slice_set, slice_index_or, if◌then◌else◌};
+ghost use Rattle.std.specs.Prelude.{◌≡◌, ◌<◌, ◌≤◌, length, map, take, replicate, true, false, not, ◌||◌, ◌+◌, ◌^◌, IsTrue, slice_set, slice_index_or, if◌then◌else◌};
 ghost use Rattle.vx_base.specs.Answers.{Answers, OrMemory};
 ghost use Rattle.vx_base.specs.PlainValue.{truth, int};
 ghost use Rattle.vx_model.specs.Decoded.{zeroed, zeroed_by, zero_beneath, picked};
@@ -16,6 +16,7 @@ use crate::validity::is_valid;
 use crate::{patch_rows, run_rows};
 use std::alloc::Global;
 use vx_base::{Integer, Mask, VortexResult};
+use vx_blocks::GROUP_ROWS;
 
 /// `len` rows of one truth value.
 pub fn filled(alloc: Global, bit: bool, len: u64) -> VortexResult<Mask>
@@ -58,27 +59,47 @@ pub fn is_zero_beneath(bits: &Mask, mask: &Mask) -> bool
     are_zero_beneath(bits.as_slice(), mask.as_slice())
 }
 
+// Whether each row is false or has a true mask. There is one branch for each group of rows.
 #[tactic(auto, using(vx_model::proofs::ZeroLemmas::zeroing))]
 fn are_zero_beneath(bits: &[bool], mask: &[bool]) -> bool
     requires { length mask.now ≡ length bits.now }
     ensures { result ≡ zero_beneath not mask.now bits.now }
 {
-    for row in 0..mask.len() {
-        if !is_zero_at(bits, mask, row) {
+    let mut start = 0;
+    while start < mask.len() {
+        let end = start + (mask.len() - start).min(GROUP_ROWS);
+        if !part_is_zero_beneath(bits, mask, start, end) {
             return false;
         }
+        start = end;
     }
     true
 }
 
-// Whether the row is false, or the mask is true there.
+// Whether each of the rows before `end` is false or has a true mask, where those before `start` are known to; by `&` over
+// the others: no branch per row.
+fn part_is_zero_beneath(bits: &[bool], mask: &[bool], start: usize, end: usize) -> bool
+    requires same { length mask.now ≡ length bits.now }
+    requires order { start ≤ end }
+    requires room { end ≤ length bits.now }
+    requires before { zero_beneath not (take start mask.now) bits.now ≡ true }
+    ensures { result ≡ zero_beneath not (take end mask.now) bits.now }
+{
+    let mut all = true;
+    for row in start..end {
+        all &= is_zero_at(bits, mask, row);
+    }
+    all
+}
+
+// Whether the row is false, or the mask is true there. By `|`, since `||` is a branch.
 #[inline(always)]
 fn is_zero_at(bits: &[bool], mask: &[bool], row: usize) -> bool
     requires in_bits { row < length bits.now }
     requires in_mask { row < length mask.now }
     ensures { result ≡ (slice_index_or mask.now row false || not (slice_index_or bits.now row false)) }
 {
-    mask[row] || !bits[row]
+    mask[row] | !bits[row]
 }
 
 // Writes false where the mask is false.

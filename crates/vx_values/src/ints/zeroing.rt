@@ -1,6 +1,6 @@
 //! 0 beneath nulls.
 
-ghost use Rattle.std.specs.Prelude.{◌≡◌, ◌<◌, length, slice_index_or, pos, true, map, slice_set, if◌then◌else◌, ◌||◌, false};
+ghost use Rattle.std.specs.Prelude.{◌≡◌, ◌<◌, ◌≤◌, length, slice_index_or, pos, true, map, take, slice_set, if◌then◌else◌, ◌||◌, false};
 ghost use Rattle.vx_base.specs.Answers.{OrMemory};
 ghost use Rattle.vx_model.specs.Decoded.{zeroed, zeroed_by, zero_beneath, is_zero};
 ghost use Rattle.vx_model.specs.Refusals.{validity_length};
@@ -9,6 +9,7 @@ ghost use Rattle.vx_values.specs.IntsOf.{ptype_of, wholes_of};
 use super::Ints;
 use std::alloc::Global;
 use vx_base::{IntList, Integer, Mask, VortexResult};
+use vx_blocks::GROUP_ROWS;
 
 impl Ints {
     /// A copy, with 0 where a row is null.
@@ -97,25 +98,45 @@ fn decoded<T: Integer>(alloc: Global, items: &[T], valid: &Option<Mask>) -> Vort
     }
 }
 
-// Whether the item is 0, or its bit is true.
+// Whether the item is 0, or its bit is true. By `|`, since `||` is a branch.
 #[inline(always)]
 fn is_zero_at<T: Integer>(items: &[T], bits: &[bool], row: usize) -> bool
     requires in_items { row < length items.now }
     requires in_bits { row < length bits.now }
     ensures { result ≡ (slice_index_or bits.now row false || is_zero (slice_index_or (map T.whole items.now) row (pos 0))) }
 {
-    bits[row] || items[row].to_whole() == 0
+    bits[row] | (items[row].to_whole() == 0)
 }
 
+// Whether each of the rows before `end` is 0 or has a true bit, where those before `start` are known to; by `&` over the
+// others: no branch per row.
+fn part_is_zero_beneath<T: Integer>(items: &[T], bits: &[bool], start: usize, end: usize) -> bool
+    requires same { length bits.now ≡ length items.now }
+    requires order { start ≤ end }
+    requires room { end ≤ length items.now }
+    requires before { zero_beneath is_zero (take start bits.now) (map T.whole items.now) ≡ true }
+    ensures { result ≡ zero_beneath is_zero (take end bits.now) (map T.whole items.now) }
+{
+    let mut all = true;
+    for row in start..end {
+        all &= is_zero_at(items, bits, row);
+    }
+    all
+}
+
+// Whether each row is 0 or has a true bit. There is one branch for each group of rows.
 #[tactic(auto, using(vx_model::proofs::ZeroLemmas::zeroing))]
 fn is_zero_beneath<T: Integer>(items: &[T], bits: &[bool]) -> bool
     requires { length bits.now ≡ length items.now }
     ensures { result ≡ zero_beneath is_zero bits.now (map T.whole items.now) }
 {
-    for row in 0..bits.len() {
-        if !is_zero_at(items, bits, row) {
+    let mut start = 0;
+    while start < bits.len() {
+        let end = start + (bits.len() - start).min(GROUP_ROWS);
+        if !part_is_zero_beneath(items, bits, start, end) {
             return false;
         }
+        start = end;
     }
     true
 }

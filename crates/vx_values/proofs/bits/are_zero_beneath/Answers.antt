@@ -1,12 +1,11 @@
-use Rattle.std.proofs.Common.{◌∙◌, sym, false, arith}
+use Rattle.std.proofs.Common.{◌∙◌, ◌+◌, sym}
 use Rattle.std.specs.Prelude.{not}
-use Rattle.vx_model.proofs.ZeroLemmas.{zero_beneath-next, zero_beneath-stop}
+use Rattle.vx_values.proofs.ZeroGroups.{zero_beneath-part}
 use Rattle.vx_values.proofs.bits.are_zero_beneath.Goals as goal
 
-pub returns-then-not-is_zero_at : goal.returns-then-not-is_zero_at
-returns-then-not-is_zero_at c =
-    sym (zero_beneath-stop not false c.args.mask.now c.args.bits.now c.loop-row.row (omega arith) (omega arith) (sym c.is_zero_at.ensures ∙ c.if-not-is_zero_at.true))
+pub returns-then-not-part_is_zero_beneath : goal.returns-then-not-part_is_zero_beneath
+returns-then-not-part_is_zero_beneath c =
+    sym (zero_beneath-part not c.args.mask.now c.args.bits.now (c.loop-start.start + c.min.result) (sym c.part_is_zero_beneath.ensures ∙ c.if-not-part_is_zero_beneath.true))
 
-pub loop-row-preserved : goal.loop-row-preserved
-loop-row-preserved c =
-    zero_beneath-next not false c.args.mask.now c.args.bits.now c.loop-row.row (omega arith) (omega arith) c.loop-row.invariant (sym c.is_zero_at.ensures ∙ c.if-not-is_zero_at.false)
+pub loop-start-preserved : goal.loop-start-preserved
+loop-start-preserved c = sym c.part_is_zero_beneath.ensures ∙ c.if-not-part_is_zero_beneath.false

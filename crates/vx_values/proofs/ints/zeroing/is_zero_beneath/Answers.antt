@@ -1,17 +1,11 @@
-use Rattle.std.proofs.Common.{◌<◌, ◌∙◌, sym, map, length, arith, pos}
-use Rattle.std.proofs.lemmas.List.{length-map}
+use Rattle.std.proofs.Common.{◌∙◌, ◌+◌, sym, map}
 use Rattle.vx_model.specs.Decoded.{is_zero}
-use Rattle.vx_model.proofs.ZeroLemmas.{zero_beneath-next, zero_beneath-stop}
+use Rattle.vx_values.proofs.ZeroGroups.{zero_beneath-part}
 use Rattle.vx_values.proofs.ints.zeroing.is_zero_beneath.Goals as goal
 
-pub returns-then-not-is_zero_at : goal.returns-then-not-is_zero_at
-returns-then-not-is_zero_at g c =
-    let wholes = map g.T.Integer.whole c.args.items.now in
-    let within : c.loop-row.row < length wholes = omega (arith, length-map c.args.items.now g.T.Integer.whole) in
-    sym (zero_beneath-stop is_zero (pos 0) c.args.bits.now wholes c.loop-row.row (omega arith) within (sym c.is_zero_at.ensures ∙ c.if-not-is_zero_at.true))
+pub returns-then-not-part_is_zero_beneath : goal.returns-then-not-part_is_zero_beneath
+returns-then-not-part_is_zero_beneath g c =
+    sym (zero_beneath-part is_zero c.args.bits.now (map g.T.Integer.whole c.args.items.now) (c.loop-start.start + c.min.result) (sym c.part_is_zero_beneath.ensures ∙ c.if-not-part_is_zero_beneath.true))
 
-pub loop-row-preserved : goal.loop-row-preserved
-loop-row-preserved g c =
-    let wholes = map g.T.Integer.whole c.args.items.now in
-    let within : c.loop-row.row < length wholes = omega (arith, length-map c.args.items.now g.T.Integer.whole) in
-    zero_beneath-next is_zero (pos 0) c.args.bits.now wholes c.loop-row.row (omega arith) within c.loop-row.invariant (sym c.is_zero_at.ensures ∙ c.if-not-is_zero_at.false)
+pub loop-start-preserved : goal.loop-start-preserved
+loop-start-preserved g c = sym c.part_is_zero_beneath.ensures ∙ c.if-not-part_is_zero_beneath.false
