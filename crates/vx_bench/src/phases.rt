@@ -11,18 +11,6 @@ use vx_btrblocks::{BtrBlocksCompressor, NoScheme};
 use vx_program::{Document, Input, StdSource, listing_text, read_all, read_document};
 use vx_scheme::{GenerateStatsOptions, IntegerStats};
 
-/// The time of each phase, and the number of distinct values by the statistics.
-#[derive(Clone, Copy)]
-struct Phases {
-    read: Duration,
-    json: Duration,
-    parse: Duration,
-    statistics: Duration,
-    distinct: u32,
-    compress: Duration,
-    list: Duration,
-}
-
 fn bytes_of<R: Read>(alloc: Global, reader: R) -> Result<Vec<u8>>
 where
     R: Drop,
@@ -140,40 +128,6 @@ fn counted(rt: &(impl AllocGlobal + Clock), array: &ArrayRef) -> Result<(Duratio
     Ok((start.elapsed(rt)?, distinct))
 }
 
-/// The times to compress the column and to list its tree.
-fn packed(rt: &(impl AllocGlobal + Clock), plain: Plain) -> Result<(Duration, Duration)> {
-    let start = Instant::now(rt)?;
-    let tree = compressed(rt.alloc(), plain)?;
-    let compress = start.elapsed(rt)?;
-    let start = Instant::now(rt)?;
-    let _len = listed(rt.alloc(), &tree)?;
-    Ok((compress, start.elapsed(rt)?))
-}
-
-/// Runs the phases one after the other. The statistics are made once more within the compression.
-fn measured<R: Read>(rt: &(impl AllocGlobal + Clock), reader: R) -> Result<Phases>
-where
-    R: Drop,
-{
-    let Parsed {
-        plain,
-        read,
-        json,
-        parse,
-    } = read_and_parse(rt, reader)?;
-    let (statistics, distinct) = counted(rt, &plain.array)?;
-    let (compress, list) = packed(rt, plain)?;
-    Ok(Phases {
-        read,
-        json,
-        parse,
-        statistics,
-        distinct,
-        compress,
-        list,
-    })
-}
-
 /// One line: the phase and its milliseconds.
 fn show(rt: &impl Print, phase: &str, time: Duration) -> Result<()> {
     let micros = time.as_micros();
@@ -191,17 +145,28 @@ where
     Ok(())
 }
 
-/// Compresses the reader's document, and writes a line for each phase.
+/// Compresses the reader's document, and writes a line for each phase at its end: so whoever reads the lines can tell the
+/// phases apart while they run. The statistics are made once more within the compression.
 pub fn tell_phases<R: Read>(rt: &(impl AllocGlobal + Clock + Print), reader: R) -> Result<()>
 where
     R: Drop,
 {
-    let phases = measured(rt, reader)?;
-    show(rt, "read", phases.read)?;
-    show(rt, "json", phases.json)?;
-    show(rt, "parse", phases.parse)?;
-    show(rt, "statistics", phases.statistics)?;
-    println!(rt; "distinct {}", phases.distinct)?;
-    show(rt, "compress", phases.compress)?;
-    show(rt, "list", phases.list)
+    let Parsed {
+        plain,
+        read,
+        json,
+        parse,
+    } = read_and_parse(rt, reader)?;
+    show(rt, "read", read)?;
+    show(rt, "json", json)?;
+    show(rt, "parse", parse)?;
+    let (statistics, distinct) = counted(rt, &plain.array)?;
+    show(rt, "statistics", statistics)?;
+    println!(rt; "distinct {distinct}")?;
+    let start = Instant::now(rt)?;
+    let tree = compressed(rt.alloc(), plain)?;
+    show(rt, "compress", start.elapsed(rt)?)?;
+    let start = Instant::now(rt)?;
+    let _len = listed(rt.alloc(), &tree)?;
+    show(rt, "list", start.elapsed(rt)?)
 }

@@ -36,4 +36,6 @@ mod statistics;
 #[cfg(test)]
 mod string_statistics;
 #[cfg(test)]
+mod summaries;
+#[cfg(test)]
 mod zig_zag;

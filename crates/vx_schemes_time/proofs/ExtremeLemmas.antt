@@ -1,5 +1,5 @@
 -- The narrowest type of integers by their least and their greatest, among which is 0.
-use Rattle.std.proofs.Common.{◌≡◌, ◌≤◌, ◌^◌, ◌∙◌, ◌≤ℤ◌, ℤ, pos, negsuc, Bool, true, false, cond, List, [], ◌∷◌, map, FitsSigned, Some, None, refl, sym, ap, arith}
+use Rattle.std.proofs.Common.{◌≡◌, ◌^◌, ◌∙◌, ◌≤ℤ◌, ℤ, pos, negsuc, Bool, true, false, cond, List, [], ◌∷◌, map, FitsSigned, Some, None, refl, sym, ap, arith}
 use Rattle.std.specs.Prelude.{◌&&◌, fold, find, int_lt, unwrap_or, IsSome, nat_lt}
 use Rattle.std.specs.Int.{int_max, int_min, w32}
 use Rattle.std.specs.List.{list_all}

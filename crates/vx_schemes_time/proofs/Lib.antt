@@ -1,6 +1,6 @@
 pub mod ExtremeLemmas
+pub mod PartTrees
 pub mod Produced
-pub mod StampParts
-pub mod StampTrees
+pub mod SplitParts
 pub mod StandardFacts
 pub mod StoredLemmas

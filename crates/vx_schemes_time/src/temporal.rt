@@ -79,7 +79,7 @@ impl Scheme for TemporalScheme {
         Ok(AncestorRules::new_in(alloc))
     }
 
-    // No trial on a sample: nothing else takes timestamps, and the parts are compressed by schemes of their own.
+    // No trial on a sample: no other shipped scheme takes timestamps, and the parts go through the schemes of integers.
     fn expected_compression_ratio(
         &self,
         _column: &mut ArrayAndStats,

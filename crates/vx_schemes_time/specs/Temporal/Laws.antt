@@ -13,7 +13,7 @@ use Rattle.vx_base.specs.PlainValue.{PlainValue}
 use Rattle.vx_base.specs.Timestamps.{PlainTimestamp, divides}
 use Rattle.vx_model.specs.Column.{Column, IsColumn, column, column_of}
 use Rattle.vx_model.specs.Refusals.{datetime_parts_refusal}
-use Rattle.vx_model.specs.Rows.{rows, each_int}
+use Rattle.vx_model.specs.Rows.{each_int}
 use Rattle.vx_model.specs.Tree.{Tree, datetime_parts}
 use Rattle.vx_model.specs.WellFormed.{WellFormed, is_whole_type}
 use Rattle.vx_model.proofs.DateTimePartsLemmas.{datetime_parts_accepted}
@@ -60,13 +60,13 @@ module _ (k : PlainTimestamp) (n : Nullability) (vs : List PlainValue) (some : d
   positive : pos 0 <ℤ units_per_second k.unit
   positive = unit-positive k.unit some
 
-  pub days-column : IsColumn (days_of (units_per_second k.unit) n vs)
+  days-column : IsColumn (days_of (units_per_second k.unit) n vs)
   days-column = days-fit k n positive vs fit held
 
-  pub seconds-column : IsColumn (others_of (second_in (units_per_second k.unit)) vs)
+  seconds-column : IsColumn (others_of (second_in (units_per_second k.unit)) vs)
   seconds-column = others-fit k n positive (second_in d) (λ z. lies_in-I32 (second_in d z) (second-small d z positive)) vs
 
-  pub subseconds-column : IsColumn (others_of (subsecond_in (units_per_second k.unit)) vs)
+  subseconds-column : IsColumn (others_of (subsecond_in (units_per_second k.unit)) vs)
   subseconds-column = others-fit k n positive (subsecond_in d) (λ z. lies_in-I32 (subsecond_in d z) (subsecond-small d z positive (unit-small k.unit))) vs
 
   small-of-kind : All (IsPart (column (types.timestamp k n) vs)) (three_columns (column (types.timestamp k n) vs))

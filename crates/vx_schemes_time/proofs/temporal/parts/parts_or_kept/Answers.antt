@@ -5,7 +5,7 @@ use Rattle.vx_model.specs.Column.{column_of}
 use Rattle.vx_temporal.specs.Settled.{Settled}
 use Rattle.vx_temporal.specs.Split.{split_refusal, type_refusal}
 use Rattle.vx_temporal.specs.SplitOf.{IsSplitOf}
-use Rattle.vx_schemes_time.proofs.StampParts.{kept-made, split-out, stored-parts, three-made}
+use Rattle.vx_schemes_time.proofs.SplitParts.{kept-made, split-out, stored-parts, three-made}
 use Rattle.vx_schemes_time.proofs.temporal.parts.parts_or_kept.Goals as goal
 
 pub narrowed_parts-requires-clause-days : goal.narrowed_parts-requires-clause-days

@@ -48,7 +48,7 @@ stored-plain t n c is typed own =
     inl (record { own = is ∙ ap plain (sym own); integers = type ∙ ap (λ s. types.primitive I32 (nullability_of s)) (sym type) })
 
 are-stored : (c : Column) (p : TemporalParts) → is_splittable c.dtype ≡ true → IsColumn c → all_days_fit c ≡ true → IsSplitOf c p → AreStored c p
-are-stored c p stamp own fits s = by_type c.dtype c.values stamp own fits s
+are-stored c p dividing own fits s = by_type c.dtype c.values dividing own fits s
   where
     by_type : (t : PlainType) (vs : List PlainValue) → is_splittable t ≡ true → IsColumn (column t vs) → all_days_fit (column t vs) ≡ true → IsSplitOf (column t vs) p → AreStored (column t vs) p
     by_type (types.timestamp k n) vs some fit held split =
@@ -96,7 +96,7 @@ has-unit t h = absurd cc
 
 -- an Ok: all days fit, and these are the parts
 split-ok : (c : Column) (p : TemporalParts) → is_splittable c.dtype ≡ true → Settled (type_refusal c.dtype) (split_refusal c) (IsSplitOf c) (Ok p) → (all_days_fit c ≡ true) × IsSplitOf c p
-split-ok c p stamp h = by_tests (is_some (unit_in c.dtype)) (all_days_fit c) refl (has-unit c.dtype stamp) h
+split-ok c p dividing h = by_tests (is_some (unit_in c.dtype)) (all_days_fit c) refl (has-unit c.dtype dividing) h
   where
     by_tests : (a b : Bool) → all_days_fit c ≡ b → a ≡ true → Settled (unless a MismatchedTypes None) (unless a MismatchedTypes (unless b DaysOutOfRange None)) (IsSplitOf c) (Ok p) → (all_days_fit c ≡ true) × IsSplitOf c p
     by_tests true true is e s = (is, s.1)
@@ -104,11 +104,11 @@ split-ok c p stamp h = by_tests (is_some (unit_in c.dtype)) (all_days_fit c) ref
     by_tests false b is e s = absurd cc
 
 pub stored-parts : (t : Tree) (p : TemporalParts) → is_splittable (tree_type t) ≡ true → WellFormed t → Settled (type_refusal (tree_type t)) (split_refusal (column_of t)) (IsSplitOf (column_of t)) (Ok p) → (all_days_fit (column_of t) ≡ true) × AreStored (column_of t) p
-stored-parts t p stamp well h = let made = split-ok (column_of t) p stamp h in (made.0, are-stored (column_of t) p stamp (rows_fit t well) made.0 made.1)
+stored-parts t p dividing well h = let made = split-ok (column_of t) p dividing h in (made.0, are-stored (column_of t) p dividing (rows_fit t well) made.0 made.1)
 
 -- the Err of a day that doesn't fit
 pub split-out : (c : Column) → is_splittable c.dtype ≡ true → Settled (type_refusal c.dtype) (split_refusal c) (IsSplitOf c) (Err DaysOutOfRange) → all_days_fit c ≡ false
-split-out c stamp h = by_tests (is_some (unit_in c.dtype)) (all_days_fit c) refl (has-unit c.dtype stamp) h
+split-out c dividing h = by_tests (is_some (unit_in c.dtype)) (all_days_fit c) refl (has-unit c.dtype dividing) h
   where
     by_tests : (a b : Bool) → all_days_fit c ≡ b → a ≡ true → Settled (unless a MismatchedTypes None) (unless a MismatchedTypes (unless b DaysOutOfRange None)) (IsSplitOf c) (Err DaysOutOfRange) → all_days_fit c ≡ false
     by_tests true true is e (inl memory) = absurd cc
