@@ -5,7 +5,7 @@ from typing import Callable, NamedTuple
 INPUT_LIMIT = 2 ** 26
 MILLION = 1_000_000
 ROW_BYTES = 48          # how many bytes a row may be in use beside twice the document
-TEXT_ROW_BYTES = 128    # the same of a row of texts
+TEXT_ROW_BYTES = 128    # how many bytes a row of texts may be in use beside twice the document
 PEER_COMPRESS = 1.8     # how many times the peer's time the phase `compress` may take
 PEER_SERIES = 2.5       # and how many times for series: sequences, runs, rare values and slow series
 PEER_OTHERS = 1.5       # and how many times for texts, binaries and timestamps
