@@ -13,10 +13,10 @@ ghost use Rattle.vx_model.specs.Rows.{rows};
 ghost use Rattle.vx_model.specs.Tree.{var_bin};
 ghost use Rattle.vx_model.specs.TreeType.{tree_type};
 
-use crate::array::{ArrayRef, Child, Node};
+use crate::array::{ArrayRef, Node};
 use std::alloc::Global;
 use vx_base::{ByteRows, Bytes, DType, Mask, Nullability, VortexResult};
-use vx_values::{Ints, byte_rows, copy_validity, keep};
+use vx_values::{Ints, byte_rows, copy_validity};
 
 impl ArrayRef {
     /// The offsets between the rows of a plain tree of texts or binaries, concatenated: a plain tree of `u64`, 0 and then
@@ -60,7 +60,7 @@ impl ArrayRef {
         }
     }
 
-    // `var_bin` without its checks, for inputs that pass them. Reads no offset and no value.
+    // `var_bin_of_offsets`, whose refusal drops the inputs.
     fn var_bin_of(
         alloc: Global,
         offsets: ArrayRef,
@@ -71,13 +71,9 @@ impl ArrayRef {
         requires { var_bin_refusal offsets bytes valid (type_of dtype) ≡ None }
         ensures { Answers result (var_bin offsets bytes (kept valid) (type_of dtype)) }
     {
-        let len = offsets.len().saturating_sub(1);
-        offsets.known();
-        let offsets = Box::new(alloc, offsets)?;
-        Ok(ArrayRef {
-            node: Node::VarBin(Child { array: offsets }, bytes, keep(valid), dtype),
-            own_type: None,
-            len,
-        })
+        match ArrayRef::var_bin_of_offsets(alloc, offsets, bytes, valid, dtype) {
+            Ok(tree) => Ok(tree),
+            Err(refused) => Err(refused.error),
+        }
     }
 }

@@ -1,7 +1,7 @@
 //! Texts and binaries by offsets into one run of bytes.
 
 ghost use Rattle.std.specs.List.{list_all};
-ghost use Rattle.std.specs.Prelude.{◌≡◌, ◌<◌, ◌+◌, ◌-◌, IsTrue, length, map, nat_le, true, if◌then◌else◌};
+ghost use Rattle.std.specs.Prelude.{◌≡◌, ◌<◌, ◌+◌, ◌-◌, IsTrue, None, length, map, nat_le, true, if◌then◌else◌};
 ghost use Rattle.vx_array.specs.TreeOf.{tree_of};
 ghost use Rattle.vx_base.specs.Answers.{Makes, OrMemory};
 ghost use Rattle.vx_base.specs.CellValue.{cell_value};
@@ -35,7 +35,6 @@ impl ArrayRef {
     /// offsets don't begin at 0, fall, or don't end at the bytes' length; then ValueTooLong where a value has 2^32 bytes
     /// or more; then MismatchedTypes where the mask has a false in a non-nullable node, or a valid row of texts isn't
     /// UTF-8.
-    #[tactic(auto, using(crate::proofs::Making::var_bin_array))]
     pub fn var_bin(
         alloc: Global,
         offsets: ArrayRef,
@@ -45,12 +44,28 @@ impl ArrayRef {
     ) -> Made<(ArrayRef, Bytes, Option<Mask>, DType)>
         ensures { Makes (var_bin_refusal offsets bytes valid (type_of dtype)) (var_bin offsets bytes (kept valid) (type_of dtype)) (offsets, bytes, valid, dtype) result }
     {
-        if let Some(error) = refusal(&offsets, &bytes, &valid, &dtype) {
-            return Err(Refused {
+        match refusal(&offsets, &bytes, &valid, &dtype) {
+            Some(error) => Err(Refused {
                 error,
                 inputs: (offsets, bytes, valid, dtype),
-            });
+            }),
+            None => ArrayRef::var_bin_of_offsets(alloc, offsets, bytes, valid, dtype),
         }
+    }
+
+    /// `var_bin` without its checks, for inputs that the caller knows to pass them. Reads no offset and no value. Refuses
+    /// NoMemory alone, and hands the inputs back.
+    #[tactic(auto, using(crate::proofs::Making::var_bin_array))]
+    pub fn var_bin_of_offsets(
+        alloc: Global,
+        offsets: ArrayRef,
+        bytes: Bytes,
+        valid: Option<Mask>,
+        dtype: DType,
+    ) -> Made<(ArrayRef, Bytes, Option<Mask>, DType)>
+        requires { var_bin_refusal offsets bytes valid (type_of dtype) ≡ None }
+        ensures { Makes None (var_bin offsets bytes (kept valid) (type_of dtype)) (offsets, bytes, valid, dtype) result }
+    {
         let len = row_count(&offsets);
         offsets.known();
         match Box::new(alloc, offsets) {

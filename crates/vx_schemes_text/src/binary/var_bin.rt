@@ -1,11 +1,14 @@
 //! The scheme of concatenated binaries.
 
-ghost use Rattle.std.specs.Prelude.{◌≡◌, ◌≤◌, IsTrue, length, true};
+ghost use Rattle.std.specs.Prelude.{◌≡◌, ◌≤◌, IsTrue, None, length, true};
 ghost use Rattle.vx_base.specs.Answers.{Answers};
 ghost use Rattle.vx_base.specs.PlainType.{is_bytes};
+ghost use Rattle.vx_base.specs.TypeOf.{type_of};
 ghost use Rattle.vx_model.specs.Column.{column_of};
 ghost use Rattle.vx_model.specs.Plain.{IsPlain};
+ghost use Rattle.vx_model.specs.Refusals.{kept, var_bin_refusal};
 ghost use Rattle.vx_model.specs.Rows.{rows};
+ghost use Rattle.vx_model.specs.Tree.{var_bin};
 ghost use Rattle.vx_model.specs.TreeType.{tree_type};
 ghost use Rattle.vx_scheme.specs.Asked.{most_rows, FitParts};
 ghost use Rattle.vx_scheme.specs.Meaning.{split_of};
@@ -16,7 +19,9 @@ use crate::views::views_of;
 use std::alloc::Global;
 use std::sync::ledger::Ledger;
 use vx_array::{ArrayRef, Arrays};
-use vx_base::{ArrayId, DType, ExecutionCtx, Fraction, IdSet, Steps, VortexResult};
+use vx_base::{
+    ArrayId, Bytes, DType, ExecutionCtx, Fraction, IdSet, Mask, Steps, VortexResult,
+};
 use vx_scheme::{
     AllowedIds, AncestorRules, ArrayAndStats, CompressionEstimate, CompressorContext,
     DeferredEstimate, DescendantRules, EstimateVerdict, GenerateStatsOptions, Scheme, Split,
@@ -40,7 +45,25 @@ fn split_by(alloc: Global, array: &ArrayRef) -> VortexResult<Split>
     one_part(alloc, narrowed_numbers(alloc, offsets)?)
 }
 
-// The bytes of all rows over a tree of the offsets between them.
+// `ArrayRef::var_bin_of_offsets`, whose refusal drops the inputs.
+fn var_bin_of(
+    alloc: Global,
+    offsets: ArrayRef,
+    bytes: Bytes,
+    valid: Option<Mask>,
+    dtype: DType,
+) -> VortexResult<ArrayRef>
+    requires { var_bin_refusal offsets bytes valid (type_of dtype) ≡ None }
+    ensures { Answers result (var_bin offsets bytes (kept valid) (type_of dtype)) }
+{
+    match ArrayRef::var_bin_of_offsets(alloc, offsets, bytes, valid, dtype) {
+        Ok(tree) => Ok(tree),
+        Err(refused) => Err(refused.error),
+    }
+}
+
+// The bytes of all rows over a tree of the offsets between them. They are known to be offsets, so none is looked up: in a
+// tree of deltas each look-up sums up to 1,024 of them.
 fn var_bin_tree(alloc: Global, array: &ArrayRef, offsets: ArrayRef) -> VortexResult<ArrayRef>
     requires plain { IsPlain array.now }
     requires bytes { IsTrue (is_bytes (tree_type array.now)) }
@@ -52,10 +75,7 @@ fn var_bin_tree(alloc: Global, array: &ArrayRef, offsets: ArrayRef) -> VortexRes
     let bytes = byte_rows::concatenated(alloc, rows)?;
     let valid = copy_validity(alloc, valid)?;
     let dtype = array.dtype().copy(alloc)?;
-    match ArrayRef::var_bin(alloc, offsets, bytes, valid, dtype) {
-        Ok(tree) => Ok(tree),
-        Err(refused) => Err(refused.error),
-    }
+    var_bin_of(alloc, offsets, bytes, valid, dtype)
 }
 
 // The tree over that of the part; the column stays plain without one.
