@@ -56,7 +56,7 @@ words-skipped = refl
 
 -- ---- sparse texts
 
--- a text in row 3 among so many nulls
+-- a text in row 3, and nulls in all others
 abbrev one_text : Column
 one_text = column (types.utf8 Nullable) (replicate 3 null ++ bytes (codes "abc") ∷ replicate 7 null)
 

@@ -19,7 +19,7 @@ use vx_array::ArrayRef;
 use vx_base::{Integer, Mask};
 use vx_values::Ints;
 
-// One row in so many votes, the first ones: each vote waits for the one before, so that voting takes several times as long
+// The first quarter of the rows votes: each vote waits for the one before, so that voting takes several times as long
 // as counting. A value in 9 of 10 rows has the majority of a quarter too: a tenth of the rows are others, so in a quarter
 // at most 2 of 5.
 const ROWS_PER_VOTE: usize = 4;
@@ -122,7 +122,7 @@ macro_rules! count_by_type {
     };
 }
 
-// The same of integers of any type.
+// `winner_count_of` of integers of any type.
 fn winner_count_of_ints(values: &Ints, valid: &Option<Mask>) -> u64
     requires { validity_length valid.now (length (wholes_of values.now)) ≡ true }
     ensures { CountsMost (valid_rows valid.now (map int (wholes_of values.now))) result }
