@@ -19,9 +19,7 @@ use crate::views::views_of;
 use std::alloc::Global;
 use std::sync::ledger::Ledger;
 use vx_array::{ArrayRef, Arrays};
-use vx_base::{
-    ArrayId, Bytes, DType, ExecutionCtx, Fraction, IdSet, Mask, Steps, VortexResult,
-};
+use vx_base::{ArrayId, Bytes, DType, ExecutionCtx, Fraction, IdSet, Mask, Steps, VortexResult};
 use vx_scheme::{
     AllowedIds, AncestorRules, ArrayAndStats, CompressionEstimate, CompressorContext,
     DeferredEstimate, DescendantRules, EstimateVerdict, GenerateStatsOptions, Scheme, Split,
