@@ -18,7 +18,7 @@ use Rattle.vx_model.specs.Column.{Column, IsColumn, column, column_of}
 use Rattle.vx_model.specs.Nodes.{encoding}
 use Rattle.vx_model.specs.Plain.{plain, plain_of, IsPlain}
 use Rattle.vx_model.specs.Refusals.{timestamp_refusal}
-use Rattle.vx_model.specs.Site.{Site, fresh, max_cascade}
+use Rattle.vx_model.specs.Site.{Site, fresh}
 use Rattle.vx_model.specs.Size.{size}
 use Rattle.vx_model.specs.Tree.{Tree, timestamp}
 use Rattle.vx_model.specs.TreeType.{tree_type}
@@ -68,6 +68,14 @@ pub root-stamps : (c : Column) → is_timestamp c.dtype ≡ true → encoding (p
 root-stamps c = of_type c.dtype
   where
     of_type : (t : PlainType) → is_timestamp t ≡ true → encoding (plain_of t c.values) ≡ ids.Timestamp
+    of_type (types.timestamp j n) i = refl
+    of_type t i = absurd cc
+
+-- their plain tree is no constant
+pub many-stamps : (c : Column) → is_timestamp c.dtype ≡ true → is_one_value (plain c) ≡ false
+many-stamps c = of_type c.dtype
+  where
+    of_type : (t : PlainType) → is_timestamp t ≡ true → is_one_value (plain_of t c.values) ≡ false
     of_type (types.timestamp j n) i = refl
     of_type t i = absurd cc
 
@@ -175,26 +183,6 @@ storage-admitted set lawful storage tree site w flat reach whole made =
 pub no_memory : {T U : Type 0} (r : Option VortexError) (made : U) (inputs : T) (f : Refused T) → r ≡ None → Makes r made inputs (Err f) → f.error ≡ NoMemory
 no_memory None made inputs f e h = h.0
 no_memory (Some x) made inputs f e h = absurd cc
-
--- ---- by the tree that the fresh site makes
-
--- it stands for the column, so its own column says all that counts
-pub record IsOfSite (set : Setting) (array made : Tree) (site : Site) : Type 0 where
-  pub column : column_of made ≡ column_of array
-  pub flat : is_flat (tree_type made) ≡ true
-  pub reach : IsInReach (column_of made) site.budget
-  pub own : made ≡ leaf_tree set (column_of made) site
-
-pub made_of : (set : Setting) → IsLawful set → (array made : Tree) (site : Site) → site ≡ fresh → WellFormed array → is_flat (tree_type array) ≡ true → IsInReach (column_of array) max_cascade → made ≡ leaf_tree set (column_of array) site → IsOfSite set array made site
-made_of set lawful array made site at_fresh w flat reach is =
-    let here : IsInReach (column_of array) site.budget = subst (λ s. IsInReach (column_of array) s.budget) (sym at_fresh) reach in
-    let column : column_of made ≡ column_of array = ap column_of is ∙ (leaf_tree-stands set lawful (column_of array) site (rows_fit array w) flat here).1 in
-    record {
-      column = column;
-      flat = ap (λ c. is_flat c.dtype) column ∙ flat;
-      reach = subst (λ c. IsInReach c site.budget) (sym column) here;
-      own = is ∙ ap (λ c. leaf_tree set c site) (sym column);
-    }
 
 -- what a test that fails doesn't hold of
 pub no_test : (b : Bool) (P : Type 0) → IsTrue b ↔ P → b ≡ false → P → ⊥

@@ -1,6 +1,6 @@
 //! Columns whose values alone decide the tree: empty, all null, or constant. No scheme is asked about them.
 
-ghost use Rattle.std.specs.Prelude.{◌≡◌, ◌<◌, ◌^◌, true, length};
+ghost use Rattle.std.specs.Prelude.{◌≡◌, ◌<◌, ◌^◌, true, length, unwrap_or};
 ghost use Rattle.vx_base.specs.Answers.{Answers, OrMemory};
 ghost use Rattle.vx_base.specs.PlainType.{is_flat};
 ghost use Rattle.vx_model.specs.Column.{column_of};
@@ -59,17 +59,41 @@ fn smaller_or_copy(alloc: Global, tree: ArrayRef, plain: &ArrayRef) -> VortexRes
     Ok(tree)
 }
 
-/// The tree where it is smaller than the plain tree, else the plain tree: nothing that is compressed grows.
-pub(crate) fn smaller(tree: ArrayRef, plain: ArrayRef) -> ArrayRef
+/// What a site makes of a plain tree: another tree, if one stands, and beside it the plain tree, whose storage timestamps
+/// compress too.
+pub(crate) struct Beside {
+    pub(crate) tree: Option<ArrayRef>,
+    pub(crate) plain: ArrayRef,
+}
+
+impl Beside {
+    /// The tree of the site: the other one, or the plain tree where there is none.
+    pub(crate) fn into_tree(self) -> ArrayRef
+        ensures { result ≡ unwrap_or self.tree self.plain }
+    {
+        let Beside { tree, plain } = self;
+        match tree {
+            Some(tree) => tree,
+            None => plain,
+        }
+    }
+}
+
+/// The tree, where it is smaller than the plain tree, beside that: nothing that is compressed grows.
+pub(crate) fn smaller(tree: ArrayRef, plain: ArrayRef) -> Beside
     requires flat { is_flat (tree_type plain) ≡ true }
     requires plain { IsPlain plain }
     requires few { length (rows plain) < 2 ^ 64 }
-    ensures { result ≡ smaller_or_plain (column_of plain) tree }
+    ensures tree { unwrap_or result.tree result.plain ≡ smaller_or_plain (column_of plain) tree }
+    ensures plain { result.plain ≡ plain }
 {
     plain.known();
     if tree.nbytes() < plain.nbytes() {
-        tree
+        Beside {
+            tree: Some(tree),
+            plain,
+        }
     } else {
-        plain
+        Beside { tree: None, plain }
     }
 }

@@ -1,7 +1,7 @@
 //! The compressor over any lawful schemes.
 
 ghost use Rattle.std.specs.Prelude.{◌≡◌, ◌<◌, ◌≤◌, ℕ, true, IfOk, List, length, map};
-ghost use Rattle.vx_base.specs.Answers.{Answers, Decided, Makes};
+ghost use Rattle.vx_base.specs.Answers.{Answers, Decided, Makes, OrMemory};
 ghost use Rattle.vx_base.specs.PlainType.{is_flat, is_leaf};
 ghost use Rattle.vx_model.specs.Cascade.{cascade};
 ghost use Rattle.vx_model.specs.Column.{column_of};
@@ -15,17 +15,18 @@ ghost use Rattle.vx_model.specs.TreeType.{tree_type};
 ghost use Rattle.vx_scheme.specs.Contexts.{site_of};
 ghost use Rattle.vx_scheme.specs.Excluded.{excluded};
 ghost use Rattle.vx_scheme.specs.Names.{name_of};
+ghost use Rattle.vx_compressor.specs.ByValue.{IsBeside};
 ghost use Rattle.vx_compressor.specs.Cascade.{setting, leaf_tree, compressed_child};
 ghost use Rattle.vx_compressor.specs.CascadeLaws.{AnswersAreFixed};
 ghost use Rattle.vx_compressor.specs.Distinct.{have_own_names, schemes_refusal};
 ghost use Rattle.vx_compressor.specs.Reach.{IsInReach, most_part_rows};
 
 use crate::bans::{Ban, bans_of};
-use crate::by_value::by_value;
+use crate::by_value::{Beside, by_value};
 use crate::distinct::have_own_names;
 use crate::excluded::is_excluded;
-use crate::nested::{column_tree, plain_tree};
-use crate::timestamps::site_or_storage;
+use crate::nested::{column_tree, plain_copy, plain_tree};
+use crate::timestamps::stamps_tree;
 use std::alloc::Global;
 use std::marker::{Brand, Model};
 use std::sync::ledger::{Blank, Ledger};
@@ -165,7 +166,7 @@ impl<S: Scheme> CascadingCompressor<S> {
     }
 }
 
-/// The tree of a leaf column or of timestamps.
+/// The tree of a leaf column or of timestamps. Timestamps are made plain first, since they are judged twice.
 pub(crate) fn flat_tree<S: Scheme>(
     compressor: &CascadingCompressor<S>,
     array: &ArrayRef,
@@ -177,9 +178,12 @@ pub(crate) fn flat_tree<S: Scheme>(
     ensures ctx { ctx.new ≡ ctx.old }
 {
     array.known();
+    if array.dtype().is_timestamp() {
+        let plain = plain_copy(ctx.alloc(), array)?;
+        return stamps_tree(compressor, plain, ctx);
+    }
     let site = CompressorContext::new();
-    let tree = counted::<Brand, S>(compressor, Blank::new(1), array, &site, ctx)?;
-    by_type(compressor, tree, &site, ctx)
+    counted::<Brand, S>(compressor, Blank::new(1), array, &site, ctx)
 }
 
 /// `flat_tree` of a plain tree, which moves to the fresh site.
@@ -194,31 +198,11 @@ pub(crate) fn flat_plain_tree<S: Scheme>(
     ensures answer { Answers result (cascade (leaf_tree (setting S.meaning compressor.now ctx.old)) (column_of plain)) }
     ensures ctx { ctx.new ≡ ctx.old }
 {
-    plain.known();
-    let site = CompressorContext::new();
-    let tree = plain_counted::<Brand, S>(compressor, Blank::new(1), plain, &site, ctx)?;
-    by_type(compressor, tree, &site, ctx)
-}
-
-// The tree of a column, from the one that its fresh site made. Timestamps have a second candidate: the tree of their storage.
-fn by_type<S: Scheme>(
-    compressor: &CascadingCompressor<S>,
-    made: ArrayRef,
-    site: &CompressorContext,
-    ctx: &mut ExecutionCtx,
-) -> VortexResult<ArrayRef>
-    requires flat { is_flat (tree_type made) ≡ true }
-    requires fresh { site_of site.now ≡ fresh }
-    requires reach { IsInReach (column_of made) (site_of site.now).budget }
-    requires made { made ≡ leaf_tree (setting S.meaning compressor.now ctx.old) (column_of made) (site_of site.now) }
-    ensures answer { Answers result (cascade (leaf_tree (setting S.meaning compressor.now ctx.old)) (column_of made)) }
-    ensures ctx { ctx.new ≡ ctx.old }
-{
-    if made.dtype().is_timestamp() {
-        site_or_storage(compressor, made, site, ctx)
-    } else {
-        Ok(made)
+    if plain.dtype().is_timestamp() {
+        return stamps_tree(compressor, plain, ctx);
     }
+    let site = CompressorContext::new();
+    plain_counted::<Brand, S>(compressor, Blank::new(1), plain, &site, ctx)
 }
 
 // The tree of the array's column at a site, with a step counter of its own. A plain array is copied only where its values
@@ -270,4 +254,26 @@ pub(crate) fn plain_counted<L: Ledger, S: Scheme>(
     let words = ctx.words().copy(ctx.alloc())?;
     let mut steps = Steps::<L>::new(blank);
     compressor.site_tree(words.as_slice(), plain, site, ctx, &mut steps)
+}
+
+/// `plain_counted`, and the plain tree beside it.
+pub(crate) fn beside_counted<L: Ledger, S: Scheme>(
+    compressor: &CascadingCompressor<S>,
+    blank: Blank,
+    plain: ArrayRef,
+    site: &CompressorContext,
+    ctx: &mut ExecutionCtx,
+) -> VortexResult<Beside>
+    requires flat { is_flat (tree_type plain) ≡ true }
+    requires plain { IsPlain plain }
+    requires reach { IsInReach (column_of plain) (site_of site.now).budget }
+    requires name { blank.name ≡ L.name }
+    requires parts { blank.parts ≡ L.parts }
+    requires some { 0 < L.parts }
+    ensures answer { OrMemory result (λ made. IsBeside (leaf_tree (setting S.meaning compressor.now ctx.old) (column_of plain) (site_of site.now)) plain made.tree made.plain) }
+    ensures ctx { ctx.new ≡ ctx.old }
+{
+    let words = ctx.words().copy(ctx.alloc())?;
+    let mut steps = Steps::<L>::new(blank);
+    compressor.site_beside(words.as_slice(), plain, site, ctx, &mut steps)
 }

@@ -36,9 +36,8 @@ pub(crate) fn column_tree<S: Scheme>(
     plain_tree(compressor, plain, ctx)
 }
 
-// The plain tree of the array's column.
-fn plain_copy(alloc: Global, array: &ArrayRef) -> VortexResult<ArrayRef>
-    requires { IsWithin (column_of array.now) }
+/// The plain tree of the array's column.
+pub(crate) fn plain_copy(alloc: Global, array: &ArrayRef) -> VortexResult<ArrayRef>
     ensures { Answers result (plain (column_of array.now)) }
 {
     if array.is_plain() {

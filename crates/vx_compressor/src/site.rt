@@ -10,12 +10,13 @@ ghost use Rattle.vx_model.specs.Plain.{IsPlain};
 ghost use Rattle.vx_model.specs.TreeType.{tree_type};
 ghost use Rattle.vx_scheme.specs.Asked.{HasValue};
 ghost use Rattle.vx_scheme.specs.Contexts.{site_of, options_of};
+ghost use Rattle.vx_compressor.specs.ByValue.{IsBeside};
 ghost use Rattle.vx_compressor.specs.Cascade.{setting, deferred_score, eligible, choice, chosen, children_of, leaf_tree};
 ghost use Rattle.vx_compressor.specs.Choice.{best_of};
 ghost use Rattle.vx_compressor.specs.Judging.{Holds, IsAskable, IsReady, WasPutOff, DoesFor, found, meant, meant_pair};
 ghost use Rattle.vx_compressor.specs.Reach.{IsInReach};
 
-use crate::by_value::{by_value, smaller};
+use crate::by_value::{Beside, by_value, smaller};
 use crate::choice::{Score, better, is_always, scheme_of, threshold};
 use crate::compressor::CascadingCompressor;
 use crate::eligible::merged_options;
@@ -43,29 +44,53 @@ impl<S: Scheme> CascadingCompressor<S> {
         ensures answer { Answers result (leaf_tree (setting S.meaning self.now words.now) (column_of canonical) (site_of site.now)) }
         ensures ctx { ctx.new ≡ ctx.old }
     {
-        canonical.known();
-        match by_value(ctx.alloc(), &canonical, site)? {
-            Some(tree) => Ok(tree),
-            None => self.best_tree(words, canonical, site, ctx, steps),
-        }
+        let beside = self.site_beside(words, canonical, site, ctx, steps)?;
+        Ok(beside.into_tree())
     }
 
-    // The tree of the chosen scheme where it is smaller than the plain tree, else the plain tree. Some row has a value.
+    /// `site_tree`, and the plain tree beside it.
     #[cycle(site)]
-    fn best_tree<L: Ledger>(
+    pub(crate) fn site_beside<L: Ledger>(
         &self,
         words: &[u64],
         canonical: ArrayRef,
         site: &CompressorContext,
         ctx: &mut ExecutionCtx,
         steps: &mut Steps<L>,
-    ) -> VortexResult<ArrayRef>
+    ) -> VortexResult<Beside>
+        requires words { 0 < length words.now }
+        requires flat { is_flat (tree_type canonical) ≡ true }
+        requires reach { IsInReach (column_of canonical) (site_of site.now).budget }
+        requires plain { IsPlain canonical }
+        ensures answer { OrMemory result (λ made. IsBeside (leaf_tree (setting S.meaning self.now words.now) (column_of canonical) (site_of site.now)) canonical made.tree made.plain) }
+        ensures ctx { ctx.new ≡ ctx.old }
+    {
+        canonical.known();
+        match by_value(ctx.alloc(), &canonical, site)? {
+            Some(tree) => Ok(Beside {
+                tree: Some(tree),
+                plain: canonical,
+            }),
+            None => self.best_beside(words, canonical, site, ctx, steps),
+        }
+    }
+
+    // The tree of the chosen scheme where it is smaller than the plain tree, and that beside it. Some row has a value.
+    #[cycle(site)]
+    fn best_beside<L: Ledger>(
+        &self,
+        words: &[u64],
+        canonical: ArrayRef,
+        site: &CompressorContext,
+        ctx: &mut ExecutionCtx,
+        steps: &mut Steps<L>,
+    ) -> VortexResult<Beside>
         requires words { 0 < length words.now }
         requires askable { IsAskable (column_of canonical) }
         requires reach { IsInReach (column_of canonical) (site_of site.now).budget }
         requires value { HasValue (column_of canonical) }
         requires plain { IsPlain canonical }
-        ensures answer { Answers result (chosen_or_plain (column_of canonical) (chosen (children_of (setting S.meaning self.now words.now) (site_of site.now)) (setting S.meaning self.now words.now) (column_of canonical) (site_of site.now))) }
+        ensures answer { OrMemory result (λ made. IsBeside (chosen_or_plain (column_of canonical) (chosen (children_of (setting S.meaning self.now words.now) (site_of site.now)) (setting S.meaning self.now words.now) (column_of canonical) (site_of site.now))) canonical made.tree made.plain) }
         ensures ctx { ctx.new ≡ ctx.old }
     {
         let schemes = self.eligible(ctx.alloc(), canonical.dtype(), site)?;
@@ -74,7 +99,8 @@ impl<S: Scheme> CascadingCompressor<S> {
         let mut column = ArrayAndStats::new(canonical, options);
         let best = self.choose(words, schemes.as_slice(), &mut column, &site, ctx, steps)?;
         let Some(scheme) = best else {
-            return Ok(column.into_array());
+            let plain = column.into_array();
+            return Ok(Beside { tree: None, plain });
         };
         let tree = self.trial(words, &scheme, &mut column, &site, ctx, steps)?;
         Ok(smaller(tree, column.into_array()))

@@ -1,35 +1,47 @@
-use Rattle.std.proofs.Common.{◌∙◌, sym, ap}
+use Rattle.std.proofs.Common.{◌≡◌, ◌∙◌, sym, ap, subst, false}
+use Rattle.vx_base.specs.PlainType.{is_timestamp}
 use Rattle.vx_model.specs.Cascade.{cascade}
 use Rattle.vx_model.specs.Column.{column_of}
-use Rattle.vx_scheme.specs.Contexts.{site_of}
+use Rattle.vx_model.specs.Site.{max_cascade}
+use Rattle.vx_model.specs.TreeType.{tree_type}
+use Rattle.vx_model.proofs.LeafLemmas.{cascade-leaf}
+use Rattle.vx_model.proofs.MadeLemmas.{rows_fit}
 use Rattle.vx_compressor.specs.Cascade.{setting, leaf_tree}
-use Rattle.vx_compressor.proofs.CascadeLemmas.{lawful-map}
+use Rattle.vx_compressor.specs.Reach.{IsInReach}
+use Rattle.vx_compressor.proofs.HeldLemmas.{column_of-is, plain-is}
 use Rattle.vx_compressor.proofs.OneValueTrees.{answers_along}
-use Rattle.vx_compressor.proofs.TimestampTrees.{made_of}
+use Rattle.vx_compressor.proofs.TimestampTrees.{leaf_type}
 use Rattle.vx_compressor.proofs.compressor.flat_tree.Goals as goal
 
-pub by_type-requires-clause-flat : goal.by_type-requires-clause-flat
-by_type-requires-clause-flat g c =
-    let meaning = g.S.Scheme.meaning in
-    let set = setting meaning c.args.compressor.now c.args.ctx.now in
-    (made_of set (lawful-map meaning g.met.S.Scheme.lawful c.args.compressor.now) c.args.array.now c.in_ok-tree.tree (site_of c.new-site.result) c.new-site.ensures.site c.known.ensures c.requires.flat c.requires.reach c.in_ok-tree.ensures.answer).flat
+-- ---- timestamps
 
-pub by_type-requires-clause-reach : goal.by_type-requires-clause-reach
-by_type-requires-clause-reach g c =
-    let meaning = g.S.Scheme.meaning in
-    let set = setting meaning c.args.compressor.now c.args.ctx.now in
-    (made_of set (lawful-map meaning g.met.S.Scheme.lawful c.args.compressor.now) c.args.array.now c.in_ok-tree.tree (site_of c.new-site.result) c.new-site.ensures.site c.known.ensures c.requires.flat c.requires.reach c.in_ok-tree.ensures.answer).reach
+pub stamps_tree-requires-clause-stamps : goal.stamps_tree-requires-clause-stamps
+stamps_tree-requires-clause-stamps g c =
+    let here = column_of c.args.array.now in
+    let same = column_of-is c.in_ok-plain.plain here (rows_fit c.args.array.now c.known.ensures) c.in_ok-plain.ensures in
+    ap (λ d. is_timestamp d.dtype) same ∙ ap is_timestamp (sym c.dtype.ensures) ∙ sym c.is_timestamp.ensures ∙ c.if-is_timestamp.true
 
-pub by_type-requires-clause-made : goal.by_type-requires-clause-made
-by_type-requires-clause-made g c =
-    let meaning = g.S.Scheme.meaning in
-    let set = setting meaning c.args.compressor.now c.args.ctx.now in
-    let made = made_of set (lawful-map meaning g.met.S.Scheme.lawful c.args.compressor.now) c.args.array.now c.in_ok-tree.tree (site_of c.new-site.result) c.new-site.ensures.site c.known.ensures c.requires.flat c.requires.reach c.in_ok-tree.ensures.answer in
-    made.own ∙ ap (λ words. leaf_tree (setting meaning c.args.compressor.now words) (column_of c.in_ok-tree.tree) (site_of c.new-site.result)) (sym c.in_ok-tree.ensures.ctx)
+pub stamps_tree-requires-clause-plain : goal.stamps_tree-requires-clause-plain
+stamps_tree-requires-clause-plain g c = plain-is c.in_ok-plain.plain (column_of c.args.array.now) (rows_fit c.args.array.now c.known.ensures) c.in_ok-plain.ensures
+
+pub stamps_tree-requires-clause-reach : goal.stamps_tree-requires-clause-reach
+stamps_tree-requires-clause-reach g c =
+    let here = column_of c.args.array.now in
+    let same = column_of-is c.in_ok-plain.plain here (rows_fit c.args.array.now c.known.ensures) c.in_ok-plain.ensures in
+    subst (λ d. IsInReach d max_cascade) (sym same) c.requires.reach
+
+pub returns-then-is_timestamp-clause-answer : goal.returns-then-is_timestamp-clause-answer
+returns-then-is_timestamp-clause-answer g c =
+    let leaves = leaf_tree (setting g.S.Scheme.meaning c.args.compressor.now c.args.ctx.now) in
+    let here = column_of c.args.array.now in
+    let same = column_of-is c.in_ok-plain.plain here (rows_fit c.args.array.now c.known.ensures) c.in_ok-plain.ensures in
+    answers_along c.stamps_tree.result _ _ (ap (cascade leaves) same) c.stamps_tree.ensures.answer
+
+-- ---- columns of a leaf type
 
 pub returns-clause-answer : goal.returns-clause-answer
 returns-clause-answer g c =
-    let meaning = g.S.Scheme.meaning in
-    let set = setting meaning c.args.compressor.now c.args.ctx.now in
-    let made = made_of set (lawful-map meaning g.met.S.Scheme.lawful c.args.compressor.now) c.args.array.now c.in_ok-tree.tree (site_of c.new-site.result) c.new-site.ensures.site c.known.ensures c.requires.flat c.requires.reach c.in_ok-tree.ensures.answer in
-    answers_along c.by_type.result _ _ (λ i. cascade (leaf_tree (setting meaning c.args.compressor.now (c.in_ok-tree.ensures.ctx i))) (made.column i)) c.by_type.ensures.answer
+    let leaves = leaf_tree (setting g.S.Scheme.meaning c.args.compressor.now c.args.ctx.now) in
+    let here = column_of c.args.array.now in
+    let other : is_timestamp (tree_type c.args.array.now) ≡ false = ap is_timestamp (sym c.dtype.ensures) ∙ sym c.is_timestamp.ensures ∙ c.if-is_timestamp.false in
+    answers_along c.counted.result _ _ (ap (leaves here) c.new-site.ensures.site ∙ sym (cascade-leaf leaves here (leaf_type here.dtype c.requires.flat other))) c.counted.ensures.answer

@@ -21,6 +21,7 @@ use Rattle.vx_scheme.specs.Names.{name_of}
 use Rattle.vx_scheme.specs.Resolved.{IsResolved}
 use Rattle.vx_scheme.specs.declared.estimate.DeferredEstimate.TheVariants.{Sample}
 use Rattle.vx_scheme.specs.declared.split.Split.TheVariants.{Kept, Finished, Parts}
+use Rattle.vx_compressor.specs.ByValue.{IsBeside}
 use Rattle.vx_compressor.specs.Cascade.{setting, part_trees, eligible, trial, verdict_score, deferred_score, choice, chosen, children_of, leaf_tree}
 use Rattle.vx_compressor.specs.Choice.{best_of}
 use Rattle.vx_compressor.specs.Judging.{Holds, IsAskable, IsReady, WasPutOff, DoesFor, found, meant, meant_pair}
@@ -36,33 +37,33 @@ use Rattle.vx_compressor.proofs.SampleSizes.{sample-column, site_tree-sampled, r
 use Rattle.vx_compressor.proofs.TrialLemmas.{trial-kept, trial-finished, parts_made, joined_answer, part_trees-step, child_tree-none, child_tree-some, reach-below}
 use Rattle.vx_compressor.proofs.compressor.CascadingCompressor.+site.Goals as goal
 
--- ---- site_tree
+-- ---- site_beside
 
-pub site_tree-best_tree-requires : goal.site_tree-best_tree-requires
-site_tree-best_tree-requires g t c =
+pub site_beside-best_beside-requires : goal.site_beside-best_beside-requires
+site_beside-best_beside-requires g t c =
     let own = column_of c.args.canonical in
     let here = open-here c.in_ok-tree.field-0 own (site_of c.args.site.now) c.in_ok-tree.ensures c.in-None.is in
     let value : HasValue own = here.value in
     let askable : IsAskable own = record { column = rows_fit c.args.canonical c.known.ensures; flat = c.requires.flat; some = here.some; few = few_in_reach own (site_of c.args.site.now).budget c.requires.reach } in
     search rules
 
-pub site_tree-returns-in-Some-clause-answer : goal.site_tree-returns-in-Some-clause-answer
-site_tree-returns-in-Some-clause-answer g t c =
+pub site_beside-returns-in-Some-clause-answer : goal.site_beside-returns-in-Some-clause-answer
+site_beside-returns-in-Some-clause-answer g t c =
     let set = setting g.S.Scheme.meaning c.args.self.now c.args.words.now in
     let site = site_of c.args.site.now in
-    decided-here c.in_ok-tree.field-0 c.in-Some.tree (column_of c.args.canonical) site c.in_ok-tree.ensures c.in-Some.is (chosen (children_of set site) set)
+    (decided-here c.in_ok-tree.field-0 c.in-Some.tree (column_of c.args.canonical) site c.in_ok-tree.ensures c.in-Some.is (chosen (children_of set site) set), refl)
 
-pub site_tree-returns-in-None-clause-answer : goal.site_tree-returns-in-None-clause-answer
-site_tree-returns-in-None-clause-answer g t c =
+pub site_beside-returns-in-None-clause-answer : goal.site_beside-returns-in-None-clause-answer
+site_beside-returns-in-None-clause-answer g t c =
     let set = setting g.S.Scheme.meaning c.args.self.now c.args.words.now in
     let site = site_of c.args.site.now in
     let here = open-here c.in_ok-tree.field-0 (column_of c.args.canonical) site c.in_ok-tree.ensures c.in-None.is in
-    answers_along c.best_tree.result _ _ (here.chosen (chosen (children_of set site) set)) c.best_tree.ensures.answer
+    subst (λ t. OrMemory c.best_beside.result (λ made. IsBeside t c.args.canonical made.tree made.plain)) (here.chosen (chosen (children_of set site) set)) c.best_beside.ensures.answer
 
--- ---- best_tree
+-- ---- best_beside
 
-pub best_tree-choose-requires : goal.best_tree-choose-requires
-best_tree-choose-requires g t c =
+pub best_beside-choose-requires : goal.best_beside-choose-requires
+best_beside-choose-requires g t c =
     let meaning = g.S.Scheme.meaning in
     let own = column_of c.args.canonical in
     let here = column_of c.new-column.result.array in
@@ -82,8 +83,8 @@ best_tree-choose-requires g t c =
     let value : HasValue here = subst HasValue (sym same) c.requires.value in
     search rules
 
-pub best_tree-trial-requires : goal.best_tree-trial-requires
-best_tree-trial-requires g t c =
+pub best_beside-trial-requires : goal.best_beside-trial-requires
+best_beside-trial-requires g t c =
     let meaning = g.S.Scheme.meaning in
     let own = column_of c.args.canonical in
     let here = column_of c.new-column.result.array in
@@ -109,21 +110,26 @@ best_tree-trial-requires g t c =
     subst (λ col. IsInReach col after.budget) (sym (column-held c.choose.new.column here opts held ∙ same)) (subst (IsInReach own) (sym budget) c.requires.reach) in
     search rules
 
-pub best_tree-returns-clause-answer : goal.best_tree-returns-clause-answer
-best_tree-returns-clause-answer g t c =
+pub best_beside-returns-clause-answer : goal.best_beside-returns-clause-answer
+best_beside-returns-clause-answer g t c =
     let meaning = g.S.Scheme.meaning in
+    let own = column_of c.args.canonical in
     let here = column_of c.new-column.result.array in
+    let same : here ≡ own = ap (λ b. column_of b.array) c.new-column.ensures in
     let opts = options_of c.with_merged_stats_options-site.result in
     let set = setting meaning c.args.self.now c.args.words.now in
     let m = meaning c.in-Some.scheme in
     let site = site_of c.with_merged_stats_options-site.result in
     let child = children_of set site in
-    let left = column_of-is c.into_array-2.result here c.in_ok-best.ensures.holds.column (c.into_array-2.ensures.array ∙ c.in_ok-tree.ensures.column.array ∙ c.in_ok-best.ensures.holds.array) in
+    let held : c.into_array.result ≡ plain here = c.into_array.ensures.array ∙ c.in_ok-tree.ensures.column.array ∙ c.in_ok-best.ensures.holds.array in
+    let left = column_of-is c.into_array.result here c.in_ok-best.ensures.holds.column held in
     let made : c.in_ok-tree.tree ≡ trial child m here site = c.in_ok-tree.ensures.answer ∙ ap (λ col. trial child m col site) (column-held c.choose.new.column here opts c.in_ok-best.ensures.holds) in
-    let is : Some m ≡ choice child set here site = sym (ap (option_map meaning) c.in-Some.is) ∙ c.in_ok-best.ensures.answer in
-    c.smaller.ensures ∙ (λ i. smaller_or_plain (left i) (made i))
-    ∙ chosen-some meaning child set here site c.in-Some.scheme is
-    ∙ (λ i. let col = column_of (c.new-column.ensures i).array in let s = c.with_merged_stats_options-site.ensures.site i in chosen_or_plain col (chosen (children_of set s) set col s))
+    let is : Some m ≡ choice child set here site = sym (ap (option_map meaning) c.in-Some.is) ∙ c.in_ok-best.ensures.answer in (
+      c.smaller.ensures.tree ∙ (λ i. smaller_or_plain (left i) (made i))
+          ∙ chosen-some meaning child set here site c.in-Some.scheme is
+          ∙ (λ i. let col = column_of (c.new-column.ensures i).array in let s = c.with_merged_stats_options-site.ensures.site i in chosen_or_plain col (chosen (children_of set s) set col s)),
+      c.smaller.ensures.plain ∙ held ∙ ap plain same ∙ sym c.requires.plain,
+    )
 
 -- ---- choose
 

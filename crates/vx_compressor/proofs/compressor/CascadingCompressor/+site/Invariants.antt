@@ -9,31 +9,34 @@ use Rattle.vx_compressor.proofs.compressor.CascadingCompressor.+site.Given as go
 
 -- by the budget, and at one site by who calls whom
 abbrev pub decreases-part_tree : goal.decreases-part_tree
-decreases-part_tree g l = 9 * (site_of l.parent.now).budget + 0
+decreases-part_tree g l = 10 * (site_of l.parent.now).budget + 0
 
 abbrev pub decreases-part_trees : goal.decreases-part_trees
-decreases-part_trees g l = 9 * (site_of l.site.now).budget + 1
+decreases-part_trees g l = 10 * (site_of l.site.now).budget + 1
 
 abbrev pub decreases-trial : goal.decreases-trial
-decreases-trial g l = 9 * (site_of l.site.now).budget + 2
+decreases-trial g l = 10 * (site_of l.site.now).budget + 2
 
 abbrev pub decreases-sample_score : goal.decreases-sample_score
-decreases-sample_score g l = 9 * (site_of l.site.now).budget + 3
+decreases-sample_score g l = 10 * (site_of l.site.now).budget + 3
 
 abbrev pub decreases-deferred_score : goal.decreases-deferred_score
-decreases-deferred_score g l = 9 * (site_of l.site.now).budget + 4
+decreases-deferred_score g l = 10 * (site_of l.site.now).budget + 4
 
 abbrev pub decreases-judge : goal.decreases-judge
-decreases-judge g l = 9 * (site_of l.site.now).budget + 5
+decreases-judge g l = 10 * (site_of l.site.now).budget + 5
 
 abbrev pub decreases-choose : goal.decreases-choose
-decreases-choose g l = 9 * (site_of l.site.now).budget + 6
+decreases-choose g l = 10 * (site_of l.site.now).budget + 6
 
-abbrev pub decreases-best_tree : goal.decreases-best_tree
-decreases-best_tree g l = 9 * (site_of l.site.now).budget + 7
+abbrev pub decreases-best_beside : goal.decreases-best_beside
+decreases-best_beside g l = 10 * (site_of l.site.now).budget + 7
+
+abbrev pub decreases-site_beside : goal.decreases-site_beside
+decreases-site_beside g l = 10 * (site_of l.site.now).budget + 8
 
 abbrev pub decreases-site_tree : goal.decreases-site_tree
-decreases-site_tree g l = 9 * (site_of l.site.now).budget + 8
+decreases-site_tree g l = 10 * (site_of l.site.now).budget + 9
 
 -- the best so far and the schemes that are left give what all give
 abbrev pub invariant-judge-loop-scheme : goal.invariant-judge-loop-scheme
