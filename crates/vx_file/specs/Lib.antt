@@ -1,0 +1,4 @@
+pub mod Answers
+pub mod Lengths
+pub mod Made
+pub mod Writing
