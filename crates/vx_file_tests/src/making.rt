@@ -96,7 +96,7 @@ pub fn of_hex(alloc: Global, head: &str, tail: &str) -> VortexResult<Bytes> {
         for pair in digits.as_bytes().chunks(2) {
             let high = digit(pair[0]);
             let low = if pair.len() == 2 { digit(pair[1]) } else { 0 };
-            content.push(16 * high + low)?;
+            content.push(high << 4 | low)?;
         }
     }
     Ok(Bytes::from_vec(content))
