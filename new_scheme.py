@@ -1,11 +1,12 @@
 #!/usr/bin/env python3
 """Begins a crate with a scheme of your own, as a copy of a scheme of `vx_examples`.
 
-    python3 new_scheme.py CRATE TYPE finishing|part
+    python3 new_scheme.py CRATE TYPE finishing|part|texts
 
 CRATE, as `my_schemes`, is the new crate's name, and TYPE, as `MyScheme`, the scheme's. A copy with `finishing` is of
-`QuickPacking`, which finishes its tree; one with `part` is of `SpanFrame`, whose part is compressed again. Beside the
-crate stands CRATE_tests with a test, and both have a line in crates.txt.
+`QuickPacking`, which finishes its tree; one with `part` is of `SpanFrame`, whose part is compressed again; one with
+`texts` is of `JoinedTexts`, which takes texts and has a part. Beside the crate stands CRATE_tests with a test, and both
+have a line in crates.txt.
 """
 
 import re
@@ -18,14 +19,16 @@ TOP = Path(__file__).resolve().parent
 KINDS = {
     "finishing": ("QuickPacking", "quick_packing", "example.int.quickpacking", "compressor", "BitPacked", 0),
     "part": ("SpanFrame", "span_frame", "example.int.frame", "compressor_with_frames", "FoR", 1000),
+    "texts": ("JoinedTexts", "joined_texts", "example.text.joined", "compressor_with_texts", "VarBin", 0),
 }
 
-# Of the other schemes, and of all.
-TEXTS = ("JoinedTexts", "joined_texts")
-LEFT_OUT = {
-    "finishing": ("SpanFrame", "span_frame", *TEXTS),
-    "part": ("QuickPacking", "quick_packing", "QuickLemmas", *TEXTS),
+# Words of the files of each scheme; a copy of another one leaves them out.
+FILES = {
+    "finishing": ("QuickPacking", "quick_packing", "QuickLemmas"),
+    "part": ("SpanFrame", "span_frame"),
+    "texts": ("JoinedTexts", "joined_texts"),
 }
+LEFT_OUT = {kind: [word for other, words in FILES.items() if other != kind for word in words] for kind in FILES}
 
 # The wrong body that the check has to refuse: its name, the line and what it becomes.
 EDITS = {
@@ -35,6 +38,7 @@ EDITS = {
         "    one_part(alloc, differences(alloc, array, least)?)",
         "    one_part(alloc, differences(alloc, array, least - 1)?)",
     ),
+    "texts": ("part_is_the_column_itself", "    one_part(alloc, array.row_offsets(alloc)?)", "    one_part(alloc, array.copy(alloc)?)"),
 }
 
 TEST = """//! Tests of `{type}`, with ample memory.
@@ -57,6 +61,38 @@ mod tests {{
     fn its_tree_is_smaller(rt: HostRuntime) -> Result<(), Fail> {{
         let rows = rows(rt.alloc())?;
         let array = column(rt.alloc(), U16, rows.as_slice())?;
+        let tree = compressor(rt.alloc())?.compress(&array, &mut context(rt.alloc())?)?;
+        assert!(rt; tree.encoding_id() == {id} && tree.nbytes() < array.nbytes());
+        Ok(())
+    }}
+}}
+"""
+
+TEXTS_TEST = """//! Tests of `{type}`, with ample memory.
+#![tactic(auto)]
+
+#[cfg(test)]
+mod tests {{
+{uses}
+
+    // Two letters, different for each of 1,024 rows.
+    fn text(alloc: Global, row: u16) -> VortexResult<Bytes> {{
+        let letters = [48 + (row / 32 % 32) as u8, 48 + (row % 32) as u8];
+        Ok(Bytes::from_vec(Vec::from_slice(alloc, letters.as_slice())?))
+    }}
+
+    fn rows(alloc: Global) -> VortexResult<ByteRows> {{
+        let mut rows = Vec::new(alloc);
+        for row in 0..1024_u16 {{
+            rows.push(text(alloc, row)?)?;
+        }}
+        Ok(ByteRows::from_vec(rows))
+    }}
+
+    #[test]
+    fn its_tree_is_smaller(rt: HostRuntime) -> Result<(), Fail> {{
+        let rows = rows(rt.alloc())?;
+        let array = accepted(ArrayRef::var_bin_view(rows, None, DType::utf8(NonNullable)))?;
         let tree = compressor(rt.alloc())?.compress(&array, &mut context(rt.alloc())?)?;
         assert!(rt; tree.encoding_id() == {id} && tree.nbytes() < array.nbytes());
         Ok(())
@@ -170,8 +206,13 @@ def wrong_body(crate, name, kind, files):
 
 def test_of(crate, name, kind):
     *_, encoding, least = KINDS[kind]
-    paths = [f"{crate}::compressor", "std::alloc::Global", "std::test::Fail", f"vx_base::ArrayId::{encoding}",
-             "vx_base::PType::U16", "vx_base::VortexResult", "vx_fixtures::{column, context}"]
+    paths = [f"{crate}::compressor", "std::alloc::Global", "std::test::Fail", f"vx_base::ArrayId::{encoding}"]
+    if kind == "texts":
+        paths += ["vx_array::ArrayRef", "vx_base::Nullability::NonNullable", "vx_base::{ByteRows, Bytes, DType, VortexResult}",
+                  "vx_fixtures::{accepted, context}"]
+        uses = "\n".join(f"    use {path};" for path in sorted(paths))
+        return TEXTS_TEST.format(type=name, uses=uses, id=encoding)
+    paths += ["vx_base::PType::U16", "vx_base::VortexResult", "vx_fixtures::{column, context}"]
     uses = "\n".join(f"    use {path};" for path in sorted(paths))      # in the order in which `rt fmt` has them
     return TEST.format(type=name, uses=uses, id=encoding, least=least, greatest=least + 7)
 
