@@ -1,1 +1,3 @@
+pub mod MetadataLaws
 pub mod PartsTrees
+pub mod StandardFacts

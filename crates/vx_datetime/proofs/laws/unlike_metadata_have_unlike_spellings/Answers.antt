@@ -1,0 +1,5 @@
+use Rattle.vx_datetime.proofs.MetadataLaws.{spelled_one}
+use Rattle.vx_datetime.proofs.laws.unlike_metadata_have_unlike_spellings.Goals as goal
+
+pub returns : goal.returns
+returns c = spelled_one

@@ -1,0 +1,2 @@
+pub mod MetadataLaws
+pub mod StandardFacts

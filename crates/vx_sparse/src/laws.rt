@@ -1,0 +1,10 @@
+//! The law of metadata. The function does nothing: its clause is the law.
+
+ghost use Rattle.std.specs.Prelude.{◌≡◌};
+ghost use Rattle.vx_sparse.specs.Metadata.{NumbersFit, spelling};
+ghost use Rattle.vx_sparse.specs.declared.metadata.SparseMetadata.{SparseMetadata};
+
+/// Different metadata have different spellings.
+pub fn unlike_metadata_have_unlike_spellings()
+    ensures { (a b : SparseMetadata) → NumbersFit a → NumbersFit b → spelling a ≡ spelling b → a ≡ b }
+{}

@@ -1,0 +1,5 @@
+//! Tests of sparse arrays: their metadata.
+#![tactic(auto)]
+
+#[cfg(test)]
+mod metadata;
