@@ -1,0 +1,12 @@
+pub mod AggregateFacts
+pub mod ComparisonFacts
+pub mod ConversionFacts
+pub mod ExtremeLaws
+pub mod FitLaws
+pub mod OperationFacts
+pub mod OrderLemmas
+pub mod PatternFacts
+pub mod PatternLaws
+pub mod Samples
+pub mod SelectionFacts
+pub mod SliceLaws

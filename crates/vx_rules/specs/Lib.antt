@@ -1,0 +1,9 @@
+pub mod Aggregates
+pub mod Comparisons
+pub mod Conversions
+pub mod Laws
+pub mod Operations
+pub mod Outcomes
+pub mod Patterns
+pub mod Selections
+pub mod ValueOrder
