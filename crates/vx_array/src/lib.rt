@@ -22,6 +22,7 @@ mod reads;
 mod sizes;
 mod tree_counts;
 mod value_at;
+mod work;
 
 pub use array::{ArrayRef, Child, Node, Patches};
 pub use arrays::Arrays;

@@ -29,7 +29,7 @@ impl ArrayRef {
     /// The plain tree of the rows that pieces give; a filled row is null, or the default where the type isn't nullable.
     /// Refuses NoMemory alone.
     #[cycle(plain_pieces)]
-    pub(crate) fn plain_pieces(&self, alloc: Global, pieces: &[Piece]) -> VortexResult<ArrayRef>
+    pub fn plain_pieces(&self, alloc: Global, pieces: &[Piece]) -> VortexResult<ArrayRef>
         requires { IsTrue (are_pieces (length (rows self.now)) pieces.now) }
         ensures { Answers result (plain_pieced pieces.now self.now) }
     {

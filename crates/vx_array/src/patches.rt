@@ -33,7 +33,8 @@ impl Patches {
     ///
     /// Refuses MismatchedTypes where the indices aren't non-nullable integers; then LengthMismatch where there aren't as
     /// many values as indices; then IndicesNotAscending where the indices don't rise strictly or one lies outside
-    /// `offset .. offset + array_len`, a sum that is taken exactly. Takes no memory; a refusal hands both back.
+    /// `offset .. offset + array_len`, a sum that is taken exactly. Takes memory only for indices that are sums of
+    /// differences, and does without where it is wanting. A refusal hands both back.
     pub fn new(
         array_len: u64,
         offset: u64,
@@ -54,7 +55,7 @@ impl Patches {
                 inputs: (indices, values),
             });
         }
-        if !indices.is_ascending(offset, array_len) {
+        if !indices.ascends(offset, array_len) {
             return Err(Refused {
                 error: VortexError::IndicesNotAscending,
                 inputs: (indices, values),
@@ -174,8 +175,17 @@ pub(crate) fn as_index(integer: Option<i128>) -> Option<u128>
 
 impl ArrayRef {
     // Whether the rows rise strictly and lie in `offset .. offset + len`.
+    pub(crate) fn ascends(&self, offset: u64, len: u64) -> bool
+        requires { IsTrue (is_integer (tree_type self.now)) }
+        ensures { result ≡ ascend offset (offset + len) (rows self.now) }
+    {
+        let plain = self.summed();
+        self.or(&plain).is_ascending(offset, len)
+    }
+
+    // `ascends`, one row after another.
     #[tactic(auto, using(vx_model::proofs::PatchLemmas::ascend_steps))]
-    pub(crate) fn is_ascending(&self, offset: u64, len: u64) -> bool
+    fn is_ascending(&self, offset: u64, len: u64) -> bool
         requires { IsTrue (is_integer (tree_type self.now)) }
         ensures { result ≡ ascend offset (offset + len) (rows self.now) }
     {

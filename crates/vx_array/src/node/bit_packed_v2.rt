@@ -135,6 +135,16 @@ fn are_block_offsets(offsets: &ArrayRef, most: u32) -> bool
     requires some { 0 < length (rows offsets.now) }
     ensures { result ≡ are_block_offsets most (rows offsets.now) }
 {
+    let plain = offsets.summed();
+    are_widths(offsets.or(&plain), most)
+}
+
+// `are_block_offsets`, one block after another.
+fn are_widths(offsets: &ArrayRef, most: u32) -> bool
+    requires integers { IsTrue (is_integer (tree_type offsets.now)) }
+    requires some { 0 < length (rows offsets.now) }
+    ensures { result ≡ are_block_offsets most (rows offsets.now) }
+{
     if !is_count(offsets.integer_at(0), 0) {
         return false;
     }

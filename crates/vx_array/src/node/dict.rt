@@ -134,13 +134,14 @@ fn have_places(alloc: Global, codes: &ArrayRef, values: u64) -> bool
     }
 }
 
-// `have_places` in one pass over the codes, stored or decoded; row by row where memory for decoded ones is wanting.
+// `have_places` in one pass over the codes, stored or decoded; row by row where their bytes don't pay for decoding them, or
+// memory is wanting.
 fn decoded_have_places(alloc: Global, codes: &ArrayRef, values: u64) -> bool
     requires { IsTrue (is_integer (tree_type codes.now)) }
     ensures { result ≡ list_all (is_place values) (rows codes.now) }
 {
     // A null decodes to code 0, which is in bounds unless there are no values.
-    if values == 0 {
+    if values == 0 || !codes.is_paid() {
         return codes.has_places(values);
     }
     codes.known();

@@ -9,7 +9,7 @@ ghost use Rattle.vx_model.specs.Refusals.{list_refusal, kept};
 ghost use Rattle.vx_model.specs.Tree.{list};
 ghost use Rattle.vx_model.specs.TreeType.{tree_type};
 
-use super::offsets::{are_integers, are_offsets, row_count};
+use super::offsets::{are_integers, hold_offsets, row_count};
 use crate::array::{ArrayRef, Child, Node};
 use crate::node::{Made, boxed};
 use std::alloc::Global;
@@ -100,7 +100,7 @@ fn refusal(
     if offsets.len() == 0 || !has_length(valid, row_count(offsets)) {
         return Some(VortexError::LengthMismatch);
     }
-    if !are_offsets(offsets, elements.len()) {
+    if !hold_offsets(offsets, elements.len()) {
         return Some(VortexError::OutOfBounds);
     }
     if !is_allowed(valid, nullability) {

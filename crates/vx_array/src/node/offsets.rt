@@ -43,6 +43,16 @@ pub(crate) fn offset_at(offsets: &ArrayRef, place: u64) -> u128
 }
 
 // Whether the offsets begin at 0, never fall and end at the number of items.
+pub(crate) fn hold_offsets(offsets: &ArrayRef, items: u64) -> bool
+    requires integers { IsTrue (is_integer (tree_type offsets.now)) }
+    requires some { 1 ≤ length (rows offsets.now) }
+    ensures { result ≡ are_offsets items (rows offsets.now) }
+{
+    let plain = offsets.summed();
+    are_offsets(offsets.or(&plain), items)
+}
+
+// `hold_offsets`, one offset after another.
 pub(crate) fn are_offsets(offsets: &ArrayRef, items: u64) -> bool
     requires integers { IsTrue (is_integer (tree_type offsets.now)) }
     requires some { 1 ≤ length (rows offsets.now) }

@@ -19,8 +19,8 @@ use vx_base::{Cell, TimestampType, VortexResult};
 use vx_flat::parts_are_canonical;
 use vx_time::{is_canonical, sum_of, units_in_second};
 
-// Whether each row is null or canonical: of linear columns by few rows, else of the decoded columns, or row
-// by row where memory for them is wanting.
+// Whether each row is null or canonical: of linear columns by few rows, else of the decoded columns, or row by row where their
+// bytes don't pay for decoding them, or memory is wanting.
 pub(super) fn are_canonical(
     alloc: Global,
     kind: &TimestampType,
@@ -38,6 +38,9 @@ pub(super) fn are_canonical(
     let divisor = units_in_second(kind.unit());
     if days.is_linear() && seconds.is_linear() && subseconds.is_linear() {
         return linear_are_canonical(divisor, days, seconds, subseconds);
+    }
+    if !days.is_paid() || !seconds.is_paid() || !subseconds.is_paid() {
+        return rows_are_canonical(divisor, days, seconds, subseconds);
     }
     match decoded_are_canonical(alloc, divisor, days, seconds, subseconds) {
         Ok(held) => held,

@@ -21,7 +21,7 @@ use vx_base::{Cell, VortexResult};
 use vx_flat::{is_place, sums_are_places};
 
 // Whether `offset + index` is in bounds of `values` values in every row: of linear indices by few rows, else of the decoded
-// columns, or row by row where memory for them is wanting.
+// columns, or row by row where their bytes don't pay for decoding them, or memory is wanting.
 pub(super) fn have_places(
     alloc: Global,
     values: u64,
@@ -37,6 +37,9 @@ pub(super) fn have_places(
 {
     if indices.is_linear() {
         return linear_have_places(values, indices, offsets, len);
+    }
+    if !indices.is_paid() || !offsets.is_paid() {
+        return rows_have_places(values, indices, offsets, len);
     }
     match decoded_have_places(alloc, values, indices, offsets, len) {
         Ok(held) => held,

@@ -83,7 +83,7 @@ fn refusal(ends: &ArrayRef, values: &ArrayRef) -> Option<VortexError>
     if ends.len() != values.len() {
         return Some(VortexError::LengthMismatch);
     }
-    if !ends.is_ascending(1, u64::MAX) {
+    if !ends.ascends(1, u64::MAX) {
         return Some(VortexError::OutOfBounds);
     }
     None

@@ -44,7 +44,7 @@ impl ArrayRef {
     ) -> Made<(ArrayRef, Bytes, Option<Mask>, DType)>
         ensures { Makes (var_bin_refusal offsets bytes valid (type_of dtype)) (var_bin offsets bytes (kept valid) (type_of dtype)) (offsets, bytes, valid, dtype) result }
     {
-        match refusal(&offsets, &bytes, &valid, &dtype) {
+        match tested(&offsets, &bytes, &valid, &dtype) {
             Some(error) => Err(Refused {
                 error,
                 inputs: (offsets, bytes, valid, dtype),
@@ -83,6 +83,19 @@ impl ArrayRef {
 }
 
 // The refusal of these inputs, if there is one.
+fn tested(
+    offsets: &ArrayRef,
+    bytes: &Bytes,
+    valid: &Option<Mask>,
+    dtype: &DType,
+) -> Option<VortexError>
+    ensures { result ≡ var_bin_refusal offsets.now bytes.now valid.now (type_of dtype.now) }
+{
+    let plain = offsets.summed();
+    refusal(offsets.or(&plain), bytes, valid, dtype)
+}
+
+// `tested`, one offset after another.
 fn refusal(
     offsets: &ArrayRef,
     bytes: &Bytes,

@@ -23,8 +23,8 @@ impl Patches {
     ///
     /// Refuses MismatchedTypes where the indices or the chunk offsets aren't non-nullable integers; then LengthMismatch
     /// where there aren't as many values as indices or `ceil((offset + array_len) / 1024)` chunk offsets, a sum that is
-    /// taken exactly; then IndicesNotAscending as `new`; then OutOfBounds where an entry is another number. Takes no memory;
-    /// a refusal hands the three back.
+    /// taken exactly; then IndicesNotAscending as `new`; then OutOfBounds where an entry is another number. Takes memory as
+    /// `new`; a refusal hands the three back.
     pub fn new_chunked(
         array_len: u64,
         offset: u64,
@@ -98,7 +98,7 @@ fn chunked_refusal(
     if indices.len() != values.len() || !has_each {
         return Some(VortexError::LengthMismatch);
     }
-    if !indices.is_ascending(offset, array_len) {
+    if !indices.ascends(offset, array_len) {
         return Some(VortexError::IndicesNotAscending);
     }
     if !are_chunk_offsets(indices, chunks) {
@@ -114,9 +114,20 @@ fn chunk_count(offset: u64, len: u64) -> u128
     (u128::from(offset) + u128::from(len) + (CHUNK_ROWS - 1)) / CHUNK_ROWS
 }
 
-// Whether the entry of chunk c is the number of indices below 1,024 * c, for each chunk: the indices rise, so the places of
-// those below only go on from chunk to chunk.
+// Whether the entry of chunk c is the number of indices below 1,024 * c, for each chunk.
 fn are_chunk_offsets(indices: &ArrayRef, chunks: &ArrayRef) -> bool
+    requires indices { IsTrue (is_integer (tree_type indices.now)) }
+    requires chunks { IsTrue (is_integer (tree_type chunks.now)) }
+    requires rising { IsTrue (ascend 0 (2 ^ 65) (rows indices.now)) }
+    ensures { result ≡ are_chunk_offsets (rows indices.now) (rows chunks.now) }
+{
+    let plain_indices = indices.summed();
+    let plain_chunks = chunks.summed();
+    are_counts(indices.or(&plain_indices), chunks.or(&plain_chunks))
+}
+
+// `are_chunk_offsets`, one chunk after another: the indices rise, so the places of those below only go on from chunk to chunk.
+fn are_counts(indices: &ArrayRef, chunks: &ArrayRef) -> bool
     requires indices { IsTrue (is_integer (tree_type indices.now)) }
     requires chunks { IsTrue (is_integer (tree_type chunks.now)) }
     requires rising { IsTrue (ascend 0 (2 ^ 65) (rows indices.now)) }

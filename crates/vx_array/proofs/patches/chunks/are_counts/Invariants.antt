@@ -2,7 +2,7 @@ use Rattle.std.proofs.Common.{◌≡◌, ◌≤◌, ◌*◌, true}
 use Rattle.std.specs.List.{list_all, range_with_len}
 use Rattle.vx_model.specs.Rows.{rows, row_at, is_index, block_rows}
 use Rattle.vx_model.specs.WellFormed.{indices_below}
-use Rattle.vx_array.proofs.patches.chunks.are_chunk_offsets.Given as goal
+use Rattle.vx_array.proofs.patches.chunks.are_counts.Given as goal
 
 abbrev pub invariant-loop-chunk : goal.invariant-loop-chunk
 invariant-loop-chunk l =

@@ -4,7 +4,7 @@ use Rattle.vx_model.specs.Rows.{rows, row_at, is_index}
 use Rattle.vx_model.specs.WellFormed.{is_block_width}
 use Rattle.vx_array.proofs.ChunkCounts.{all-next, all-fail}
 use Rattle.vx_array.proofs.LinearRows.{offsets-linear}
-use Rattle.vx_array.proofs.node.bit_packed_v2.are_block_offsets.Goals as goal
+use Rattle.vx_array.proofs.node.bit_packed_v2.are_widths.Goals as goal
 
 pub loop-block-preserved : goal.loop-block-preserved
 loop-block-preserved c = all-next (is_block_width c.args.most (rows c.args.offsets.now)) c.loop-block.block c.loop-block.invariant (sym c.is_block_width.ensures ∙ c.if-not-is_block_width.false)

@@ -3,7 +3,7 @@ use Rattle.vx_model.specs.Rows.{rows, row_at, is_index, block_rows}
 use Rattle.vx_model.specs.WellFormed.{indices_below}
 use Rattle.vx_model.proofs.ChunkLemmas.{below-rises}
 use Rattle.vx_array.proofs.ChunkCounts.{all-next, all-fail}
-use Rattle.vx_array.proofs.patches.chunks.are_chunk_offsets.Goals as goal
+use Rattle.vx_array.proofs.patches.chunks.are_counts.Goals as goal
 
 pub returns-then-not-is_count : goal.returns-then-not-is_count
 returns-then-not-is_count c =
