@@ -5,7 +5,6 @@ pub mod Counts
 pub mod FileAnswers
 pub mod FileSteps
 pub mod IntegerSteps
-pub mod MakeNodes2
 pub mod MakeSteps
 pub mod NodeSteps
 pub mod PatchSteps

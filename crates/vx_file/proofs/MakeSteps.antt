@@ -1,7 +1,7 @@
 -- What a constructor's answer says to the reader of its parts.
 use Rattle.std.proofs.Common.{◌≡◌, ℕ, Bool, List, Option, Some, None, refl, sym, subst}
 use Rattle.std.specs.Prelude.{Err, Ok, is_none}
-use Rattle.vx_base.specs.Answers.{Makes, MakesSurely, SurelyDecided}
+use Rattle.vx_base.specs.Answers.{Makes, SurelyDecided}
 use Rattle.vx_base.specs.declared.error.Refused.{Refused}
 use Rattle.vx_base.specs.declared.error.VortexError.{VortexError}
 use Rattle.vx_codec.specs.declared.error.ReadError.{ReadError}
@@ -14,26 +14,21 @@ fails_none NoMemory read h = tt
 fails_none Malformed read h = h
 
 -- what a constructor refuses is no node
-pub not_made : {P T U : Type 0} (r : Option VortexError) (ok : P → Bool) (make : P → U) (parts : P) (rest : List ℕ) (made : U) (inputs : T) (f : Refused T) → ok parts ≡ is_none r → Makes r made inputs (Err f)
+not_made : {P T U : Type 0} (r : Option VortexError) (ok : P → Bool) (make : P → U) (parts : P) (rest : List ℕ) (made : U) (inputs : T) (f : Refused T) → ok parts ≡ is_none r → Makes r made inputs (Err f)
     → Fails (error_of f.error) (checked ok make parts rest)
 not_made None ok make parts rest made inputs f e h = rw h.0 tt
 not_made (Some x) ok make parts rest made inputs f e h = fails_none (error_of f.error) (checked ok make parts rest) (rw e refl)
 
-pub surely_not_made : {P T U : Type 0} (r : Option VortexError) (ok : P → Bool) (make : P → U) (parts : P) (rest : List ℕ) (made : U) (inputs : T) (f : Refused T) → ok parts ≡ is_none r → MakesSurely r made inputs (Err f)
-    → Fails (error_of f.error) (checked ok make parts rest)
-surely_not_made None ok make parts rest made inputs f e h = absurd h
-surely_not_made (Some x) ok make parts rest made inputs f e h = fails_none (error_of f.error) (checked ok make parts rest) (rw e refl)
+-- the same of an error that the reader made of the constructor's
+pub is_refused : {P T U : Type 0} (r : Option VortexError) (ok : P → Bool) (make : P → U) (parts : P) (rest : List ℕ) (made : U) (inputs : T) (f : Refused T) (e : ReadError) → ok parts ≡ is_none r → e ≡ error_of f.error → Makes r made inputs (Err f)
+    → Fails e (checked ok make parts rest)
+is_refused r ok make parts rest made inputs f e same is h = subst (λ x. Fails x (checked ok make parts rest)) (sym is) (not_made r ok make parts rest made inputs f same h)
 
 -- what a constructor makes is the node
 pub is_made : {P T U : Type 0} (r : Option VortexError) (ok : P → Bool) (make : P → U) (parts : P) (rest : List ℕ) (made : U) (inputs : T) (a : U) → ok parts ≡ is_none r → made ≡ make parts → Makes r made inputs (Ok a)
     → checked ok make parts rest ≡ Some (a, rest)
 is_made None ok make parts rest made inputs a e m h = rw (e, h, m) refl
 is_made (Some x) ok make parts rest made inputs a e m h = absurd h
-
-pub surely_made : {P T U : Type 0} (r : Option VortexError) (ok : P → Bool) (make : P → U) (parts : P) (rest : List ℕ) (made : U) (inputs : T) (a : U) → ok parts ≡ is_none r → made ≡ make parts → MakesSurely r made inputs (Ok a)
-    → checked ok make parts rest ≡ Some (a, rest)
-surely_made None ok make parts rest made inputs a e m h = rw (e, h, m) refl
-surely_made (Some x) ok make parts rest made inputs a e m h = absurd h
 
 -- what a constructor refuses that hands nothing back
 decided_not_made : {P U : Type 0} (r : Option VortexError) (ok : P → Bool) (make : P → U) (parts : P) (rest : List ℕ) (Made : U → Type 0) (f : VortexError) → ok parts ≡ is_none r → SurelyDecided r Made (Err f)

@@ -1,10 +1,15 @@
--- Words that are read at once, and byte by byte as their format says.
-use Rattle.std.proofs.Common.{◌≡◌, ◌<◌, ◌≤◌, ◌+◌, ◌*◌, ℕ, zero, suc, Bool, true, false, List, [], ◌∷◌, length, get_or, take, drop, Some, None, refl, sym, ap, ◌∙◌, arith}
-use Rattle.std.proofs.lemmas.Bool.{lt-ltb}
+-- Words and bytes that are read at once, and one byte after another as their format says.
+use Rattle.std.proofs.Common.{◌≡◌, ◌<◌, ◌≤◌, ◌+◌, ◌*◌, ℕ, pos, zero, suc, Bool, true, false, List, [], ◌∷◌, length, map, get_or, take, drop, Some, None, refl, sym, ap, ◌∙◌, arith}
+use Rattle.std.proofs.lemmas.Bool.{lt-ltb, ltb-true, ltb-false}
 use Rattle.std.proofs.lemmas.List.{length-take-le}
 use Rattle.std.specs.Int.{Width, w16, w32, w64, from_le_bytes}
 use Rattle.std.specs.Prelude.{nat_lt}
-use Rattle.vx_codec.specs.FixedWidth.{little_endian_at}
+use Rattle.std.proofs.Math.Nat.{add-zero}
+use Rattle.vx_base.specs.declared.ptype.PType.TheVariants.{U8}
+use Rattle.vx_codec.specs.FixedWidth.{little_endian_at, raw_at}
+use Rattle.vx_codec.specs.Format.{made_at}
+use Rattle.vx_codec.specs.Lists.{repeated_at}
+use Rattle.vx_spelling.specs.Fields.{integer}
 
 -- the number in the first k bytes, the lowest first
 abbrev number_of : ℕ → List ℕ → ℕ
@@ -68,3 +73,26 @@ pub word_found : (k : ℕ) (w : Width) (bytes first rest : List ℕ) (word : ℕ
 word_found k w bytes first rest word same small front behind le is =
     let number = is ∙ ap (from_le_bytes w) front ∙ same (take k bytes) (length-take-le k bytes le) ∙ number_front k bytes in
     number_at k bytes small le ∙ (λ i. Some (sym number i, sym behind i))
+
+-- ---- integers of one byte
+
+byte_read : (b : ℕ) (bytes : List ℕ) → b < 256 → (integer U8).parse (b ∷ bytes) ≡ Some (pos b, bytes)
+byte_read b bytes small = rw (lt-ltb b 256 small, add-zero b, lt-ltb b 256 small) refl
+
+all_read : (n : ℕ) (bytes : List ℕ) → ((i : ℕ) → get_or bytes i 0 < 256) → n ≤ length bytes → repeated_at (integer U8).parse n bytes ≡ Some (map (λ b. pos b) (take n bytes), drop n bytes)
+all_read zero bytes small le = refl
+all_read (suc n) [] small le = absurd (omega (arith, le))
+all_read (suc n) (b ∷ bytes) small le = rw (byte_read b bytes (small 0), all_read n bytes (λ i. small (suc i)) (omega (arith, le))) refl
+
+none_read : (n : ℕ) (bytes : List ℕ) → ((i : ℕ) → get_or bytes i 0 < 256) → length bytes < n → repeated_at (integer U8).parse n bytes ≡ None
+none_read zero bytes small lt = absurd (omega (arith, lt))
+none_read (suc n) [] small lt = refl
+none_read (suc n) (b ∷ bytes) small lt = rw (byte_read b bytes (small 0), none_read n bytes (λ i. small (suc i)) (omega (arith, lt))) refl
+
+by_length : (t : Bool) (n : ℕ) (bytes : List ℕ) → ((i : ℕ) → get_or bytes i 0 < 256) → nat_lt (length bytes) n ≡ t → repeated_at (integer U8).parse n bytes ≡ made_at (map (λ b. pos b)) (raw_at n) bytes
+by_length true n bytes small h = rw (h, none_read n bytes small (ltb-true (length bytes) n h)) refl
+by_length false n bytes small h = rw (h, all_read n bytes small (ltb-false (length bytes) n h)) refl
+
+-- integers of one byte are the bytes as they stand
+pub bytes_read : (n : ℕ) (bytes : List ℕ) → ((i : ℕ) → get_or bytes i 0 < 256) → repeated_at (integer U8).parse n bytes ≡ made_at (map (λ b. pos b)) (raw_at n) bytes
+bytes_read n bytes small = by_length (nat_lt (length bytes) n) n bytes small refl

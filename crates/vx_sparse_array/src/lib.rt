@@ -1,5 +1,5 @@
-//! Sparse arrays: a fill for most rows, patches for the others, and `encode`, which makes them of any column. Kernels and
-//! metadata of sparse arrays will stand in a crate above this one, vx_sparse, which exports it.
+//! Sparse arrays: a fill for most rows, patches for the others, and `encode`, which makes them of any column. The crate above,
+//! vx_sparse, has their metadata and exports them.
 #![tactic(auto)]
 
 mod array;

@@ -1,6 +1,7 @@
 //! Readers of integers: one in the width of its type, and lists of them.
 
-ghost use Rattle.std.specs.Prelude.{◌≡◌, ◌<◌, ◌^◌, map, IfOk, true, false};
+ghost use Rattle.std.specs.Prelude.{◌≡◌, ◌<◌, ◌^◌, pos, map, IfOk, true, false};
+ghost use Rattle.vx_base.specs.declared.ptype.PType.TheVariants.{U8};
 ghost use Rattle.vx_base.specs.Integers.{bits_of, is_signed};
 ghost use Rattle.vx_base.specs.Wrapping.{from_bits};
 ghost use Rattle.vx_codec.specs.Lists.{repeated_at};
@@ -12,7 +13,7 @@ mod words;
 
 use std::alloc::Global;
 use vx_base::{IntList, Integer, PType};
-use vx_codec::{ReadError, read_fixed};
+use vx_codec::{ReadError, read_fixed, read_raw};
 use vx_values::Ints;
 use words::read_word;
 
@@ -80,7 +81,7 @@ fn read_unsigned(
 {
     match ptype {
         PType::U8 => {
-            let (items, rest) = read_items(alloc, bytes, count)?;
+            let (items, rest) = read_bytes(alloc, bytes, count)?;
             Ok((Ints::U8(items), rest))
         }
         PType::U16 => {
@@ -129,6 +130,14 @@ fn read_signed(
         }
         _ => unreachable!(),
     }
+}
+
+// `count` unsigned integers of one byte, copied as they stand.
+fn read_bytes(alloc: Global, bytes: &[u8], count: u64) -> Result<(IntList<u8>, &[u8]), ReadError>
+    ensures { Reads (λ x. (map (λ b. pos b) x.0, x.1.now)) result (repeated_at (integer U8).parse count bytes.now) }
+{
+    let (items, rest) = read_raw(bytes, count)?;
+    Ok((IntList::from_vec(Vec::from_slice(alloc, items)?), rest))
 }
 
 // An integer of the type.

@@ -1,7 +1,7 @@
 //! Words of 1, 2, 4 and 8 bytes, little-endian, each loaded at once: byte by byte, a column takes twelve times as long as a copy
 //! of its bytes.
 
-ghost use Rattle.std.specs.Prelude.{◌≡◌, ◌<◌, ◌^◌, IfOk};
+ghost use Rattle.std.specs.Prelude.{◌<◌, ◌^◌, IfOk};
 ghost use Rattle.vx_base.specs.Integers.{bits_of, bytes_of};
 ghost use Rattle.vx_codec.specs.FixedWidth.{little_endian_at};
 ghost use Rattle.vx_codec.specs.Reads.{Reads};

@@ -2,7 +2,7 @@ use Rattle.std.proofs.Common.{refl}
 use Rattle.vx_model.specs.Refusals.{rle_refusal}
 use Rattle.vx_model.specs.Tree.{rle}
 use Rattle.vx_spelling.specs.NestedParts.{rle_ok, rle_of}
-use Rattle.vx_file.proofs.MakeNodes2.{is_refused}
+use Rattle.vx_file.proofs.MakeSteps.{is_refused}
 use Rattle.vx_file.proofs.reading.codes.make_rle.Goals as goal
 
 pub returns-in-Err : goal.returns-in-Err

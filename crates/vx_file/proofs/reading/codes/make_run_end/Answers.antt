@@ -2,7 +2,7 @@ use Rattle.std.proofs.Common.{refl}
 use Rattle.vx_model.specs.Refusals.{run_end_refusal}
 use Rattle.vx_model.specs.Tree.{run_end}
 use Rattle.vx_spelling.specs.NestedParts.{run_end_ok, run_end_of}
-use Rattle.vx_file.proofs.MakeNodes2.{is_refused}
+use Rattle.vx_file.proofs.MakeSteps.{is_refused}
 use Rattle.vx_file.proofs.reading.codes.make_run_end.Goals as goal
 
 pub returns-in-Err : goal.returns-in-Err

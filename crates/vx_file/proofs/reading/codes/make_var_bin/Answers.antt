@@ -3,8 +3,7 @@ use Rattle.vx_base.specs.TypeOf.{type_of}
 use Rattle.vx_model.specs.Refusals.{kept, var_bin_refusal}
 use Rattle.vx_model.specs.Tree.{var_bin}
 use Rattle.vx_spelling.specs.NestedParts.{VarBinParts, var_bin_ok, var_bin_of}
-use Rattle.vx_file.proofs.MakeNodes2.{is_refused}
-use Rattle.vx_file.proofs.MakeSteps.{is_made}
+use Rattle.vx_file.proofs.MakeSteps.{is_made, is_refused}
 use Rattle.vx_file.proofs.reading.codes.make_var_bin.Goals as goal
 
 pub returns-in-Ok : goal.returns-in-Ok

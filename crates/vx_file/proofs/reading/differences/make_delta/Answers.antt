@@ -2,7 +2,7 @@ use Rattle.std.proofs.Common.{refl}
 use Rattle.vx_model.specs.Refusals.{delta_refusal, kept}
 use Rattle.vx_model.specs.Tree.{delta}
 use Rattle.vx_spelling.specs.PackedParts.{delta_of, delta_ok}
-use Rattle.vx_file.proofs.MakeNodes2.{is_refused}
+use Rattle.vx_file.proofs.MakeSteps.{is_refused}
 use Rattle.vx_file.proofs.reading.differences.make_delta.Goals as goal
 
 pub returns-in-Err : goal.returns-in-Err

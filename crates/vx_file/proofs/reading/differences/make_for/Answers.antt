@@ -2,7 +2,7 @@ use Rattle.std.proofs.Common.{refl}
 use Rattle.vx_model.specs.Refusals.{for_refusal}
 use Rattle.vx_model.specs.Tree.{frame_of_reference}
 use Rattle.vx_spelling.specs.PackedParts.{for_of, for_ok}
-use Rattle.vx_file.proofs.MakeNodes2.{is_refused}
+use Rattle.vx_file.proofs.MakeSteps.{is_refused}
 use Rattle.vx_file.proofs.reading.differences.make_for.Goals as goal
 
 pub returns-in-Err : goal.returns-in-Err

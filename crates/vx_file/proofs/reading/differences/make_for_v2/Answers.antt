@@ -1,7 +1,7 @@
 use Rattle.std.proofs.Common.{refl}
 use Rattle.vx_model.specs.Refusals.{for_v2_refusal}
 use Rattle.vx_spelling.specs.PackedParts.{frames_of, frames_ok}
-use Rattle.vx_file.proofs.MakeNodes2.{is_refused}
+use Rattle.vx_file.proofs.MakeSteps.{is_refused}
 use Rattle.vx_file.proofs.reading.differences.make_for_v2.Goals as goal
 
 pub returns-in-Err : goal.returns-in-Err

@@ -2,7 +2,7 @@ use Rattle.std.proofs.Common.{refl}
 use Rattle.vx_model.specs.Refusals.{kept, list_refusal}
 use Rattle.vx_model.specs.Tree.{list}
 use Rattle.vx_spelling.specs.NestedParts.{ListParts, list_ok, list_of}
-use Rattle.vx_file.proofs.MakeNodes2.{is_refused}
+use Rattle.vx_file.proofs.MakeSteps.{is_refused}
 use Rattle.vx_file.proofs.reading.nested.make_list.Goals as goal
 
 pub returns-in-Err : goal.returns-in-Err

@@ -3,7 +3,7 @@ use Rattle.std.specs.List.{zip}
 use Rattle.vx_model.specs.Refusals.{kept, structure_refusal}
 use Rattle.vx_model.specs.Tree.{of_list, structure}
 use Rattle.vx_spelling.specs.NestedParts.{StructParts, struct_ok, struct_of}
-use Rattle.vx_file.proofs.MakeNodes2.{is_refused}
+use Rattle.vx_file.proofs.MakeSteps.{is_refused}
 use Rattle.vx_file.proofs.Zips.{names_of-zip, trees_of-zip}
 use Rattle.vx_file.proofs.reading.nested.make_struct.Goals as goal
 

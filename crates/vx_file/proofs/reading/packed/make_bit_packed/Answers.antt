@@ -4,8 +4,7 @@ use Rattle.vx_model.specs.Refusals.{bit_packed_refusal, kept_packed}
 use Rattle.vx_model.specs.Tree.{plain_packed, packed_of}
 use Rattle.vx_spelling.specs.PackedParts.{packed_from, packed_ok}
 use Rattle.vx_file.specs.Made.{flat_parts_of}
-use Rattle.vx_file.proofs.MakeSteps.{is_made}
-use Rattle.vx_file.proofs.MakeNodes2.{is_refused}
+use Rattle.vx_file.proofs.MakeSteps.{is_made, is_refused}
 use Rattle.vx_file.proofs.reading.packed.make_bit_packed.Goals as goal
 
 pub returns-in-Ok : goal.returns-in-Ok

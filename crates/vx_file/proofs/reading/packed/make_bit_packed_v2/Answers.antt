@@ -4,8 +4,7 @@ use Rattle.vx_model.specs.Refusals.{bit_packed_v2_refusal, kept_blocks}
 use Rattle.vx_model.specs.Tree.{plain_blocks, blocks_of}
 use Rattle.vx_spelling.specs.PackedParts.{BlocksFields, blocks_from, blocks_ok, plain_blocks_of}
 use Rattle.vx_file.specs.Made.{flat_parts_of}
-use Rattle.vx_file.proofs.MakeSteps.{is_made}
-use Rattle.vx_file.proofs.MakeNodes2.{is_refused}
+use Rattle.vx_file.proofs.MakeSteps.{is_made, is_refused}
 use Rattle.vx_file.proofs.reading.packed.make_bit_packed_v2.Goals as goal
 
 pub returns-in-Ok : goal.returns-in-Ok

@@ -3,7 +3,7 @@ use Rattle.vx_model.specs.Refusals.{sparse_refusal}
 use Rattle.vx_model.specs.Tree.{sparse_of}
 use Rattle.vx_spelling.specs.PackedParts.{sparse_from, sparse_ok}
 use Rattle.vx_file.specs.Made.{patch_parts_of}
-use Rattle.vx_file.proofs.MakeNodes2.{is_refused}
+use Rattle.vx_file.proofs.MakeSteps.{is_refused}
 use Rattle.vx_file.proofs.reading.patches.make_sparse.Goals as goal
 
 pub returns-in-Err : goal.returns-in-Err

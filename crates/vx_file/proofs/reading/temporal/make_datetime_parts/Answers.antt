@@ -2,8 +2,7 @@ use Rattle.std.proofs.Common.{refl}
 use Rattle.vx_model.specs.Refusals.{datetime_parts_refusal}
 use Rattle.vx_model.specs.Tree.{datetime_parts}
 use Rattle.vx_spelling.specs.NestedParts.{datetime_of, datetime_ok}
-use Rattle.vx_file.proofs.MakeSteps.{is_made}
-use Rattle.vx_file.proofs.MakeNodes2.{is_refused}
+use Rattle.vx_file.proofs.MakeSteps.{is_made, is_refused}
 use Rattle.vx_file.proofs.reading.temporal.make_datetime_parts.Goals as goal
 
 pub returns-in-Ok : goal.returns-in-Ok

@@ -2,7 +2,7 @@ use Rattle.std.proofs.Common.{refl}
 use Rattle.vx_model.specs.Refusals.{timestamp_refusal}
 use Rattle.vx_model.specs.Tree.{timestamp}
 use Rattle.vx_spelling.specs.NestedParts.{timestamp_of, timestamp_ok}
-use Rattle.vx_file.proofs.MakeNodes2.{is_refused}
+use Rattle.vx_file.proofs.MakeSteps.{is_refused}
 use Rattle.vx_file.proofs.reading.temporal.make_timestamp.Goals as goal
 
 pub returns-in-Err : goal.returns-in-Err
