@@ -1,7 +1,11 @@
+pub mod Accepted
+pub mod CappedText
 pub mod Document
 pub mod Listing
 pub mod ReadColumn
 pub mod Reading
+pub mod RowText
 pub mod RowsOf
 pub mod Types
 pub mod Words
+pub mod Writing

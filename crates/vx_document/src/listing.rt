@@ -143,6 +143,15 @@ pub fn listing_text(alloc: Global, tree: &ArrayRef) -> Result<String, AllocError
     Ok(text)
 }
 
+/// The listings of trees, one after the other. An Err means that memory ran out.
+pub fn listings_text(alloc: Global, trees: &Arrays) -> Result<String, AllocError>
+    ensures { IfOk result (λ text. string_bytes text ≡ listings [] (of_list trees.now)) }
+{
+    let mut text = String::new(alloc);
+    push_trees(alloc, &mut text, "", trees)?;
+    Ok(text)
+}
+
 // Appends the line of sizes, in bytes.
 #[tactic(auto, unfolding(crate::specs::Listing::sizes_line))]
 fn push_sizes(text: &mut String, plain: u128, tree: u128) -> Result<(), AllocError>

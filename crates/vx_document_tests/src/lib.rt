@@ -1,4 +1,5 @@
-//! Tests of documents and listings: a small document of each type, the sample words of a seed, lines with a scalar.
+//! Tests of documents and listings: a small document of each type, the sample words of a seed, lines with a scalar, and columns
+//! written as documents.
 #![tactic(auto)]
 
 #[cfg(test)]
@@ -9,3 +10,5 @@ mod listings;
 mod nested;
 #[cfg(test)]
 mod reading;
+#[cfg(test)]
+mod writing;
