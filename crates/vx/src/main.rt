@@ -1,4 +1,5 @@
-//! `vx compress`: reads a document, compresses its column and writes the listing of the tree.
+//! `vx compress` and `vx store` read a document, compress its column, and write the listing or the file of the tree. `vx show` and
+//! `vx rows` read a file, and write the listings of its trees or their columns as documents.
 #![tactic(auto)]
 
 use std::alloc::AllocError;

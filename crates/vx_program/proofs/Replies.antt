@@ -4,9 +4,10 @@ use Rattle.std.specs.Prelude.{◌↔◌}
 use Rattle.std.proofs.lemmas.Bool.{le-ltb, lt-ltb}
 use Rattle.std.specs.Io.KnownBytes.{Consumes, IsAtEnd}
 use Rattle.vx_program.specs.Reading.{limit}
-use Rattle.vx_document.specs.Document.{document}
-use Rattle.vx_program.specs.Answer.{Reply, IsReply, answer, is_supported, refusal, of_bytes, of_document}
-use Rattle.vx_program.specs.Statuses.{IsUsage, IsTooLong}
+use Rattle.vx_program.specs.Answer.{Reply, IsReply, answer, refusal, of_bytes, of_input}
+use Rattle.vx_program.specs.Forms.{form_of}
+use Rattle.vx_program.specs.declared.forms.Form.{Form}
+use Rattle.vx_program.specs.Statuses.{IsTooLong}
 
 -- the bytes, where they are known
 abbrev known : Option (List ℕ) → List ℕ
@@ -28,20 +29,25 @@ as_many None new bytes came = (bytes, tt, omega arith)
 as_many (Some x) None bytes came = absurd came
 as_many (Some x) (Some y) bytes came = (x, refl, omega (arith, ap length came, length-append bytes y))
 
+-- what is no form is none
+pub is_none : (o : Option Form) → ((form : Form) → o ≡ Some form → ⊥) → o ≡ None
+is_none None other = refl
+is_none (Some form) other = absurd (other form refl)
+
 module _ (args : List (List ℕ)) (reply : Reply) (old new : Option (List ℕ)) (before now : ℕ) where
-  pub reply_usage : IsUsage args → now ≡ before → reply ≡ refusal 2 (codes "Usage") → IsReply old before now args reply
+  pub reply_usage : form_of args ≡ None → now ≡ before → reply ≡ refusal 2 (codes "Usage") → IsReply old before now args reply
   unfolding answer
   reply_usage other same e = inl (known old, is_known old, rw other e, same)
 
-  pub reply_whole : (bytes : List ℕ) → is_supported args ≡ true → Consumes old new bytes → IsAtEnd new → length bytes ≤ limit → now ≡ before → reply ≡ of_document (document bytes) → IsReply old before now args reply
+  pub reply_whole : (form : Form) (bytes : List ℕ) → form_of args ≡ Some form → Consumes old new bytes → IsAtEnd new → length bytes ≤ limit → now ≡ before → reply ≡ of_input form bytes → IsReply old before now args reply
   unfolding answer of_bytes
-  reply_whole bytes built came end short same e =
+  reply_whole form bytes built came end short same e =
       let not_long : ltb limit (length bytes) ≡ false = le-ltb limit (length bytes) short in
       inl (bytes, all_came old new bytes came end, rw (built, not_long) e, same)
 
-  pub reply_long : (bytes : List ℕ) → is_supported args ≡ true → Consumes old new bytes → length bytes ≡ limit + 1 → now ≡ before → reply ≡ refusal 7 (codes "TooLong") → IsReply old before now args reply
+  pub reply_long : (form : Form) (bytes : List ℕ) → form_of args ≡ Some form → Consumes old new bytes → length bytes ≡ limit + 1 → now ≡ before → reply ≡ refusal 7 (codes "TooLong") → IsReply old before now args reply
   unfolding answer of_bytes
-  reply_long bytes built came long same e =
+  reply_long form bytes built came long same e =
       let all = as_many old new bytes came in
       let above : ltb limit (length all.0) ≡ true = lt-ltb limit (length all.0) (omega (arith, all.2)) in
       inl (all.0, all.1, rw (built, above) e, same)

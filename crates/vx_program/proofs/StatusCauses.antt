@@ -1,18 +1,21 @@
 -- The status of a reply, and its cause.
-use Rattle.std.proofs.Common.{◌≡◌, ◌<◌, ℕ, List, length, Bool, true, false, cond, ltb, Option, Some, None, IfSome, codes, refl, ap, subst, sym, ◌∙◌, arith, inl, inr}
-use Rattle.std.specs.Prelude.{◌↔◌, ◌⊎◌}
+use Rattle.std.proofs.Common.{◌≡◌, ◌<◌, ℕ, List, length, Bool, true, false, leb, ltb, Option, Some, None, IfSome, codes, refl, ap, subst, sym, ◌∙◌, arith, inl, inr}
+use Rattle.std.specs.Prelude.{◌↔◌, ◌⊎◌, IsSomeAnd}
+use Rattle.std.specs.List.{list_all}
 use Rattle.std.proofs.lemmas.Bool.{ltb-true, ltb-false}
 use Rattle.std.proofs.lemmas.Option.{IfSome_then}
-use Rattle.vx_base.specs.declared.error.VortexError.TheVariants.{TooManyRows}
-use Rattle.vx_base.specs.ErrorName.{error_name}
-use Rattle.vx_model.specs.Plain.{plain}
-use Rattle.vx_model.specs.Size.{nbytes}
+use Rattle.vx_model.specs.Tree.{Tree}
 use Rattle.vx_btrblocks.specs.Shipped.{shipped_tree}
-use Rattle.vx_program.specs.Causes.{Rose}
-use Rattle.vx_program.specs.Reading.{limit}
 use Rattle.vx_document.specs.Document.{PlainDocument, document}
-use Rattle.vx_program.specs.Answer.{Reply, IsReply, answer, is_supported, refusal, read_fault, report, counts_fit, of_column, of_document, of_bytes}
-use Rattle.vx_program.specs.Statuses.{IsWritten, IsAnswered, ComesExactly, IsUsage, IsRead, IsBadDocument, HasTooManyRows, IsCompressible}
+use Rattle.vx_document.specs.Writing.{documents_text, extents_are_few}
+use Rattle.vx_spelling.specs.FileSpelling.{file_at}
+use Rattle.vx_program.specs.Answer.{Reply, IsReply, answer, refusal, read_fault, counts_fit, is_kept, of_column, stored, of_document, shown, written, of_file, of_input, of_bytes, of_form}
+use Rattle.vx_program.specs.Causes.{Rose}
+use Rattle.vx_program.specs.Forms.{form_of, is_supported}
+use Rattle.vx_program.specs.Reading.{limit}
+use Rattle.vx_program.specs.Statuses.{IsWritten, IsAnswered, ComesExactly, IsUsage, IsRead, Has, IsBad, Refuses, Answers, IsBadInput, IsRefused, IsAnswerable, IsCompress, IsBadDocument, HasTooManyRows, IsCompressible, can_be_stored, can_be_written}
+use Rattle.vx_program.specs.declared.forms.Form.{Form}
+use Rattle.vx_program.specs.declared.forms.Form.TheVariants.{Compress, Store, Show, Rows}
 
 both : {A B : Type 0} → A → B → A ↔ B
 both a b = (λ _. b, λ _. a)
@@ -20,23 +23,123 @@ both a b = (λ _. b, λ _. a)
 neither : {A B : Type 0} → (A → ⊥) → (B → ⊥) → A ↔ B
 neither f g = (λ a. absurd (f a), λ b. absurd (g b))
 
--- the reply to a document is never that of an input that is too long
-pub not_too_long : (o : Option PlainDocument) (reply : Reply) → reply ≡ of_document o → reply.0 ≡ 7 → ⊥
-unfolding of_document of_column
-not_too_long None reply e k = let status = ap (λ r. r.0) e in omega (arith, status, k)
-not_too_long (Some d) reply e k = by (counts_fit d.column) e
+-- ---- of a form and bytes within the limit
+
+-- a status that answers them: each comes exactly where its cause holds
+record FormCauses (form : Form) (bytes : List ℕ) (status : ℕ) : Type 0 where
+  pub answered : IsAnswered status
+  pub read : (status ≡ 2 → ⊥) × (status ≡ 7 → ⊥)
+  pub bad : status ≡ 3 ↔ IsBad form bytes
+  pub refused : status ≡ 4 ↔ Refuses form bytes
+  pub done : status ≡ 0 ↔ Answers form bytes
+
+module _ (form : Form) (bytes : List ℕ) where
+  is_bad : IsBad form bytes → (Refuses form bytes → ⊥) → (Answers form bytes → ⊥) → FormCauses form bytes 3
+  is_bad b r a =
+      record {
+        answered = (λ k. omega (arith, k), λ k. omega (arith, k), λ k. omega (arith, k));
+        read = (λ k. omega (arith, k), λ k. omega (arith, k));
+        bad = both refl b;
+        refused = neither (λ k. omega (arith, k)) r;
+        done = neither (λ k. omega (arith, k)) a;
+      }
+
+  is_refused : (IsBad form bytes → ⊥) → Refuses form bytes → (Answers form bytes → ⊥) → FormCauses form bytes 4
+  is_refused b r a =
+      record {
+        answered = (λ k. omega (arith, k), λ k. omega (arith, k), λ k. omega (arith, k));
+        read = (λ k. omega (arith, k), λ k. omega (arith, k));
+        bad = neither (λ k. omega (arith, k)) b;
+        refused = both refl r;
+        done = neither (λ k. omega (arith, k)) a;
+      }
+
+  is_done : (IsBad form bytes → ⊥) → (Refuses form bytes → ⊥) → Answers form bytes → FormCauses form bytes 0
+  is_done b r a =
+      record {
+        answered = (λ k. omega (arith, k), λ k. omega (arith, k), λ k. omega (arith, k));
+        read = (λ k. omega (arith, k), λ k. omega (arith, k));
+        bad = neither (λ k. omega (arith, k)) b;
+        refused = neither (λ k. omega (arith, k)) r;
+        done = both refl a;
+      }
+
+module _ (bytes : List ℕ) where
+  compress_counts : (d : PlainDocument) → document bytes ≡ Some d → (fit : Bool) → counts_fit d.column ≡ fit → FormCauses Compress bytes (of_column d.words d.column).0
+  unfolding of_column
+  compress_counts d e true f = rw f (is_done Compress bytes (λ b. cc) (λ r. let few : counts_fit d.column ≡ false = rw e at r in cc) (rw e f))
+  compress_counts d e false f = rw f (is_refused Compress bytes (λ b. cc) (rw e f) (λ a. let few : counts_fit d.column ≡ true = rw e at a in cc))
+
+  compress_causes : (o : Option PlainDocument) → document bytes ≡ o → FormCauses Compress bytes (of_document of_column o).0
+  compress_causes None e = is_bad Compress bytes e (λ r. rw e at r) (λ a. rw e at a)
+  compress_causes (Some d) e = compress_counts d e (counts_fit d.column) refl
+
+  store_tests : (d : PlainDocument) → document bytes ≡ Some d → (fit keeps : Bool) → counts_fit d.column ≡ fit → is_kept (shipped_tree d.words d.column) ≡ keeps
+      → FormCauses Store bytes (stored d.words d.column).0
+  unfolding stored
+  store_tests d e true true f k =
+      let all : can_be_stored d ≡ true = rw (f, k) refl in
+      rw (f, k) (is_done Store bytes (λ b. cc) (λ r. let no : can_be_stored d ≡ false = rw e at r in cc) (rw e all))
+  store_tests d e true false f k =
+      let all : can_be_stored d ≡ false = rw (f, k) refl in
+      rw (f, k) (is_refused Store bytes (λ b. cc) (rw e all) (λ a. let yes : can_be_stored d ≡ true = rw e at a in cc))
+  store_tests d e false keeps f k =
+      let all : can_be_stored d ≡ false = rw f refl in
+      rw f (is_refused Store bytes (λ b. cc) (rw e all) (λ a. let yes : can_be_stored d ≡ true = rw e at a in cc))
+
+  store_causes : (o : Option PlainDocument) → document bytes ≡ o → FormCauses Store bytes (of_document stored o).0
+  store_causes None e = is_bad Store bytes e (λ r. rw e at r) (λ a. rw e at a)
+  store_causes (Some d) e = store_tests d e (counts_fit d.column) (is_kept (shipped_tree d.words d.column)) refl refl
+
+  show_causes : (o : Option (List Tree)) → file_at bytes ≡ o → FormCauses Show bytes (of_file shown o).0
+  show_causes None e = is_bad Show bytes e (λ r. r) (λ a. rw e at a)
+  show_causes (Some trees) e = is_done Show bytes (λ b. cc) (λ r. r) (rw e tt)
+
+  rows_tests : (trees : List Tree) → file_at bytes ≡ Some trees → (few short : Bool) → list_all extents_are_few trees ≡ few → leb (length (documents_text trees)) limit ≡ short
+      → FormCauses Rows bytes (written trees).0
+  unfolding written
+  rows_tests trees e true true f k =
+      let all : can_be_written trees ≡ true = rw (f, k) refl in
+      rw (f, k) (is_done Rows bytes (λ b. cc) (λ r. let no : can_be_written trees ≡ false = rw e at r in cc) (rw e all))
+  rows_tests trees e true false f k =
+      let all : can_be_written trees ≡ false = rw (f, k) refl in
+      rw (f, k) (is_refused Rows bytes (λ b. cc) (rw e all) (λ a. let yes : can_be_written trees ≡ true = rw e at a in cc))
+  rows_tests trees e false short f k =
+      let all : can_be_written trees ≡ false = rw f refl in
+      rw f (is_refused Rows bytes (λ b. cc) (rw e all) (λ a. let yes : can_be_written trees ≡ true = rw e at a in cc))
+
+  rows_causes : (o : Option (List Tree)) → file_at bytes ≡ o → FormCauses Rows bytes (of_file written o).0
+  rows_causes None e = is_bad Rows bytes e (λ r. rw e at r) (λ a. rw e at a)
+  rows_causes (Some trees) e = rows_tests trees e (list_all extents_are_few trees) (leb (length (documents_text trees)) limit) refl refl
+
+form_causes : (form : Form) (bytes : List ℕ) → FormCauses form bytes (of_input form bytes).0
+unfolding of_input
+form_causes Compress bytes = compress_causes bytes (document bytes) refl
+form_causes Store bytes = store_causes bytes (document bytes) refl
+form_causes Show bytes = show_causes bytes (file_at bytes) refl
+form_causes Rows bytes = rows_causes bytes (file_at bytes) refl
+
+-- the reply to bytes within the limit is never that of an input that is too long
+pub not_too_long : (form : Form) (bytes : List ℕ) (reply : Reply) → reply ≡ of_input form bytes → reply.0 ≡ 7 → ⊥
+not_too_long form bytes reply e k = (form_causes form bytes).read.1 (sym (ap (λ r. r.0) e) ∙ k)
+
+-- ---- of arguments and bytes
+
+-- a command line that isn't supported has no form
+pub no_form : (args : List (List ℕ)) → is_supported args ≡ false → form_of args ≡ None
+no_form args e = by (form_of args) refl e
   where
-    by : (fit : Bool) → reply ≡ cond fit (report (nbytes (plain d.column)) (shipped_tree d.words d.column)) (refusal 4 (error_name TooManyRows)) → ⊥
-    by true f = let status = ap (λ r. r.0) f in omega (arith, status, k)
-    by false f = let status = ap (λ r. r.0) f in omega (arith, status, k)
+    by : (o : Option Form) → form_of args ≡ o → is_supported args ≡ false → form_of args ≡ None
+    by None f e = f
+    by (Some form) f e = let built : is_supported args ≡ true = rw f refl in absurd cc
 
 -- the status that answers these arguments and bytes: each comes exactly where its cause holds
 record Causes (args : List (List ℕ)) (bytes : List ℕ) (status : ℕ) : Type 0 where
   pub answered : IsAnswered status
   pub usage : status ≡ 2 ↔ IsUsage args
-  pub bad_document : status ≡ 3 ↔ IsBadDocument args bytes
-  pub too_many_rows : status ≡ 4 ↔ HasTooManyRows args bytes
-  pub done : status ≡ 0 ↔ IsCompressible args bytes
+  pub bad_input : status ≡ 3 ↔ IsBadInput args bytes
+  pub refused : status ≡ 4 ↔ IsRefused args bytes
+  pub done : status ≡ 0 ↔ IsAnswerable args bytes
 
 module _ (args : List (List ℕ)) (bytes : List ℕ) where
   not_supported : {X : Type 0} → is_supported args ≡ false → IsRead args bytes × X → ⊥
@@ -45,66 +148,51 @@ module _ (args : List (List ℕ)) (bytes : List ℕ) where
   too_long : {X : Type 0} → limit < length bytes → IsRead args bytes × X → ⊥
   too_long long h = let short = h.0.1 in omega arith
 
-  -- of a document, by whether its counts fit
-  of_counts : IsRead args bytes → (d : PlainDocument) → document bytes ≡ Some d → (fit : Bool) → counts_fit d.column ≡ fit
-      → Causes args bytes (cond fit (report (nbytes (plain d.column)) (shipped_tree d.words d.column)) (refusal 4 (error_name TooManyRows))).0
-  of_counts read d e true f =
+  -- a cause of the form is one of the command line
+  caused : (Cause : Form → List ℕ → Type 0) (form : Form) (status : ℕ) (P : Type 0) → form_of args ≡ Some form → IsRead args bytes → P ↔ Cause form bytes → P ↔ Has Cause args bytes
+  caused Cause form status P e read iff = (λ p. (read, rw e (iff.0 p)), λ h. iff.1 (rw e at h.1))
+
+  of_read : (form : Form) → form_of args ≡ Some form → IsRead args bytes → Causes args bytes (of_input form bytes).0
+  of_read form e read =
+      let c = form_causes form bytes in
       record {
-        answered = (λ k. omega (arith, k), λ k. omega (arith, k), λ k. omega (arith, k));
-        usage = neither (λ k. omega (arith, k)) (λ h. let built = read.0 in cc);
-        bad_document = neither (λ k. omega (arith, k)) (λ h. let none = h.1 in cc);
-        too_many_rows = neither (λ k. omega (arith, k)) (λ h. let many : counts_fit d.column ≡ false = rw e at h.1 in cc);
-        done = both refl (read, rw e f);
-      }
-  of_counts read d e false f =
-      record {
-        answered = (λ k. omega (arith, k), λ k. omega (arith, k), λ k. omega (arith, k));
-        usage = neither (λ k. omega (arith, k)) (λ h. let built = read.0 in cc);
-        bad_document = neither (λ k. omega (arith, k)) (λ h. let none = h.1 in cc);
-        too_many_rows = both refl (read, rw e f);
-        done = neither (λ k. omega (arith, k)) (λ h. let few : counts_fit d.column ≡ true = rw e at h.1 in cc);
+        answered = c.answered;
+        usage = neither c.read.0 (λ h. let built = read.0 in cc);
+        bad_input = caused IsBad form 3 _ e read c.bad;
+        refused = caused Refuses form 4 _ e read c.refused;
+        done = caused Answers form 0 _ e read c.done;
       }
 
-  -- of no more bytes than the limit, by their document
-  of_read : IsRead args bytes → (o : Option PlainDocument) → document bytes ≡ o → Causes args bytes (of_document o).0
-  unfolding of_document of_column
-  of_read read None e =
-      record {
-        answered = (λ k. omega (arith, k), λ k. omega (arith, k), λ k. omega (arith, k));
-        usage = neither (λ k. omega (arith, k)) (λ h. let built = read.0 in cc);
-        bad_document = both refl (read, e);
-        too_many_rows = neither (λ k. omega (arith, k)) (λ h. rw e at h.1);
-        done = neither (λ k. omega (arith, k)) (λ h. rw e at h.1);
-      }
-  of_read read (Some d) e = of_counts read d e (counts_fit d.column) refl
-
-  of_supported : is_supported args ≡ true → (long : Bool) → ltb limit (length bytes) ≡ long → Causes args bytes (cond long (refusal 7 (codes "TooLong")) (of_document (document bytes))).0
-  of_supported built true e =
-      let long = ltb-true _ _ e in
+  is_long : is_supported args ≡ true → limit < length bytes → Causes args bytes 7
+  is_long built long =
       record {
         answered = (λ k. omega (arith, k), λ k. omega (arith, k), λ k. omega (arith, k));
         usage = neither (λ k. omega (arith, k)) (λ h. cc);
-        bad_document = neither (λ k. omega (arith, k)) (too_long long);
-        too_many_rows = neither (λ k. omega (arith, k)) (too_long long);
+        bad_input = neither (λ k. omega (arith, k)) (too_long long);
+        refused = neither (λ k. omega (arith, k)) (too_long long);
         done = neither (λ k. omega (arith, k)) (too_long long);
       }
-  of_supported built false e = of_read (built, ltb-false _ _ e) (document bytes) refl
 
-  of_args : (built : Bool) → is_supported args ≡ built → Causes args bytes (cond built (of_bytes bytes) (refusal 2 (codes "Usage"))).0
+  of_length : (form : Form) → form_of args ≡ Some form → is_supported args ≡ true → (long : Bool) → ltb limit (length bytes) ≡ long → Causes args bytes (of_bytes form bytes).0
   unfolding of_bytes
-  of_args true e = of_supported e (ltb limit (length bytes)) refl
-  of_args false e =
+  of_length form e built true f = rw f (is_long built (ltb-true limit (length bytes) f))
+  of_length form e built false f = rw f (of_read form e (built, ltb-false limit (length bytes) f))
+
+  of_args : (o : Option Form) → form_of args ≡ o → Causes args bytes (of_form o bytes).0
+  of_args (Some form) e = let built : is_supported args ≡ true = rw e refl in of_length form e built (ltb limit (length bytes)) refl
+  of_args None e =
+      let none : is_supported args ≡ false = rw e refl in
       record {
         answered = (λ k. omega (arith, k), λ k. omega (arith, k), λ k. omega (arith, k));
-        usage = both refl e;
-        bad_document = neither (λ k. omega (arith, k)) (not_supported e);
-        too_many_rows = neither (λ k. omega (arith, k)) (not_supported e);
-        done = neither (λ k. omega (arith, k)) (not_supported e);
+        usage = both refl none;
+        bad_input = neither (λ k. omega (arith, k)) (not_supported none);
+        refused = neither (λ k. omega (arith, k)) (not_supported none);
+        done = neither (λ k. omega (arith, k)) (not_supported none);
       }
 
   causes-answer : Causes args bytes (answer args bytes).0
   unfolding answer
-  causes-answer = of_args (is_supported args) refl
+  causes-answer = of_args (form_of args) refl
 
 -- ---- the status of a reply, which may be that of a failed read
 
@@ -124,7 +212,7 @@ module _ (left : Option (List ℕ)) (before now : ℕ) (args : List (List ℕ)) 
 
   pub reply_is_usage : IsReply left before now args reply → IsUsage args → reply ≡ refusal 2 (codes "Usage")
   unfolding answer
-  reply_is_usage (inl h) other = h.2 ∙ rw other refl
+  reply_is_usage (inl h) other = h.2 ∙ ap (λ o. of_form o h.0) (no_form args other)
   reply_is_usage (inr h) other = let built = h.0 in absurd cc
 
   pub reply_rose : IsReply left before now args reply → reply.0 ≡ 5 → Rose before now
@@ -141,18 +229,32 @@ module _ (left : Option (List ℕ)) (before now : ℕ) (args : List (List ℕ)) 
   reply_causes (inl h) other = IfSome_then left h.1 (λ all e. subst (λ r. Causes args all r.0) (sym h.2) (subst (λ b. Causes args all (answer args b).0) (sym e) (causes-answer args all)))
   reply_causes (inr h) other = absurd (other (ap (λ r. r.0) h.1))
 
-  pub reply_bad_document : IsReply left before now args reply → ComesExactly 3 reply.0 left (IsBadDocument args)
-  reply_bad_document h = λ answered. IfSome_then left (reply_causes h answered.1) (λ all (c : Causes args all reply.0). c.bad_document)
+  pub reply_bad_input : IsReply left before now args reply → ComesExactly 3 reply.0 left (IsBadInput args)
+  reply_bad_input h = λ answered. IfSome_then left (reply_causes h answered.1) (λ all (c : Causes args all reply.0). c.bad_input)
 
-  pub reply_too_many_rows : IsReply left before now args reply → ComesExactly 4 reply.0 left (HasTooManyRows args)
-  reply_too_many_rows h = λ answered. IfSome_then left (reply_causes h answered.1) (λ all (c : Causes args all reply.0). c.too_many_rows)
+  pub reply_refused : IsReply left before now args reply → ComesExactly 4 reply.0 left (IsRefused args)
+  reply_refused h = λ answered. IfSome_then left (reply_causes h answered.1) (λ all (c : Causes args all reply.0). c.refused)
 
-  pub reply_done : IsReply left before now args reply → ComesExactly 0 reply.0 left (IsCompressible args)
-  reply_done h = λ answered. IfSome_then left (reply_causes h answered.1) (λ all (c : Causes args all reply.0). c.done)
+  pub reply_answered : IsReply left before now args reply → ComesExactly 0 reply.0 left (IsAnswerable args)
+  reply_answered h = λ answered. IfSome_then left (reply_causes h answered.1) (λ all (c : Causes args all reply.0). c.done)
+
+  -- where the form is known, a cause is that of the form
+  of_the_form : (Cause : Form → List ℕ → Type 0) (form : Form) (status : ℕ) → form_of args ≡ Some form → ComesExactly status reply.0 left (Has Cause args)
+      → ComesExactly status reply.0 left (λ bytes. IsRead args bytes × Cause form bytes)
+  of_the_form Cause form status e h = λ answered. subst (λ o. IfSome left (λ all. reply.0 ≡ status ↔ (IsRead args all × IsSomeAnd o (λ f. Cause f all)))) e (h answered)
+
+  pub reply_bad_document : IsReply left before now args reply → IsCompress args → ComesExactly 3 reply.0 left (IsBadDocument args)
+  reply_bad_document h e = of_the_form IsBad Compress 3 e (reply_bad_input h)
+
+  pub reply_too_many_rows : IsReply left before now args reply → IsCompress args → ComesExactly 4 reply.0 left (HasTooManyRows args)
+  reply_too_many_rows h e = of_the_form Refuses Compress 4 e (reply_refused h)
+
+  pub reply_done : IsReply left before now args reply → IsCompress args → ComesExactly 0 reply.0 left (IsCompressible args)
+  reply_done h e = of_the_form Answers Compress 0 e (reply_answered h)
 
   pub reply_complete : (P : Type 0) → IsReply left before now args reply
-      → IfSome left (λ all. IsCompressible args all → (Rose before now → ⊥) → P → (reply.0 ≡ 0) ⊎ (reply.0 ≡ 1))
+      → IfSome left (λ all. IsAnswerable args all → (Rose before now → ⊥) → P → (reply.0 ≡ 0) ⊎ (reply.0 ≡ 1))
   reply_complete P (inl h) =
       IfSome_then left (reply_causes (inl h) (λ k. (causes-answer args h.0).answered.1 (subst (λ r. r.0 ≡ 5) h.2 k)))
       (λ all (c : Causes args all reply.0) fits sure p. inl (c.done.1 fits))
-  reply_complete P (inr h) = of_each left (λ all. IsCompressible args all → (Rose before now → ⊥) → P → (reply.0 ≡ 0) ⊎ (reply.0 ≡ 1)) (λ all fits sure p. absurd (sure h.2))
+  reply_complete P (inr h) = of_each left (λ all. IsAnswerable args all → (Rose before now → ⊥) → P → (reply.0 ≡ 0) ⊎ (reply.0 ≡ 1)) (λ all fits sure p. absurd (sure h.2))

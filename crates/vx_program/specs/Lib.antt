@@ -1,5 +1,8 @@
 pub mod Answer
 pub mod Causes
+pub mod Compressed
+pub mod Forms
+pub mod Output
 pub mod Reading
 pub mod Run
 pub mod Statuses

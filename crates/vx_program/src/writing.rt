@@ -1,4 +1,4 @@
-//! Writes a text to a sink, whole or up to a fault.
+//! Writes an output to a sink, whole or up to a fault.
 
 ghost use Rattle.std.specs.Prelude.{◌≡◌, ◌≢◌, ◌≤◌, Err, OnOk, OnErr, IfErr, length};
 ghost use Rattle.std.specs.Io.KnownBytes.{Appends};
@@ -7,12 +7,12 @@ ghost use Rattle.vx_program.specs.declared.writing.Stop.TheVariants as stop;
 
 use crate::outside::{Failed, Sink};
 
-/// Why a text is not written whole.
+/// Why an output is not written whole.
 #[derive(Clone, Copy, Debug, PartialEq, Eq)]
 pub enum Stop {
     /// The sink had no memory for it. Nothing is written.
     NoMemory,
-    /// A write failed. A front of the text is written, less than the whole.
+    /// A write failed. A front of the output is written, less than the whole.
     Failed,
 }
 
@@ -31,9 +31,9 @@ fn write_whole<O: Sink>(sink: &mut O, bytes: &[u8]) -> Result<(), Failed>
     Ok(())
 }
 
-/// Reserves room for the whole text, then writes it. So memory runs out before the first byte or not at all, and never
+/// Reserves room for the whole output, then writes it. So memory runs out before the first byte or not at all, and never
 /// where the sink has the room already.
-pub fn deliver<O: Sink>(sink: &mut O, text: &str) -> Result<(), Stop>
+pub fn deliver<O: Sink>(sink: &mut O, text: &[u8]) -> Result<(), Stop>
     ensures done { OnOk result (Appends (O.written sink.old) (O.written sink.new) text.now) }
     ensures same { OnOk result (O.faults sink.new ≡ O.faults sink.old) }
     ensures sure { length text.now ≤ O.spare sink.old → result ≢ Err stop.NoMemory }
@@ -43,7 +43,7 @@ pub fn deliver<O: Sink>(sink: &mut O, text: &str) -> Result<(), Stop>
     if sink.reserve(text.len() as u64).is_err() {
         return Err(Stop::NoMemory);
     }
-    match write_whole(sink, text.as_bytes()) {
+    match write_whole(sink, text) {
         Ok(()) => Ok(()),
         Err(Failed) => Err(Stop::Failed),
     }

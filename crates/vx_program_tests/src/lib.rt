@@ -2,12 +2,18 @@
 #![tactic(auto)]
 
 #[cfg(test)]
+mod back;
+#[cfg(test)]
 mod failing;
 #[cfg(test)]
 mod faults;
 #[cfg(test)]
+mod forms;
+#[cfg(test)]
 mod listing;
 #[cfg(test)]
 mod nested;
+#[cfg(test)]
+mod refused;
 #[cfg(test)]
 mod whole;

@@ -22,10 +22,10 @@ fn bytes_are_read_whole(rt: HostRuntime) -> Result<(), Fail> {
 }
 
 #[test]
-fn texts_are_delivered_whole(rt: HostRuntime) -> Result<(), Fail> {
+fn outputs_are_delivered_whole(rt: HostRuntime) -> Result<(), Fail> {
     let mut sink = SureSink::new(rt.alloc());
-    let first = deliver(&mut sink, "seven\n").is_ok();
-    let second = deliver(&mut sink, "8").is_ok();
+    let first = deliver(&mut sink, b"seven\n".as_slice()).is_ok();
+    let second = deliver(&mut sink, b"8".as_slice()).is_ok();
     let has_both = sink.bytes().as_slice() == b"seven\n8".as_slice();
     let bytes = sink.into_bytes();
     assert!(rt; first && second && has_both && bytes.as_slice() == b"seven\n8".as_slice());
