@@ -1,5 +1,6 @@
-//! The phases of a compression.
+//! The phases of a compression, and of the file of what it makes.
 
+use crate::kernels::{alone, read_back, written};
 use anyhow::{Result, bail};
 use serde_json::Value;
 use std::alloc::Global;
@@ -169,4 +170,22 @@ where
     let start = Instant::now(rt)?;
     let _len = listed(rt.alloc(), &tree)?;
     show(rt, "list", start.elapsed(rt)?)
+}
+
+/// Compresses the reader's document, writes the file of the tree and reads it, and writes a line for both phases and one
+/// for the bytes of the file. Each is done once, as a program does it.
+pub fn tell_stored<R: Read>(rt: &(impl AllocGlobal + Clock + Print), reader: R) -> Result<()>
+where
+    R: Drop,
+{
+    let plain = plain_of(rt.alloc(), bytes_of(rt.alloc(), reader)?)?;
+    let trees = alone(rt.alloc(), compressed(rt.alloc(), plain)?)?;
+    let start = Instant::now(rt)?;
+    let file = written(rt.alloc(), &trees)?;
+    show(rt, "write", start.elapsed(rt)?)?;
+    let start = Instant::now(rt)?;
+    let _read = read_back(rt.alloc(), &file)?;
+    show(rt, "read", start.elapsed(rt)?)?;
+    println!(rt; "bytes {}", file.len())?;
+    Ok(())
 }

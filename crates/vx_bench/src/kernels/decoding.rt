@@ -9,8 +9,10 @@ mod repeated;
 
 use super::timing::best_of;
 use anyhow::Result;
+pub(super) use making::{packed, random};
 use nested::{tell_lists, tell_structs};
 use packed::tell_packed;
+pub(super) use plain::texts;
 use plain::{digest_of, tell_plain};
 use repeated::tell_repeated;
 use std::time::CpuClock;

@@ -55,11 +55,7 @@ pub(super) fn column<T: Listed>(
 }
 
 /// A plain column of random rows.
-pub(super) fn random(
-    alloc: Global,
-    rows: usize,
-    nullability: Nullability,
-) -> VortexResult<ArrayRef> {
+pub fn random(alloc: Global, rows: usize, nullability: Nullability) -> VortexResult<ArrayRef> {
     column(alloc, values::<u64>(alloc, rows, WIDE)?, nullability)
 }
 
@@ -72,11 +68,7 @@ pub(super) fn packed_bytes(alloc: Global, rows: usize) -> VortexResult<Bytes> {
 }
 
 /// A column of packed rows.
-pub(super) fn packed(
-    alloc: Global,
-    rows: usize,
-    nullability: Nullability,
-) -> VortexResult<ArrayRef> {
+pub fn packed(alloc: Global, rows: usize, nullability: Nullability) -> VortexResult<ArrayRef> {
     let valid = validity(alloc, rows, nullability)?;
     let bytes = packed_bytes(alloc, rows)?;
     let (len, ptype) = (rows as u64, PType::U64);

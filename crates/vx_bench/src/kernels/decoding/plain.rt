@@ -78,11 +78,7 @@ fn truth_values(alloc: Global, rows: usize, nullability: Nullability) -> VortexR
 }
 
 /// Texts of `TEXT_BYTES` bytes each.
-pub(super) fn texts(
-    alloc: Global,
-    rows: usize,
-    nullability: Nullability,
-) -> VortexResult<ArrayRef> {
+pub fn texts(alloc: Global, rows: usize, nullability: Nullability) -> VortexResult<ArrayRef> {
     let ends = steps(alloc, rows.saturating_add(1), 0, TEXT_BYTES)?;
     let offsets = column(alloc, ends, Nullability::NonNullable)?;
     let size = rows.saturating_mul(TEXT_BYTES as usize);
