@@ -1,0 +1,37 @@
+-- Timestamps over integers that were chosen from their storage.
+use Rattle.std.proofs.Common.{◌≡◌, ℕ, Bool, List, refl, sym, ap, ◌∙◌}
+use Rattle.vx_base.specs.declared.dtype.Nullability.{Nullability}
+use Rattle.vx_base.specs.declared.ptype.PType.TheVariants.{I64}
+use Rattle.vx_base.specs.PlainType.{nullability_of, stored_type}
+use Rattle.vx_base.specs.PlainType as types
+use Rattle.vx_base.specs.PlainValue.{PlainValue}
+use Rattle.vx_base.specs.Storable.{same_refl}
+use Rattle.vx_base.specs.Timestamps.{PlainTimestamp}
+use Rattle.vx_model.specs.Column.{column, column_of}
+use Rattle.vx_model.specs.Refusals.{timestamp_refusal}
+use Rattle.vx_model.specs.Rows.{rows}
+use Rattle.vx_model.specs.Tree.{Tree, timestamp}
+use Rattle.vx_model.specs.TreeType.{tree_type}
+use Rattle.vx_model.specs.WellFormed.{WellFormed}
+use Rattle.vx_rules.specs.Selections.{filtered, sliced}
+use Rattle.vx_selections.proofs.Leaves.{Stands}
+
+-- integers of the storage's type, with other rows
+over : (s : Tree) (k : PlainTimestamp) (m : Nullability) (vs : List PlainValue) → column_of s ≡ column (types.primitive I64 m) vs → Stands (column (types.timestamp k m) vs) (timestamp_refusal s) (timestamp s k)
+over s k m vs e =
+    let typed : tree_type s ≡ types.primitive I64 m = ap (λ c. c.dtype) e in
+    let values : rows s ≡ vs = ap (λ c. c.values) e in
+    record {
+      accepted = rw (same_refl stored_type (tree_type s) (types.primitive I64 (nullability_of (tree_type s))) (typed ∙ ap (λ t. types.primitive I64 (nullability_of t)) (sym typed))) refl;
+      column = λ i. column (types.timestamp k (nullability_of (typed i))) (values i);
+    }
+
+module _ (storage s : Tree) (k : PlainTimestamp) (w : WellFormed (timestamp storage k)) where
+  abbrev n : Nullability
+  n = nullability_of (tree_type storage)
+
+  pub stamps_filtered : (keep : List Bool) → column_of s ≡ filtered (column_of storage) keep → Stands (filtered (column_of (timestamp storage k)) keep) (timestamp_refusal s) (timestamp s k)
+  stamps_filtered keep e = over s k n _ (e ∙ ap (λ t. filtered (column t (rows storage)) keep) w.1.storage_type)
+
+  pub stamps_sliced : (start end : ℕ) → column_of s ≡ sliced (column_of storage) start end → Stands (sliced (column_of (timestamp storage k)) start end) (timestamp_refusal s) (timestamp s k)
+  stamps_sliced start end e = over s k n _ (e ∙ ap (λ t. sliced (column t (rows storage)) start end) w.1.storage_type)

@@ -1,0 +1,16 @@
+//! The row functions that choose rows by position, over any tree: slice, filter, and a single row. Each answers, or refuses, as
+//! its rule in vx_rules does on the tree's type and rows; the encoding of the answer is free.
+//!
+//! Flat columns that a tree stores are read where they stand, by kernels in linear time; encoded ones are decoded first, and
+//! nested ones go by pieces.
+#![tactic(auto)]
+
+mod by_pieces;
+mod filters;
+mod single;
+mod slices;
+mod stamps;
+
+pub use filters::filter;
+pub use single::scalar_at;
+pub use slices::slice;

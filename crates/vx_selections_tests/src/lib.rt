@@ -1,0 +1,11 @@
+//! Tests of slice, filter and single rows: each function on every type, and each refusal.
+#![tactic(auto)]
+
+#[cfg(test)]
+mod filters;
+#[cfg(test)]
+mod printed;
+#[cfg(test)]
+mod slices;
+#[cfg(test)]
+mod trees;

@@ -1,0 +1,101 @@
+//! Slice, and single rows.
+
+use crate::printed::{is_refused, prints, row_at, sliced};
+use crate::trees::{
+    equal_lists, holes, lists, moments, pairs, sparse, structs, texts, truths, wholes,
+};
+use std::alloc::Global;
+use std::test::Fail;
+use vx_array::ArrayRef;
+use vx_base::Nullability::{NonNullable, Nullable};
+use vx_base::{Nullability, VortexError, VortexResult};
+use vx_fixtures::has_stamps;
+
+// Whether the rows 1 and 2 of four print as these.
+fn has_middle(
+    alloc: Global,
+    tree: &ArrayRef,
+    nullability: Nullability,
+    rows: &[&str],
+) -> VortexResult<bool> {
+    prints(alloc, &sliced(alloc, tree, 1, 3)?, nullability, rows)
+}
+
+#[test]
+fn rows_of_flat_types(rt: HostRuntime) -> Result<(), Fail> {
+    let alloc = rt.alloc();
+    assert!(rt; has_middle(alloc, &truths(alloc)?, Nullable, &["false", "null"])?);
+    assert!(rt; has_middle(alloc, &wholes(alloc)?, NonNullable, &["20", "30"])?);
+    assert!(rt; has_middle(alloc, &holes(alloc)?, Nullable, &["null", "30"])?);
+    assert!(rt; has_middle(alloc, &texts(alloc)?, Nullable, &["\"bc\"", "null"])?);
+    Ok(())
+}
+
+#[test]
+fn rows_of_nested_types(rt: HostRuntime) -> Result<(), Fail> {
+    let alloc = rt.alloc();
+    assert!(rt; has_middle(alloc, &lists(alloc)?, Nullable, &["[]", "null"])?);
+    assert!(rt; has_middle(alloc, &pairs(alloc)?, NonNullable, &["[3,4]", "[5,6]"])?);
+    assert!(rt;
+        has_middle(
+            alloc,
+            &structs(alloc)?,
+            NonNullable,
+            &["[20,[]]", "[30,null]"]
+        )?
+    );
+    assert!(rt;
+        has_middle(
+            alloc,
+            &equal_lists(alloc)?,
+            NonNullable,
+            &["[1,2]", "[1,2]"]
+        )?
+    );
+    assert!(rt; has_middle(alloc, &ArrayRef::null(4), Nullable, &["null", "null"])?);
+    Ok(())
+}
+
+#[test]
+fn rows_of_an_encoded_tree(rt: HostRuntime) -> Result<(), Fail> {
+    let alloc = rt.alloc();
+    let part = sliced(alloc, &sparse(alloc)?, 2, 7)?;
+    assert!(rt;
+        prints(
+            alloc,
+            &part,
+            Nullable,
+            &["null", "44", "null", "null", "55"]
+        )?
+    );
+    Ok(())
+}
+
+#[test]
+fn whole_and_empty_ranges(rt: HostRuntime) -> Result<(), Fail> {
+    let alloc = rt.alloc();
+    let tree = wholes(alloc)?;
+    let all = sliced(alloc, &tree, 0, 4)?;
+    let none = sliced(alloc, &tree, 4, 4)?;
+    assert!(rt; prints(alloc, &all, NonNullable, &["10", "20", "30", "40"])?);
+    assert!(rt; prints(alloc, &none, NonNullable, &[])?);
+    Ok(())
+}
+
+#[test]
+fn ranges_and_rows_out_of_bounds_are_refused(rt: HostRuntime) -> Result<(), Fail> {
+    let alloc = rt.alloc();
+    let tree = wholes(alloc)?;
+    assert!(rt; is_refused(sliced(alloc, &tree, 3, 5), VortexError::OutOfBounds));
+    assert!(rt; is_refused(sliced(alloc, &tree, 3, 2), VortexError::OutOfBounds));
+    assert!(rt; is_refused(row_at(alloc, &tree, 4), VortexError::OutOfBounds));
+    Ok(())
+}
+
+#[test]
+fn rows_of_timestamps(rt: HostRuntime) -> Result<(), Fail> {
+    let alloc = rt.alloc();
+    let part = sliced(alloc, &moments(alloc)?, 1, 4)?;
+    assert!(rt; has_stamps(&part, &[None, Some(5), Some(86_400)]));
+    Ok(())
+}
