@@ -53,6 +53,7 @@ IsBad Store bytes = document bytes ≡ None
 IsBad Show bytes = file_at bytes ≡ None
 IsBad Rows bytes = file_at bytes ≡ None
 
+-- 3, of a supported command line and at most the limit of bytes
 abbrev pub IsBadInput : List (List ℕ) → List ℕ → Type 0
 IsBadInput = Has IsBad
 
@@ -71,6 +72,7 @@ Refuses Store bytes = IsSomeAnd (document bytes) (λ d. can_be_stored d ≡ fals
 Refuses Show bytes = ⊥
 Refuses Rows bytes = IsSomeAnd (file_at bytes) (λ trees. can_be_written trees ≡ false)
 
+-- 4, of a supported command line and at most the limit of bytes
 abbrev pub IsRefused : List (List ℕ) → List ℕ → Type 0
 IsRefused = Has Refuses
 
@@ -81,6 +83,7 @@ Answers Store bytes = IsSomeAnd (document bytes) (λ d. can_be_stored d ≡ true
 Answers Show bytes = IsSomeAnd (file_at bytes) (λ trees. Unit {0})
 Answers Rows bytes = IsSomeAnd (file_at bytes) (λ trees. can_be_written trees ≡ true)
 
+-- 0, of a supported command line and at most the limit of bytes
 abbrev pub IsAnswerable : List (List ℕ) → List ℕ → Type 0
 IsAnswerable = Has Answers
 
