@@ -1,8 +1,9 @@
-//! Timestamps in parts as arrays: made of three columns or of one of timestamps, and taken apart again; and their metadata as
-//! bytes. Kernels of these arrays will stand here too.
+//! Timestamps in parts as arrays: made of three columns or of one of timestamps, and taken apart again; their row functions,
+//! over the parts; and their metadata as bytes.
 #![tactic(auto)]
 
 mod array;
+mod kernels;
 mod laws;
 mod making;
 mod metadata;
