@@ -1,5 +1,7 @@
 pub mod Accepted
 pub mod CappedText
+pub mod CommandView
+pub mod Commands
 pub mod Document
 pub mod Listing
 pub mod ReadColumn

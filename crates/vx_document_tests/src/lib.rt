@@ -1,7 +1,9 @@
-//! Tests of documents and listings: a small document of each type, the sample words of a seed, lines with a scalar, and columns
-//! written as documents.
+//! Tests of documents and listings: a small document of each type, the sample words of a seed, each command, lines with a scalar,
+//! and columns written as documents.
 #![tactic(auto)]
 
+#[cfg(test)]
+mod commands;
 #[cfg(test)]
 mod encodings;
 #[cfg(test)]
