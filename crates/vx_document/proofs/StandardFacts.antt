@@ -12,8 +12,9 @@ use Rattle.vx_base.specs.PlainType as types
 use Rattle.vx_base.specs.PlainValue as values
 use Rattle.vx_base.specs.Timestamps.{kind}
 use Rattle.vx_rules.specs.declared.options.CompareOperator.TheVariants.{Lte}
+use Rattle.vx_document.specs.Arguments.{operator_named}
 use Rattle.vx_document.specs.Commands as commands
-use Rattle.vx_document.specs.Commands.{PlainCommand, command_of, command_named, query_named, operator_named, commands_in}
+use Rattle.vx_document.specs.Commands.{PlainCommand, command_of, command_named, query_named, commands_in}
 use Rattle.vx_document.specs.RowsOf.{row_of}
 use Rattle.vx_document.specs.Types.{type_named, type_read, unit_named, timestamp_of}
 use Rattle.vx_document.specs.Words.{words_in}

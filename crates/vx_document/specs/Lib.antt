@@ -1,4 +1,5 @@
 pub mod Accepted
+pub mod Arguments
 pub mod CappedText
 pub mod CommandView
 pub mod Commands

@@ -11,6 +11,8 @@ mod listings;
 #[cfg(test)]
 mod nested;
 #[cfg(test)]
+mod other_commands;
+#[cfg(test)]
 mod reading;
 #[cfg(test)]
 mod writing;

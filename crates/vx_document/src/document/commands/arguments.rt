@@ -3,8 +3,9 @@
 ghost use Rattle.std.specs.Prelude.{option_map};
 ghost use Rattle.std.specs.Vec.Iter.{into_iter_items};
 ghost use Rattle.serde_json.specs.View.{view, items_view};
+ghost use Rattle.vx_document.specs.Arguments.{one, two, one_or_two, four};
 ghost use Rattle.vx_document.specs.CommandView.{command_view};
-ghost use Rattle.vx_document.specs.Commands.{one, two, one_or_two, four, bare};
+ghost use Rattle.vx_document.specs.Commands.{bare};
 ghost use Rattle.vx_document.specs.Reading.{Gives};
 
 use crate::document::commands::Command;

@@ -2,7 +2,7 @@
 
 ghost use Rattle.std.specs.Prelude.{◌≡◌};
 ghost use Rattle.serde_json.specs.View.{view, items_view, members_view};
-ghost use Rattle.vx_document.specs.Commands.{has_float, items_float, members_float};
+ghost use Rattle.vx_document.specs.Arguments.{has_float, items_float, members_float};
 
 use serde_json::{Map, Value};
 

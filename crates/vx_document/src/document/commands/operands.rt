@@ -3,7 +3,7 @@
 ghost use Rattle.std.specs.Prelude.{◌≡◌, option_map};
 ghost use Rattle.serde_json.specs.Find.{as_bool};
 ghost use Rattle.serde_json.specs.View.{view, items_view};
-ghost use Rattle.vx_document.specs.Commands.{operand_of, bits_in, index_of, indices_in, operator_named, operator_of, bounds_of, negation_in};
+ghost use Rattle.vx_document.specs.Arguments.{operand_of, bits_in, index_of, indices_in, operator_named, operator_of, bounds_of, negation_in};
 ghost use Rattle.vx_document.specs.Reading.{Gives, all_by};
 ghost use Rattle.vx_document.specs.Words.{word_of};
 
@@ -94,7 +94,7 @@ pub(crate) fn read_indices(alloc: Global, value: Value) -> Result<Vec<Option<u64
 }
 
 // The operator with this text.
-#[tactic(auto, unfolding(crate::specs::Commands::operator_named))]
+#[tactic(auto, unfolding(crate::specs::Arguments::operator_named))]
 fn operator_named(text: &str) -> Option<CompareOperator>
     ensures { result ≡ operator_named text.now }
 {

@@ -1,6 +1,6 @@
 use Rattle.std.proofs.Common.{◌≡◌, drop}
 use Rattle.serde_json.specs.View.{items_view, members_view}
-use Rattle.vx_document.specs.Commands.{items_float, members_float}
+use Rattle.vx_document.specs.Arguments.{items_float, members_float}
 use Rattle.vx_document.proofs.document.commands.floats.+floats.Given as goal
 
 -- the items that are left have a float exactly where all have one

@@ -1,7 +1,7 @@
 use Rattle.std.proofs.Common.{◌≡◌}
 use Rattle.std.specs.Vec.Iter.{into_iter_items}
 use Rattle.serde_json.specs.View.{items_view}
-use Rattle.vx_document.specs.Commands.{index_of}
+use Rattle.vx_document.specs.Arguments.{index_of}
 use Rattle.vx_document.specs.Reading.{all_by}
 use Rattle.vx_document.proofs.Documents.{with_left}
 use Rattle.vx_document.proofs.document.commands.operands.read_index_list.Given as goal
