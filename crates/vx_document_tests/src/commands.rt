@@ -52,7 +52,7 @@ fn other_types_and_no_nulls(rt: HostRuntime) -> Result<(), Fail> {
     let cast = command(alloc, "[\"cast\",\"i8?\"]")?;
     assert!(rt;
         matches!(
-            cast,
+            &cast,
             Command::Cast(DType::Primitive(PType::I8, Nullability::Nullable))
         )
     );
