@@ -101,10 +101,11 @@ fn patterns(rt: HostRuntime) -> Result<(), Fail> {
         ("[\"like\",\"a%\",false]", false),
         ("[\"like\",\"a%\",true]", true),
     ] {
-        let Command::Like(Value::String(pattern), options) = command(rt.alloc(), text)? else {
+        let like = command(rt.alloc(), text)?;
+        let Command::Like(Value::String(pattern), options) = &like else {
             return Err(Fail::from("no pattern"));
         };
-        assert!(rt; pattern.as_str() == "a%" && options == LikeOptions { negated });
+        assert!(rt; pattern.as_str() == "a%" && *options == LikeOptions { negated });
     }
     Ok(())
 }
