@@ -33,7 +33,13 @@ struct Plain {
 
 fn plain_of(alloc: Global, bytes: Vec<u8>) -> Result<Plain> {
     match read_document(alloc, bytes) {
-        Ok(Document { column, words }) => {
+        Ok(
+            Document {
+                column,
+                words,
+                commands: _,
+            },
+        ) => {
             let array = column.into_plain(alloc)?;
             Ok(Plain { array, words })
         }

@@ -1,16 +1,20 @@
 -- Worked values, written by hand, so that a wrong rule in the definitions does not check.
-use Rattle.std.proofs.Common.{◌≡◌, ◌^◌, ◌-◌, ℕ, pos, negsuc, [], ◌∷◌, true, Some, None, codes, refl}
+use Rattle.std.proofs.Common.{◌≡◌, ◌^◌, ◌-◌, ℕ, List, pos, negsuc, [], ◌∷◌, true, false, Option, Some, None, Float, codes, refl}
 use Rattle.hex.proofs.OnLiterals.{hex_on_literals}
 use Rattle.rand_core.specs.Pcg32Seed.{pcg32_seed}
 use Rattle.rand_core.specs.Steps.{first_words, u32_at, word_bytes}
 use Rattle.rand_pcg.specs.Pcg.{pcg32, pcg32_of_seed}
-use Rattle.serde_json.specs.Data.{Data, unsigned, negative, null, boolean, number, string, array, object, no_items, item, Members, no_members, member}
+use Rattle.serde_json.specs.Data.{Data, unsigned, negative, float, null, boolean, number, string, array, object, Items, no_items, item, Members, no_members, member}
 use Rattle.vx_base.specs.declared.dtype.Nullability.TheVariants.{NonNullable, Nullable}
 use Rattle.vx_base.specs.declared.ptype.PType.TheVariants.{U8}
 use Rattle.vx_base.specs.declared.timestamp.TimeUnit.TheVariants.{Microseconds, Seconds}
 use Rattle.vx_base.specs.PlainType as types
 use Rattle.vx_base.specs.PlainValue as values
 use Rattle.vx_base.specs.Timestamps.{kind}
+use Rattle.vx_rules.specs.declared.options.CompareOperator.TheVariants.{Lte}
+use Rattle.vx_document.specs.Arguments.{operator_named}
+use Rattle.vx_document.specs.Commands as commands
+use Rattle.vx_document.specs.Commands.{PlainCommand, command_of, command_named, query_named, commands_in}
 use Rattle.vx_document.specs.RowsOf.{row_of}
 use Rattle.vx_document.specs.Types.{type_named, type_read, unit_named, timestamp_of}
 use Rattle.vx_document.specs.Words.{words_in}
@@ -124,3 +128,72 @@ one_alone = (refl, refl)
 pub seeded : first_words pcg32 2 (pcg32_of_seed (pcg32_seed 16 7)) ≡ 2_442_223_337 ∷ 414_063_806 ∷ []
 unfolding first_words u32_at pcg32_seed word_bytes
 seeded = refl
+
+-- ---- commands
+
+abbrev some : List Data → Items
+some [] = no_items
+some (d ∷ ds) = item d (some ds)
+
+-- a command of a name with these arguments
+abbrev called : List ℕ → List Data → Option PlainCommand
+called name arguments = command_of (array (item (string name) (some arguments)))
+
+abbrev whole : ℕ → Data
+whole n = number (unsigned n)
+
+-- two numbers; one, three, a negative one; another name
+pub slices : (called (codes "slice") (whole 2 ∷ whole 6 ∷ []) ≡ Some (commands.slice 2 6)) × (called (codes "slice") (whole 2 ∷ []) ≡ None)
+    × (called (codes "slice") (whole 2 ∷ whole 6 ∷ whole 7 ∷ []) ≡ None) × (called (codes "slice") (number (negative (negsuc 0)) ∷ whole 6 ∷ []) ≡ None)
+    × (called (codes "slices") (whole 2 ∷ whole 6 ∷ []) ≡ None)
+unfolding command_named query_named
+slices = (refl, refl, refl, refl, refl)
+
+-- bits; a number among them
+pub bits : (called (codes "filter") (array (some (boolean true ∷ boolean false ∷ [])) ∷ []) ≡ Some (commands.filter (true ∷ false ∷ [])))
+    × (called (codes "mask") (array no_items ∷ []) ≡ Some (commands.mask [])) × (called (codes "filter") (array (some (whole 1 ∷ [])) ∷ []) ≡ None)
+unfolding command_named
+bits = (refl, refl, refl)
+
+-- null is no index, and 0 is one
+pub indices : called (codes "take") (array (some (whole 3 ∷ null ∷ whole 0 ∷ [])) ∷ []) ≡ Some (commands.take (Some 3 ∷ None ∷ Some 0 ∷ []))
+unfolding command_named
+indices = refl
+
+-- a type; null as a fill
+pub conversions : (called (codes "cast") (string (codes "u8") ∷ []) ≡ Some (commands.cast (types.primitive U8 NonNullable))) × (called (codes "fill_null") (null ∷ []) ≡ Some (commands.fill_null null))
+unfolding command_named type_named
+conversions = (refl, refl)
+
+-- an operator before its value; another spelling of it; a float within the value
+pub comparisons : (x : Float) → (called (codes "compare") (string (codes "<=") ∷ whole 5 ∷ []) ≡ Some (commands.compare Lte (whole 5)))
+    × (called (codes "compare") (string (codes "=<") ∷ whole 5 ∷ []) ≡ None)
+    × (called (codes "compare") (string (codes "<=") ∷ array (some (object (member (codes "a") (number (float x)) no_members) ∷ [])) ∷ []) ≡ None)
+unfolding command_named query_named operator_named
+comparisons x = (refl, refl, refl)
+
+-- the lower bound's strictness stands first; three arguments
+pub bounds : (called (codes "between") (whole 1 ∷ null ∷ boolean true ∷ boolean false ∷ []) ≡ Some (commands.between (whole 1) null (record { lower_strict = true; upper_strict = false })))
+    × (called (codes "between") (whole 1 ∷ null ∷ boolean true ∷ []) ≡ None)
+unfolding command_named query_named
+bounds = (refl, refl)
+
+-- not negated without a word; negated; a third argument
+pub patterns : (called (codes "like") (string (codes "a%") ∷ []) ≡ Some (commands.like (string (codes "a%")) (record { negated = false })))
+    × (called (codes "like") (string (codes "a%") ∷ boolean true ∷ []) ≡ Some (commands.like (string (codes "a%")) (record { negated = true })))
+    × (called (codes "like") (string (codes "a%") ∷ boolean true ∷ boolean true ∷ []) ≡ None)
+unfolding command_named query_named
+patterns = (refl, refl, refl)
+
+-- no argument, and one; a row's index
+pub questions : (called (codes "not") [] ≡ Some commands.not) × (called (codes "is_constant") [] ≡ Some commands.is_constant) × (called (codes "min_max") [] ≡ Some commands.min_max)
+    × (called (codes "null_count") [] ≡ Some commands.null_count) × (called (codes "sum") [] ≡ Some commands.sum) × (called (codes "rows") [] ≡ Some commands.rows)
+    × (called (codes "rows") (whole 0 ∷ []) ≡ None) × (called (codes "row") (whole 7 ∷ []) ≡ Some (commands.row 7))
+unfolding command_named query_named
+questions = (refl, refl, refl, refl, refl, refl, refl, refl)
+
+-- two in their order; one that is none; no list; absent
+pub command_lists : (commands_in (Some (array (some (array (some (string (codes "sum") ∷ [])) ∷ array (some (string (codes "not") ∷ [])) ∷ [])))) ≡ Some (commands.sum ∷ commands.not ∷ []))
+    × (commands_in (Some (array (some (array (some (string (codes "sum") ∷ [])) ∷ null ∷ [])))) ≡ None) × (commands_in (Some null) ≡ None) × (commands_in None ≡ Some [])
+unfolding command_named query_named
+command_lists = (refl, refl, refl, refl)

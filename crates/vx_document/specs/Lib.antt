@@ -1,5 +1,8 @@
 pub mod Accepted
+pub mod Arguments
 pub mod CappedText
+pub mod CommandView
+pub mod Commands
 pub mod Document
 pub mod Listing
 pub mod ReadColumn

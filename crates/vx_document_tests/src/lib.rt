@@ -1,13 +1,17 @@
-//! Tests of documents and listings: a small document of each type, the sample words of a seed, lines with a scalar, and columns
-//! written as documents.
+//! Tests of documents and listings: a small document of each type, the sample words of a seed, each command, lines with a scalar,
+//! and columns written as documents.
 #![tactic(auto)]
 
+#[cfg(test)]
+mod commands;
 #[cfg(test)]
 mod encodings;
 #[cfg(test)]
 mod listings;
 #[cfg(test)]
 mod nested;
+#[cfg(test)]
+mod other_commands;
 #[cfg(test)]
 mod reading;
 #[cfg(test)]

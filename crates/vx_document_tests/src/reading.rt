@@ -13,7 +13,11 @@ pub(crate) fn document(alloc: Global, text: &str) -> Result<Document, Fail> {
 
 // The plain tree of the column of the document that the text is.
 pub(crate) fn plain(alloc: Global, text: &str) -> Result<ArrayRef, Fail> {
-    let Document { column, words: _ } = document(alloc, text)?;
+    let Document {
+        column,
+        words: _,
+        commands: _,
+    } = document(alloc, text)?;
     Ok(column.into_plain(alloc)?)
 }
 

@@ -55,6 +55,24 @@ fn the_trees_of_a_file_are_written_as_documents(rt: HostRuntime) -> Result<(), F
     Ok(())
 }
 
+// Three sevens, and commands that would leave one row and print it.
+const COMMANDED: &str =
+    "{\"type\":\"i64\",\"rows\":[7,7,7],\"words\":[0],\"commands\":[[\"slice\",0,1],[\"rows\"]]}";
+
+#[test]
+fn a_column_is_compressed_as_without_commands(rt: HostRuntime) -> Result<(), Fail> {
+    let listing = b"vortex.constant i64 len=3 size=9 value=7\nplain=24 tree=9\n".as_slice();
+    assert!(rt; answers(rt.alloc(), "compress", DOCUMENT.as_bytes(), 0, listing)?);
+    assert!(rt; answers(rt.alloc(), "compress", COMMANDED.as_bytes(), 0, listing)?);
+    Ok(())
+}
+
+#[test]
+fn a_column_is_stored_as_without_commands(rt: HostRuntime) -> Result<(), Fail> {
+    assert!(rt; answers(rt.alloc(), "store", COMMANDED.as_bytes(), 0, &SEVENS)?);
+    Ok(())
+}
+
 // The file with no tree.
 const EMPTY: [u8; 9] = [0x56, 0x58, 0x54, 0x52, 0x45, 0x45, 0x53, 0x31, 0];
 

@@ -84,7 +84,13 @@ pub(super) fn compressed_document(
     ensures within { IfOk result (λ made. is_some made ≡ counts_fit document.column) }
     ensures made { IfOk result (λ made. IfSome made (IsCompressed document.words document.column)) }
 {
-    let Document { column, words } = document;
+    let Document {
+        column,
+        words,
+        commands,
+    } = document;
+    // A list of indices may be as long as the column.
+    drop(commands);
     if !column.counts_fit() {
         return Ok(None);
     }
