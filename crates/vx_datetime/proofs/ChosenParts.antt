@@ -27,7 +27,7 @@ use Rattle.vx_selections.proofs.Leaves.{Stands}
 use Rattle.vx_datetime.proofs.EachPart.{all-between, all-mapped, between-each3, between-lengths, each3, kept-each3, numbered}
 
 -- the timestamp of a row's parts, null where the day is
-abbrev combined : ℤ → PlainValue → PlainValue → PlainValue → PlainValue
+abbrev pub combined : ℤ → PlainValue → PlainValue → PlainValue → PlainValue
 combined d day second subsecond = each_int (λ z. sum_of d (parts z (whole_or_zero second) (whole_or_zero subsecond))) day
 
 -- whether a row's parts are canonical, or the day null
@@ -37,11 +37,11 @@ canonical d day second subsecond = is_null day || is_canonical d (parts (whole_o
 abbrev pub all_pass : ℤ → List PlainValue → List PlainValue → List PlainValue → Bool
 all_pass d ds ss us = list_all (λ b. b) (each3 (canonical d) ds ss us)
 
-same-test : (d : ℤ) (ds ss us : List PlainValue) → length ss ≡ length ds → length us ≡ length ds → are_canonical d ds ss us ≡ all_pass d ds ss us
+pub same-test : (d : ℤ) (ds ss us : List PlainValue) → length ss ≡ length ds → length us ≡ length ds → are_canonical d ds ss us ≡ all_pass d ds ss us
 same-test d ds ss us l m = sym (all-mapped _ (range_with_len 0 (length ds))) ∙ ap (list_all (λ b. b)) (numbered (canonical d) ds ss us l m)
 
 -- what three tests pass is not refused
-accepted-by : (a b c : Bool) → a ≡ true → b ≡ true → c ≡ true → unless a MismatchedTypes (unless b LengthMismatch (unless c PartsNotCanonical None)) ≡ None
+pub accepted-by : (a b c : Bool) → a ≡ true → b ≡ true → c ≡ true → unless a MismatchedTypes (unless b LengthMismatch (unless c PartsNotCanonical None)) ≡ None
 accepted-by true true true x y z = refl
 accepted-by false b c x y z = absurd cc
 accepted-by true false c x y z = absurd cc

@@ -71,6 +71,24 @@ fn rows_of_a_mask(rt: HostRuntime) -> Result<(), Fail> {
 }
 
 #[test]
+fn rows_beneath_a_mask(rt: HostRuntime) -> Result<(), Fail> {
+    let alloc = rt.alloc();
+    let column = stamps(
+        alloc,
+        utc(alloc, Milliseconds)?,
+        &[Some(5), Some(-86_400_001)],
+    )?;
+    let mut ctx = context(alloc)?;
+    let array = DateTimeParts::try_from_temporal(&column, &mut ctx)?;
+    let masked = array.mask(&bits(alloc, &[false, true])?, &mut ctx)?;
+    assert!(rt; masked.encoding_id() == ArrayId::DateTimeParts && masked.dtype().is_nullable());
+    assert!(rt; has_stamps(&masked, &[None, Some(-86_400_001)]));
+    let short = array.mask(&bits(alloc, &[true])?, &mut ctx);
+    assert!(rt; matches!(short, Err(VortexError::LengthMismatch)));
+    Ok(())
+}
+
+#[test]
 fn a_single_row(rt: HostRuntime) -> Result<(), Fail> {
     let alloc = rt.alloc();
     let array = moments(alloc)?;

@@ -90,8 +90,8 @@ fn filtered_part(part: &ArrayRef, keep: &Mask, ctx: &mut ExecutionCtx) -> Vortex
     filter(part, keep, ctx)
 }
 
-// The node over parts that its constructor accepts. Reads no row.
-fn over_parts(
+/// The node over parts that its constructor accepts. Reads no row.
+pub(super) fn over_parts(
     alloc: Global,
     kind: &TimestampType,
     nullability: Nullability,
