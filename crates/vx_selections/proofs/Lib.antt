@@ -3,6 +3,9 @@ pub mod ChosenLeaves
 pub mod Compacting
 pub mod KeptItems
 pub mod Leaves
+pub mod Masking
+pub mod Narrowing
 pub mod Parts
+pub mod Restricting
 pub mod StampColumns
 pub mod Validities

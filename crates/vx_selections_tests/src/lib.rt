@@ -1,8 +1,10 @@
-//! Tests of slice, filter and single rows: each function on every type, and each refusal.
+//! Tests of slice, filter, mask and single rows: each function on every type, and each refusal.
 #![tactic(auto)]
 
 #[cfg(test)]
 mod filters;
+#[cfg(test)]
+mod masks;
 #[cfg(test)]
 mod printed;
 #[cfg(test)]
