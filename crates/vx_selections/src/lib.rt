@@ -1,4 +1,4 @@
-//! The row functions that choose rows by position, over any tree: slice, filter, mask, and a single row. Each answers,
+//! The row functions that choose rows by position, over any tree: slice, filter, mask, take, and a single row. Each answers,
 //! or refuses, as its rule in vx_rules does on the tree's type and rows; the encoding of the answer is free.
 //!
 //! Flat columns that a tree stores are read where they stand, by kernels in linear time; encoded ones are decoded first, and
@@ -11,8 +11,10 @@ mod masks;
 mod single;
 mod slices;
 mod stamps;
+mod takes;
 
 pub use filters::filter;
 pub use masks::mask;
 pub use single::scalar_at;
 pub use slices::slice;
+pub use takes::take;

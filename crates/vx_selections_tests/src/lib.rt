@@ -1,4 +1,4 @@
-//! Tests of slice, filter, mask and single rows: each function on every type, and each refusal.
+//! Tests of slice, filter, mask, take and single rows: each function on every type, and each refusal.
 #![tactic(auto)]
 
 #[cfg(test)]
@@ -9,5 +9,7 @@ mod masks;
 mod printed;
 #[cfg(test)]
 mod slices;
+#[cfg(test)]
+mod takes;
 #[cfg(test)]
 mod trees;
