@@ -1,5 +1,11 @@
-//! Tests of sparse arrays: their metadata.
+//! Tests of sparse arrays: their kernels and their metadata.
 #![tactic(auto)]
 
 #[cfg(test)]
+mod aggregates;
+#[cfg(test)]
+mod columns;
+#[cfg(test)]
 mod metadata;
+#[cfg(test)]
+mod reading;
