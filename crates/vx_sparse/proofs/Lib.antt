@@ -1,3 +1,4 @@
+pub mod ComposedSlices
 pub mod ConstantRows
 pub mod ExtremeRows
 pub mod ExtremeSteps
