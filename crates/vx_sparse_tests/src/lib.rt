@@ -6,6 +6,10 @@ mod aggregates;
 #[cfg(test)]
 mod columns;
 #[cfg(test)]
+mod counted;
+#[cfg(test)]
 mod metadata;
 #[cfg(test)]
-mod reading;
+mod rows;
+#[cfg(test)]
+mod slices;

@@ -90,8 +90,11 @@ fn placed_row(
     let Some(place) = place else {
         return copied_fill(alloc, fill);
     };
-    if !fill.dtype().is_flat() {
-        return patches.values().scalar_at(alloc, place);
+    let kind = fill.dtype();
+    let patched = patches.values();
+    if !kind.is_flat() {
+        return patched.scalar_at(alloc, place);
     }
-    scalar_of(alloc, fill.dtype(), patches.values().cell_at(place))
+    patched.known();
+    scalar_of(alloc, kind, patched.cell_at(place))
 }

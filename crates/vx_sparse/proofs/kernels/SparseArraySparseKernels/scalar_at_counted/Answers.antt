@@ -10,15 +10,15 @@ use Rattle.vx_sparse.proofs.kernels.SparseArraySparseKernels.scalar_at_counted.G
 
 pub returns-clause-answer : goal.returns-clause-answer
 returns-clause-answer g c =
-    subst (λ t. Decided (row_refusal (column_of t) c.args.row) (λ s. s ≡ row_scalar (column_of t) c.args.row) c.counted_row.result) (sym c.parts-patches.ensures.tree) c.counted_row.ensures.answer
+    subst (λ t. Decided (row_refusal (column_of t) c.args.row) (λ s. s ≡ row_scalar (column_of t) c.args.row) c.counted_row.result) (sym c.parts.ensures.tree) c.counted_row.ensures.answer
 
 pub returns-clause-no_memory : goal.returns-clause-no_memory
 returns-clause-no_memory g c = λ s.
-    let same = sym (type-sparse_of c.parts-patches.result.0.now c.parts-patches.result.1.now) ∙ ap tree_type (sym c.parts-patches.ensures.tree) in
-    subst (λ t. SurelyDecided (row_refusal (column_of t) c.args.row) (λ s. s ≡ row_scalar (column_of t) c.args.row) c.counted_row.result) (sym c.parts-patches.ensures.tree)
+    let same = sym (type-sparse_of c.parts.result.0.now c.parts.result.1.now) ∙ ap tree_type (sym c.parts.ensures.tree) in
+    subst (λ t. SurelyDecided (row_refusal (column_of t) c.args.row) (λ s. s ≡ row_scalar (column_of t) c.args.row) c.counted_row.result) (sym c.parts.ensures.tree)
     (c.counted_row.ensures.no_memory (ap is_summable same ∙ s))
 
 pub returns-clause-probes : goal.returns-clause-probes
 returns-clause-probes g c =
-    let many = ap patch_count c.parts-patches.ensures.tree ∙ patch_count-sparse c.parts-patches.result.0.now c.parts-patches.result.1.now in
+    let many = ap patch_count c.parts.ensures.tree ∙ patch_count-sparse c.parts.result.0.now c.parts.result.1.now in
     omega (arith, many, c.counted_row.ensures.probes)

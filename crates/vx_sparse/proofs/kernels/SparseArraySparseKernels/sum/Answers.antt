@@ -5,4 +5,4 @@ use Rattle.vx_rules.specs.Aggregates.{sum, sum_refusal}
 use Rattle.vx_sparse.proofs.kernels.SparseArraySparseKernels.sum.Goals as goal
 
 pub returns-clause-answer : goal.returns-clause-answer
-returns-clause-answer c = subst (λ t. SurelyDecided (sum_refusal (column_of t)) (λ s. s ≡ sum (column_of t)) c.sum.result) (sym c.parts-patches.ensures.tree) c.sum.ensures
+returns-clause-answer c = subst (λ t. SurelyDecided (sum_refusal (column_of t)) (λ s. s ≡ sum (column_of t)) c.sum.result) (sym c.parts.ensures.tree) c.sum.ensures

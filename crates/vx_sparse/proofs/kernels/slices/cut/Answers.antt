@@ -1,4 +1,4 @@
-use Rattle.std.proofs.Common.{◌≡◌, ◌<◌, ◌∙◌, ◌+◌, ◌-◌, sym, ap, subst, arith, None}
+use Rattle.std.proofs.Common.{◌≡◌, ◌<◌, ◌∙◌, ◌+◌, ◌-◌, length, sym, ap, subst, arith, None}
 use Rattle.vx_base.specs.Answers.{Answers}
 use Rattle.vx_model.specs.Refusals.{patches_refusal}
 use Rattle.vx_model.specs.Rows.{rows}
@@ -10,6 +10,12 @@ use Rattle.vx_sparse.proofs.kernels.slices.cut.Goals as goal
 
 pub overflow_sub-len : goal.overflow_sub-len
 overflow_sub-len c = (part-order c.args.patches.now.array_len c.args.start c.args.end c.requires.part).0
+
+pub plain_part-requires-clause-within : goal.plain_part-requires-clause-within
+plain_part-requires-clause-within c =
+    let most = before-most c.args.patches.now c.known.ensures c.args.end in
+    let same = ap (λ t. length (rows t)) c.indices.ensures in
+    omega (arith, most, same, c.requires.high)
 
 pub overflow_add-raised : goal.overflow_add-raised
 overflow_add-raised c =
