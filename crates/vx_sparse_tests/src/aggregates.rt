@@ -36,7 +36,12 @@ fn are_extremes_of_rows(alloc: Global, form: Form) -> VortexResult<bool> {
 }
 
 fn are_extremes_of_other_types(alloc: Global, form: Form) -> VortexResult<bool> {
-    let nulls = has_extremes(alloc, &over_nulls(alloc, form, &[1, 3], &[10, 20])?, "10", "20")?;
+    let nulls = has_extremes(
+        alloc,
+        &over_nulls(alloc, form, &[1, 3], &[10, 20])?,
+        "10",
+        "20",
+    )?;
     let none = has_none(alloc, &over_nulls(alloc, form, &[], &[])?)?;
     let of_texts = has_extremes(alloc, &texts(alloc, form)?, "\"ab\"", "\"b\"")?;
     Ok(nulls && none && of_texts && has_extremes(alloc, &truths(alloc, form)?, "false", "true")?)
@@ -94,7 +99,12 @@ fn has_sum(alloc: Global, array: &SparseArray, ptype: PType, text: &str) -> Vort
 
 fn are_sums(alloc: Global, form: Form) -> VortexResult<bool> {
     let small = has_sum(alloc, &s_over(alloc, form, 1)?, I64, "65")?;
-    let nulls = has_sum(alloc, &over_nulls(alloc, form, &[1, 3], &[10, 20])?, I64, "30")?;
+    let nulls = has_sum(
+        alloc,
+        &over_nulls(alloc, form, &[1, 3], &[10, 20])?,
+        I64,
+        "30",
+    )?;
     Ok(small && nulls && has_sum(alloc, &truths(alloc, form)?, U64, "2")?)
 }
 

@@ -82,7 +82,14 @@ pub(crate) fn texts(alloc: Global, form: Form) -> VortexResult<SparseArray> {
 /// False, true, true, false, false.
 pub(crate) fn truths(alloc: Global, form: Form) -> VortexResult<SparseArray> {
     let values = accepted(ArrayRef::bool(bits(alloc, &[true, true])?, None, NonNullable))?;
-    sparse(alloc, form, &[1, 2], values, 5, Scalar::bool(false, NonNullable))
+    sparse(
+        alloc,
+        form,
+        &[1, 2],
+        values,
+        5,
+        Scalar::bool(false, NonNullable),
+    )
 }
 
 /// The list 7, 8 in rows 1 and 2 of four, over another list.

@@ -23,11 +23,7 @@ fn is_sliced(
 }
 
 // Whether a slice is refused.
-fn is_outside(
-    alloc: Global,
-    array: &SparseArray,
-    (start, end): (u64, u64),
-) -> VortexResult<bool> {
+fn is_outside(alloc: Global, array: &SparseArray, (start, end): (u64, u64)) -> VortexResult<bool> {
     let slice = array.slice(start, end, &mut context(alloc)?);
     Ok(slice.err() == Some(VortexError::OutOfBounds))
 }
