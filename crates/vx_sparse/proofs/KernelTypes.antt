@@ -1,9 +1,12 @@
 -- Types of kernels, and answers from a refusal that is there or isn't.
-use Rattle.std.proofs.Common.{◌≡◌, ◌∙◌, Bool, true, false, refl, sym, ap, subst, Option, None, Some, Result, Ok, Err}
+use Rattle.std.proofs.Common.{◌≡◌, ◌≤◌, ◌^◌, ◌∙◌, arith, Bool, true, false, refl, sym, ap, subst, Option, None, Some, Result, Ok, Err}
 use Rattle.std.specs.Prelude.{IfOk}
 use Rattle.vx_base.specs.declared.error.VortexError.{VortexError}
 use Rattle.vx_base.specs.declared.dtype.Nullability.{Nullability}
 use Rattle.vx_base.specs.declared.dtype.Nullability.TheVariants.{NonNullable}
+use Rattle.vx_base.specs.declared.ptype.PType.{PType}
+use Rattle.vx_base.specs.declared.ptype.PType.TheVariants.{U8, U16, U32, U64, I8, I16, I32, I64}
+use Rattle.vx_base.specs.Integers.{natural_bits}
 use Rattle.vx_base.specs.Answers.{Decided, SurelyDecided, OrMemory}
 use Rattle.vx_base.specs.PlainType.{PlainType, is_flat, same_base, with_nullability, stored_type}
 use Rattle.vx_base.specs.PlainType as types
@@ -11,6 +14,17 @@ use Rattle.vx_base.specs.Storable.{same_path}
 use Rattle.vx_sparse.specs.Kernels.{is_summable}
 
 -- ---- types
+
+-- an integer type has at most 64 bits
+pub bits-most : (p : PType) → 2 ^ natural_bits p ≤ 2 ^ 64
+bits-most U8 = omega arith
+bits-most U16 = omega arith
+bits-most U32 = omega arith
+bits-most U64 = omega arith
+bits-most I8 = omega arith
+bits-most I16 = omega arith
+bits-most I32 = omega arith
+bits-most I64 = omega arith
 
 pub summable-flat : (t : PlainType) → is_summable t ≡ true → is_flat t ≡ true
 summable-flat (types.boolean n) h = refl

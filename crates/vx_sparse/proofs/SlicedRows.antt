@@ -4,9 +4,6 @@ use Rattle.std.specs.Prelude.{replicate, ◌==◌, ◌&&◌, not, nat_le}
 use Rattle.std.specs.List.{list_all, range_with_len}
 use Rattle.std.proofs.lemmas.Bool.{and_from, and_parts, cond_both, cond-true, cond-false, eq-eqb, eqb-true, ne_eqb, le-leb, leb-true, ltb-true}
 use Rattle.std.proofs.lemmas.List.{ext_get_or, get_or-take, get_or-drop, length-drop, length-replicate, take_more}
-use Rattle.vx_base.specs.declared.ptype.PType.{PType}
-use Rattle.vx_base.specs.declared.ptype.PType.TheVariants.{U8, U16, U32, U64, I8, I16, I32, I64}
-use Rattle.vx_base.specs.Integers.{natural_bits}
 use Rattle.vx_base.specs.Masks.{rows_between, is_part}
 use Rattle.vx_base.specs.PlainScalar.{PlainScalar, fits}
 use Rattle.vx_base.specs.PlainType.{PlainType, is_integer, is_nullable}
@@ -31,6 +28,7 @@ use Rattle.vx_rules.specs.Selections.{sliced}
 use Rattle.vx_rules.proofs.FitLaws.{answers_are_columns}
 use Rattle.vx_rules.proofs.SliceLaws.{length-between}
 use Rattle.vx_sparse.specs.Slices.{cut_tree, patches_before, plain_part, sliced_tree}
+use Rattle.vx_sparse.proofs.KernelTypes.{bits-most}
 use Rattle.vx_sparse.proofs.PatchParts.{IsCut, patched-between, ascend-between}
 
 -- ---- a part of a list
@@ -95,18 +93,8 @@ all-patched is vs fill offset n count e l = all-from is vs fill offset (λ i. pa
 
 -- ---- an index is below 2^64
 
-most : (p : PType) → 2 ^ natural_bits p ≤ 2 ^ 64
-most U8 = omega arith
-most U16 = omega arith
-most U32 = omega arith
-most U64 = omega arith
-most I8 = omega arith
-most I16 = omega arith
-most I32 = omega arith
-most I64 = omega arith
-
 index-below : (t : PlainType) (v : PlainValue) (m : ℕ) → is_integer t ≡ true → fits t v ≡ true → index_of v ≡ Some m → m < 2 ^ 64
-index-below (types.primitive p n) (int (pos k)) m h f e = let same : k ≡ m = cc in omega (arith, most p, ltb-true _ _ f)
+index-below (types.primitive p n) (int (pos k)) m h f e = let same : k ≡ m = cc in omega (arith, bits-most p, ltb-true _ _ f)
 index-below t v m h f e = absurd cc
 
 -- ---- the slice

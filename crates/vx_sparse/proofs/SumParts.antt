@@ -8,7 +8,7 @@ use Rattle.std.proofs.lemmas.Int.{ints}
 use Rattle.std.proofs.lemmas.List.Sums.{sum_by-cons}
 use Rattle.vx_base.specs.declared.ptype.PType.{PType}
 use Rattle.vx_base.specs.declared.ptype.PType.TheVariants.{U8, U16, U32, U64, I8, I16, I32, I64}
-use Rattle.vx_base.specs.Integers.{lies_in, natural_bits}
+use Rattle.vx_base.specs.Integers.{lies_in}
 use Rattle.vx_base.specs.PlainScalar.{PlainScalar, fits}
 use Rattle.vx_base.specs.PlainType.{PlainType, primitive, boolean}
 use Rattle.vx_base.specs.declared.dtype.Nullability.{Nullability}
@@ -20,6 +20,7 @@ use Rattle.vx_model.specs.WellFormed.{WellFormedPatches}
 use Rattle.vx_rules.specs.Aggregates.{summand}
 use Rattle.vx_sparse.specs.Kernels.{is_summable, unpatched}
 use Rattle.vx_sparse.specs.SumParts.{positive, negative, ups, downs}
+use Rattle.vx_sparse.proofs.KernelTypes.{bits-most}
 use Rattle.vx_sparse.proofs.SparseSums.{sum_by-sparse}
 
 part-sum : (z : ℤ) → z ≡ pos (positive z) -ℤ pos (negative z)
@@ -43,16 +44,6 @@ total-sparse p fill up down w e f =
 
 -- ---- the parts of one value
 
-most : (p : PType) → 2 ^ natural_bits p ≤ 2 ^ 64
-most U8 = omega arith
-most U16 = omega arith
-most U32 = omega arith
-most U64 = omega arith
-most I8 = omega arith
-most I16 = omega arith
-most I32 = omega arith
-most I64 = omega arith
-
 signed-most : (p : PType) (n : ℕ) → lies_in p (negsuc n) ≡ true → n < 2 ^ 63
 signed-most U8 n h = absurd cc
 signed-most U16 n h = absurd cc
@@ -72,7 +63,7 @@ truth-below n v h = absurd cc
 
 whole-below : (p : PType) (n : Nullability) (v : PlainValue) → fits (primitive p n) v ≡ true → (ups v < 2 ^ 64) × (downs v < 2 ^ 64)
 whole-below p n null h = (omega arith, omega arith)
-whole-below p n (int (pos m)) h = (omega (arith, most p, ltb-true _ _ h), omega arith)
+whole-below p n (int (pos m)) h = (omega (arith, bits-most p, ltb-true _ _ h), omega arith)
 whole-below p n (int (negsuc m)) h = (omega arith, omega (arith, signed-most p m h))
 whole-below p n v h = absurd cc
 

@@ -22,7 +22,7 @@ fn has_extremes(
     Ok(found.0.json(alloc)?.as_str() == least && found.1.json(alloc)?.as_str() == greatest)
 }
 
-// Whether a column of `i32?` of nulls alone has no extremes.
+// Whether there are no extremes.
 fn has_none(alloc: Global, array: &SparseArray) -> VortexResult<bool> {
     Ok(array.min_max(&mut context(alloc)?)?.is_none())
 }

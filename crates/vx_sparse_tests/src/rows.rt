@@ -8,7 +8,7 @@ use vx_array::ArrayRef;
 use vx_base::Nullability::{NonNullable, Nullable};
 use vx_base::PType::{I32, I64};
 use vx_base::{DType, PType, Scalar, VortexError, VortexResult};
-use vx_fixtures::context;
+use vx_fixtures::{accepted, context};
 use vx_rules::CompareOperator;
 use vx_sparse::{SparseArray, SparseKernels};
 
@@ -87,10 +87,7 @@ fn are_nulls_compared(alloc: Global, array: &SparseArray) -> VortexResult<bool> 
     let (none, yes, no) = ("null", "true", "false");
     let most = [none, yes, none, no, none, none, none, none];
     let all = [none, none, none, none, none, none, none, none];
-    let null = Scalar::null(DType::primitive(I32, Nullable));
-    let Ok(null) = null else {
-        return Ok(false);
-    };
+    let null = accepted(Scalar::null(DType::primitive(I32, Nullable)))?;
     let values = compares(alloc, array, CompareOperator::Lte, 10, &most)?;
     let nulls = compared(alloc, array, &null, CompareOperator::NotEq)?;
     Ok(values && prints(alloc, &nulls, &all)?)
