@@ -1,11 +1,11 @@
 //! Slices of sparse arrays.
 
-use crate::columns::{FORMS, Form, lists, s_over, wholes};
+use crate::columns::{FORMS, lists, s_over, wholes};
 use std::alloc::Global;
 use std::test::Fail;
 use vx_array::Patches;
 use vx_base::Nullability::NonNullable;
-use vx_base::PType::{I32, U8, U64};
+use vx_base::PType::{U8, U64};
 use vx_base::{ArrayId, Scalar, VortexError, VortexResult};
 use vx_fixtures::{accepted, context, flat, has_wholes};
 use vx_sparse::{Sparse, SparseArray, SparseKernels};
