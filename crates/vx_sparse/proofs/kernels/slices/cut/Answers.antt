@@ -17,6 +17,13 @@ plain_part-requires-clause-within c =
     let same = ap (λ t. length (rows t)) c.indices.ensures in
     omega (arith, most, same, c.requires.high)
 
+pub plain_part-requires-2-clause-within : goal.plain_part-requires-2-clause-within
+plain_part-requires-2-clause-within c =
+    let most = before-most c.args.patches.now c.known.ensures c.args.end in
+    let same = ap (λ t. length (rows t)) c.values.ensures in
+    let lengths = c.known.ensures.2.lengths in
+    omega (arith, most, same, lengths, c.requires.high)
+
 pub overflow_add-raised : goal.overflow_add-raised
 overflow_add-raised c =
     let p = c.args.patches.now in
