@@ -1,6 +1,6 @@
 -- The extremes of values, one value after another.
-use Rattle.std.proofs.Common.{◌≡◌, ◌<◌, ◌∙◌, ◌++◌, ◌+◌, ℕ, Bool, true, false, cond, List, [], ◌∷◌, length, take, get_or, refl, sym, ap, Option, Some, None}
-use Rattle.std.specs.Prelude.{not, fold, option_map}
+use Rattle.std.proofs.Common.{◌≡◌, ◌<◌, ◌∙◌, ◌++◌, ◌+◌, ℕ, Bool, true, false, cond, List, [], ◌∷◌, length, take, refl, sym, ap, Option, Some, None}
+use Rattle.std.specs.Prelude.{not, fold}
 use Rattle.std.specs.Ordering.{ord_min, ord_max}
 use Rattle.std.proofs.lemmas.List.{append-nil, take_more}
 use Rattle.std.proofs.lemmas.List.Sums.{fold_push}

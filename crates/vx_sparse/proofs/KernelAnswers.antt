@@ -1,5 +1,5 @@
 -- What kernels answer of a sparse column, by its patches and its fill.
-use Rattle.std.proofs.Common.{◌≡◌, ◌<◌, ◌∙◌, ℕ, ℤ, pos, ◌-ℤ◌, Bool, true, false, length, map, refl, sym, ap, subst, Option, None, Some}
+use Rattle.std.proofs.Common.{◌≡◌, ◌<◌, ◌∙◌, ℕ, pos, ◌-ℤ◌, true, false, length, map, refl, sym, ap, subst, Option, None, Some}
 use Rattle.std.specs.Prelude.{◌+◌, ◌&&◌, ◌==◌, nat_lt, not, option_map, unwrap_or, replicate, IfSome}
 use Rattle.std.specs.List.{list_all}
 use Rattle.std.proofs.lemmas.Bool.{and_from, eq-eqb}
@@ -15,7 +15,7 @@ use Rattle.vx_base.specs.PlainType.{PlainType, is_flat, is_integer, is_nullable,
 use Rattle.vx_base.specs.PlainType as types
 use Rattle.vx_base.specs.PlainValue.{PlainValue, null}
 use Rattle.vx_base.specs.Undelta.{total}
-use Rattle.vx_model.specs.Column.{column, column_of}
+use Rattle.vx_model.specs.Column.{column_of}
 use Rattle.vx_model.specs.Refusals.{patches_refusal}
 use Rattle.vx_model.specs.Rows.{rows, row_at, patched, is_index, place_of}
 use Rattle.vx_model.specs.Tree.{Tree, PlainPatches, patches, chunked, sparse_of}

@@ -1,11 +1,9 @@
 -- Patches of a part of the rows: those whose indices lie in it, from one place to another.
-use Rattle.std.proofs.Common.{◌≡◌, ◌<◌, ◌≤◌, ◌+◌, ◌-◌, ◌∙◌, ℕ, zero, suc, pos, Bool, true, false, cond, List, [], ◌∷◌, length, map, take, drop, get_or, refl, sym, ap, subst, arith, Some, inl, inr}
-use Rattle.std.specs.Prelude.{replicate}
-use Rattle.std.specs.List.{range_with_len}
+use Rattle.std.proofs.Common.{◌≡◌, ◌<◌, ◌≤◌, ◌+◌, ◌-◌, ◌∙◌, ℕ, zero, suc, pos, true, false, cond, List, [], ◌∷◌, length, take, drop, get_or, refl, sym, ap, arith, Some, inl, inr}
 use Rattle.std.proofs.lemmas.Bool.{true≢false, cases_lt}
 use Rattle.vx_base.specs.Masks.{rows_between}
 use Rattle.vx_base.specs.PlainValue.{PlainValue, int, null}
-use Rattle.vx_model.specs.Rows.{patched, below, row_at, is_index, index_of}
+use Rattle.vx_model.specs.Rows.{patched, row_at, is_index, index_of}
 use Rattle.vx_model.specs.WellFormed.{ascend}
 use Rattle.vx_model.proofs.PatchLemmas.{NoneBelow, NoneFrom, ascend_parts, ascend_from, is_index-of, none_below-start}
 use Rattle.vx_model.proofs.SparseLemmas.{patched-none}

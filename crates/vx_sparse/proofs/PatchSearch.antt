@@ -1,5 +1,5 @@
 -- The binary search for the first patch whose index isn't below a bound.
-use Rattle.std.proofs.Common.{◌≡◌, ◌<◌, ◌≤◌, ◌∙◌, ℕ, List, length, true, refl, ap, arith, Option, None, Some}
+use Rattle.std.proofs.Common.{◌≡◌, ◌<◌, ◌≤◌, ℕ, List, length, true, refl, ap, arith, Option, None, Some}
 use Rattle.std.specs.Prelude.{unwrap_or}
 use Rattle.vx_base.specs.PlainValue.{PlainValue}
 use Rattle.vx_model.specs.Rows.{row_at, index_of, offset_at}

@@ -1,5 +1,5 @@
 -- The slice of a sparse tree has the rows of the slice.
-use Rattle.std.proofs.Common.{◌≡◌, ◌<◌, ◌≤◌, ◌+◌, ◌-◌, ◌^◌, ◌∙◌, ◌++◌, ℕ, zero, suc, pos, Bool, true, false, cond, List, [], ◌∷◌, length, map, take, drop, get_or, refl, sym, ap, subst, arith, Option, None, Some}
+use Rattle.std.proofs.Common.{◌≡◌, ◌<◌, ◌≤◌, ◌+◌, ◌-◌, ◌^◌, ◌∙◌, ◌++◌, ℕ, zero, suc, pos, true, List, [], ◌∷◌, length, map, take, drop, refl, sym, ap, arith, Option, None, Some}
 use Rattle.std.specs.Prelude.{replicate, ◌==◌, ◌&&◌, not, nat_le}
 use Rattle.std.specs.List.{list_all, range_with_len}
 use Rattle.std.proofs.lemmas.Bool.{and_from, and_parts, cond_both, cond-true, cond-false, eq-eqb, eqb-true, ne_eqb, le-leb, leb-true, ltb-true}
@@ -11,7 +11,7 @@ use Rattle.vx_base.specs.PlainType as types
 use Rattle.vx_base.specs.PlainValue.{PlainValue, null, int}
 use Rattle.vx_model.specs.Column.{column, column_of}
 use Rattle.vx_model.specs.Refusals.{patches_refusal}
-use Rattle.vx_model.specs.Rows.{rows, row_at, index_of, is_index, patched, below}
+use Rattle.vx_model.specs.Rows.{rows, row_at, index_of, patched, below}
 use Rattle.vx_model.specs.Tree.{Tree, PlainPatches, patches, sparse, sparse_of, constant}
 use Rattle.vx_model.specs.TreeType.{tree_type}
 use Rattle.vx_model.specs.WellFormed.{WellFormed, WellFormedPatches, ascend}

@@ -1,5 +1,5 @@
 -- A sum over the rows of a sparse column: over its patches, and the fill's part once for each row without a patch.
-use Rattle.std.proofs.Common.{◌≡◌, ◌∙◌, ◌+◌, ◌*◌, ◌++◌, ℕ, Bool, true, false, cond, List, ◌∷◌, refl, sym, ap, arith}
+use Rattle.std.proofs.Common.{◌≡◌, ◌∙◌, ◌+◌, ◌*◌, ◌++◌, ℕ, Bool, true, false, cond, List, ◌∷◌, sym, ap, arith}
 use Rattle.std.specs.Prelude.{replicate, count_by, sum_by}
 use Rattle.std.proofs.lemmas.List.Folds.{sum_by-replicate}
 use Rattle.std.proofs.lemmas.List.Sums.{sum_by-cons, sum_by-append}

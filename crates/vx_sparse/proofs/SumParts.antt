@@ -1,6 +1,6 @@
 -- A sum of whole numbers as the difference of two sums of natural numbers.
-use Rattle.std.proofs.Common.{◌≡◌, ◌<◌, ◌≤◌, ◌^◌, ◌∙◌, ◌+◌, ◌*◌, ◌-◌, ℕ, zero, suc, ℤ, pos, negsuc, ◌+ℤ◌, ◌-ℤ◌, Bool, true, false, List, [], ◌∷◌, map, length, refl, sym, ap, arith}
-use Rattle.std.specs.Prelude.{sum_by, ◌||◌}
+use Rattle.std.proofs.Common.{◌≡◌, ◌<◌, ◌≤◌, ◌^◌, ◌∙◌, ◌+◌, ◌*◌, ◌-◌, ℕ, ℤ, pos, negsuc, ◌-ℤ◌, true, false, List, [], ◌∷◌, map, length, sym, arith}
+use Rattle.std.specs.Prelude.{sum_by}
 use Rattle.std.specs.List.{list_all}
 use Rattle.std.proofs.Math.Nat as nat
 use Rattle.std.proofs.lemmas.Bool.{and_parts, ltb-true}

@@ -1,5 +1,5 @@
 -- Pairs of cells, as they stand for extremes.
-use Rattle.std.specs.Prelude.{Option, None, Some, IsTrue, IfSome}
+use Rattle.std.specs.Prelude.{Option, None, Some, IsTrue}
 use Rattle.vx_base.specs.declared.cell.Cell.{Cell}
 use Rattle.vx_base.specs.CellValue.{cell_value}
 use Rattle.vx_base.specs.PlainScalar.{PlainScalar, scalar, fits}

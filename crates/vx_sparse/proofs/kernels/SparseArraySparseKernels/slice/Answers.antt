@@ -1,4 +1,4 @@
-use Rattle.std.proofs.Common.{◌≡◌, ◌∙◌, sym, ap, subst}
+use Rattle.std.proofs.Common.{◌≡◌, ◌∙◌, sym, subst}
 use Rattle.vx_base.specs.Answers.{Decided}
 use Rattle.vx_base.specs.PlainScalar.{PlainScalar}
 use Rattle.vx_model.specs.Column.{column_of}

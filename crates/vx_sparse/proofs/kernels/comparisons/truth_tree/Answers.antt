@@ -1,4 +1,4 @@
-use Rattle.std.proofs.Common.{◌≡◌, ◌∙◌, map, ap, subst}
+use Rattle.std.proofs.Common.{◌∙◌, map, ap, subst}
 use Rattle.std.specs.List.{list_all}
 use Rattle.vx_base.specs.Answers.{Answers}
 use Rattle.vx_base.specs.PlainScalar.{fits}

@@ -1,4 +1,4 @@
-use Rattle.std.proofs.Common.{◌≡◌, ◌∙◌, length, map, sym, ap, subst}
+use Rattle.std.proofs.Common.{◌∙◌, length, map, sym, ap, subst}
 use Rattle.std.proofs.lemmas.List.{length-map}
 use Rattle.vx_base.specs.Answers.{Answers}
 use Rattle.vx_base.specs.PlainType as types

@@ -1,4 +1,4 @@
-use Rattle.std.proofs.Common.{◌≡◌, ◌∙◌, true, false, sym, ap, subst, Ok}
+use Rattle.std.proofs.Common.{◌∙◌, sym, ap, subst, Ok}
 use Rattle.std.proofs.lemmas.Bool.{false≢true}
 use Rattle.vx_base.specs.Answers.{Answers}
 use Rattle.vx_base.specs.PlainType.{is_flat}

@@ -1,4 +1,4 @@
-use Rattle.std.proofs.Common.{◌≡◌, ◌∙◌, ap, subst}
+use Rattle.std.proofs.Common.{◌∙◌, ap, subst}
 use Rattle.vx_base.specs.Answers.{Answers}
 use Rattle.vx_model.specs.Refusals.{patches_refusal}
 use Rattle.vx_model.specs.Tree.{patches, sparse, sparse_of}

@@ -1,7 +1,7 @@
-use Rattle.std.proofs.Common.{◌≡◌, ◌<◌, ◌∙◌, length, sym, ap, subst}
+use Rattle.std.proofs.Common.{◌<◌, ◌∙◌, length, sym, ap, subst}
 use Rattle.std.specs.Prelude.{IfSome}
 use Rattle.vx_base.specs.PlainScalar.{fits}
-use Rattle.vx_model.specs.Rows.{row_at, rows}
+use Rattle.vx_model.specs.Rows.{rows}
 use Rattle.vx_model.specs.TreeType.{tree_type}
 use Rattle.vx_model.proofs.FrameOfReferenceLemmas.{row_passes}
 use Rattle.vx_model.proofs.MadeLemmas.{rows_fit}

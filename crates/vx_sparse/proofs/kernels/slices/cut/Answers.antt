@@ -1,11 +1,11 @@
-use Rattle.std.proofs.Common.{◌≡◌, ◌<◌, ◌∙◌, ◌+◌, ◌-◌, length, sym, ap, subst, arith, None}
+use Rattle.std.proofs.Common.{◌<◌, ◌∙◌, ◌+◌, ◌-◌, length, sym, ap, subst, arith}
 use Rattle.vx_base.specs.Answers.{Answers}
 use Rattle.vx_model.specs.Refusals.{patches_refusal}
 use Rattle.vx_model.specs.Rows.{rows}
 use Rattle.vx_model.specs.Tree.{patches, sparse, sparse_of}
 use Rattle.vx_model.specs.TreeType.{tree_type}
 use Rattle.vx_sparse.specs.Slices.{patches_before, plain_part}
-use Rattle.vx_sparse.proofs.SlicedRows.{before-most, before-order, cut-accepted, part-order, raised-below, type-plain_part}
+use Rattle.vx_sparse.proofs.SlicedRows.{before-most, cut-accepted, part-order, raised-below, type-plain_part}
 use Rattle.vx_sparse.proofs.kernels.slices.cut.Goals as goal
 
 pub overflow_sub-len : goal.overflow_sub-len

@@ -1,7 +1,6 @@
-use Rattle.std.proofs.Common.{◌≡◌, ◌∙◌, ◌-◌, sym, ap, subst, arith}
+use Rattle.std.proofs.Common.{◌∙◌, sym, subst, arith}
 use Rattle.vx_base.specs.Answers.{Answers}
-use Rattle.vx_model.specs.Tree.{constant}
-use Rattle.vx_sparse.specs.Slices.{cut_tree, patches_before, plain_part, sliced_tree}
+use Rattle.vx_sparse.specs.Slices.{cut_tree, plain_part}
 use Rattle.vx_sparse.proofs.SlicedRows.{part-order, sliced-cut, sliced-fill, sliced-values}
 use Rattle.vx_sparse.proofs.kernels.slices.slice_within.Goals as goal
 
