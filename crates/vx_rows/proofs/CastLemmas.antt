@@ -1,5 +1,5 @@
 -- What a cast answers: the values in a new type, where each is one of it.
-use Rattle.std.proofs.Common.{◌≡◌, ◌∙◌, ◌<◌, ℕ, zero, suc, ℤ, Bool, true, false, List, [], ◌∷◌, map, length, Some, None, inl, inr, refl, sym, ap, arith}
+use Rattle.std.proofs.Common.{◌≡◌, ◌∙◌, ◌<◌, ℕ, zero, suc, ℤ, Bool, true, false, cond, List, [], ◌∷◌, map, length, Some, None, inl, inr, refl, sym, ap, arith}
 use Rattle.std.specs.Prelude.{◌&&◌, ◌||◌, ◌==◌, replicate, Result, Ok, Err}
 use Rattle.std.specs.List.{list_all}
 use Rattle.std.proofs.lemmas.Bool.{and_parts, and_from}
@@ -58,6 +58,10 @@ pub integer-type : (t : PlainType) → is_integer t ≡ true → types.primitive
 integer-type (types.primitive p n) h = refl
 integer-type t h = absurd cc
 
+-- where there is a cast, and not both types are of integers, they are of one base
+pub base-cast : (s t : PlainType) → is_cast s t ≡ true → (is_integer s && is_integer t) ≡ false → same_base s t ≡ true
+base-cast s t h e = ap (λ b. b || same_base s t) (sym e) ∙ h
+
 -- ---- one value in every row
 
 pub same-held : (t : PlainType) (v : PlainValue) (n : ℕ) → fits t v ≡ true → list_all (fits t) (replicate n v) ≡ true
@@ -67,3 +71,16 @@ same-held t v (suc n) e = and_from _ _ e (same-held t v n e)
 pub same-unheld : (t : PlainType) (v : PlainValue) (n : ℕ) → fits t v ≡ false → (n == 0) ≡ false → list_all (fits t) (replicate n v) ≡ false
 same-unheld t v zero e k = absurd cc
 same-unheld t v (suc n) e k = ap (λ b. b && list_all (fits t) (replicate n v)) e
+
+pub cast-none : (t : PlainType) (v : PlainValue) (n : ℕ) (r : Result Tree VortexError) → n ≡ 0 → OrMemory r (λ out. column_of out ≡ column t []) → IsCast t (replicate n v) r
+cast-none t v zero r e h = cast-answered t [] r refl h
+cast-none t v (suc n) r e h = absurd (omega (arith, e))
+
+-- what a choice by a test was
+pub chosen-some : {A : Type 0} (b : Bool) (x y : A) → Some x ≡ cond b (Some y) None → (b ≡ true) × (x ≡ y)
+chosen-some true x y e = (refl, cc)
+chosen-some false x y e = absurd cc
+
+pub chosen-none : {A : Type 0} (b : Bool) (y : A) → None ≡ cond b (Some y) None → b ≡ false
+chosen-none true y e = absurd cc
+chosen-none false y e = refl

@@ -1,6 +1,6 @@
 -- Integers in another type, and with a fill in place of nulls.
-use Rattle.std.proofs.Common.{◌≡◌, ◌∙◌, ℤ, pos, Bool, true, false, cond, List, [], ◌∷◌, map, length, Some, None, refl, sym, ap, arith}
-use Rattle.std.specs.Prelude.{◌&&◌, ◌||◌}
+use Rattle.std.proofs.Common.{◌≡◌, ◌∙◌, ◌<◌, ◌+◌, ℕ, zero, suc, ℤ, pos, Bool, true, false, cond, List, [], ◌∷◌, map, take, length, get_or, Some, None, refl, sym, ap, arith, add-one}
+use Rattle.std.specs.Prelude.{◌&&◌, ◌||◌, not}
 use Rattle.std.specs.List.{list_all}
 use Rattle.std.proofs.lemmas.Bool.{and_parts, and_from, eqb-true}
 use Rattle.vx_base.specs.declared.dtype.Nullability.{Nullability}
@@ -64,6 +64,34 @@ module _ (p : PType) where
   fit-rows None n zs h = fit-all n zs
   fit-rows (Some bits) Nullable zs h = fit-nullable bits zs
   fit-rows (Some bits) NonNullable zs h = fit-other bits zs (eqb-true (length bits) (length zs) h)
+
+  -- the same by one test after the other
+  pub rows-held : (valid : Validity) (n : Nullability) (zs : List ℤ) → validity_length valid (length zs) ≡ true → validity_allowed valid n ≡ true → all_valid_in p valid zs ≡ list_all (fits (types.primitive p n)) (valid_rows valid (map int zs))
+  rows-held valid n zs h a = sym (fit-rows valid n zs h ∙ ap (λ b. b && all_valid_in p valid zs) a)
+
+  pub rows-unheld : (valid : Validity) (n : Nullability) (zs : List ℤ) → validity_length valid (length zs) ≡ true → validity_allowed valid n ≡ false → false ≡ list_all (fits (types.primitive p n)) (valid_rows valid (map int zs))
+  rows-unheld valid n zs h a = sym (fit-rows valid n zs h ∙ ap (λ b. b && all_valid_in p valid zs) a)
+
+  -- one number further
+  masked-next : (bits : List Bool) (zs : List ℤ) (i : ℕ) (z : ℤ) → i < length bits → i < length zs → z ≡ get_or zs i (pos 0)
+      → masked_in p (take (suc i) bits) (take (suc i) zs) ≡ (masked_in p (take i bits) (take i zs) && (not (get_or bits i false) || lies_in p z))
+  masked-next [] zs i z h k e = absurd (omega arith)
+  masked-next (b ∷ bits) [] i z h k e = absurd (omega arith)
+  masked-next (b ∷ bits) (y ∷ zs) zero z h k e = and-true (not b || lies_in p y) ∙ ap (λ x. not b || lies_in p x) (sym e)
+    where
+      and-true : (x : Bool) → (x && true) ≡ x
+      and-true true = refl
+      and-true false = refl
+  masked-next (b ∷ bits) (y ∷ zs) (suc i) z h k e =
+      ap (λ x. (not b || lies_in p y) && x) (masked-next bits zs i z (omega arith) (omega arith) e) ∙ sym (and-assoc (not b || lies_in p y) (masked_in p (take i bits) (take i zs)) _)
+    where
+      and-assoc : (x y w : Bool) → ((x && y) && w) ≡ (x && (y && w))
+      and-assoc true y w = refl
+      and-assoc false y w = refl
+
+  pub masked-more : (bits : List Bool) (zs : List ℤ) (i : ℕ) (z : ℤ) → i < length bits → i < length zs → z ≡ get_or zs i (pos 0)
+      → masked_in p (take (i + 1) bits) (take (i + 1) zs) ≡ (masked_in p (take i bits) (take i zs) && (not (get_or bits i false) || lies_in p z))
+  masked-more bits zs i z h k e = rw (add-one i) (masked-next bits zs i z h k e)
 
 -- ---- a fill in place of nulls
 

@@ -169,3 +169,6 @@ pub greatest-same : (v : PlainValue) (n : ℕ) → is_null v ≡ false → 0 < n
 greatest-same v n e h = ap greatest (valid-same v n e) ∙ reduce-same (ord_max value_cmp) v n (cond-same (is_lt (value_cmp v v)) v) h
 
 pub ruleset same_extremes = (least-none, greatest-none, least-same, greatest-same)
+
+-- rows of integers, and what their least and greatest come to
+pub ruleset item_rows = (valid-some, valid-masked, least-int, greatest-int)

@@ -15,7 +15,7 @@ use Rattle.vx_model.specs.Refusals.{timestamp_refusal}
 use Rattle.vx_model.specs.Tree.{primitive}
 use Rattle.vx_values.specs.ValuesOf.{ValueKind, ints, kind_of}
 
-kind_type : ValueKind → PType
+abbrev kind_type : ValueKind → PType
 kind_type (ints p) = p
 kind_type _ = I64
 

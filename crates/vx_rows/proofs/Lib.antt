@@ -5,6 +5,7 @@ pub mod ConvertLemmas
 pub mod CountLemmas
 pub mod ExtremeLemmas
 pub mod FillLemmas
+pub mod HeldLemmas
 pub mod KindLemmas
 pub mod LentLemmas
 pub mod ReadLemmas

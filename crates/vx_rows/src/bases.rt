@@ -7,7 +7,6 @@ ghost use Rattle.vx_base.specs.TypeOf.{type_of};
 use vx_base::DType;
 
 /// Whether two types are equal up to outermost nullability.
-#[tactic(auto, using(crate::proofs::BaseLemmas::alike))]
 pub(crate) fn are_alike(left: &DType, right: &DType) -> bool
     ensures { result ≡ same_base (type_of left.now) (type_of right.now) }
 {

@@ -43,7 +43,14 @@ pub fn cast(array: &ArrayRef, dtype: &DType, ctx: &mut ExecutionCtx) -> VortexRe
 fn is_cast(from: &DType, to: &DType) -> bool
     ensures { result ≡ is_cast (type_of from.now) (type_of to.now) }
 {
-    from.is_integer() && to.is_integer() || are_alike(from, to)
+    are_integers(from, to) || are_alike(from, to)
+}
+
+// Whether both types are of integers.
+fn are_integers(left: &DType, right: &DType) -> bool
+    ensures { result ≡ (is_integer (type_of left.now) && is_integer (type_of right.now)) }
+{
+    left.is_integer() && right.is_integer()
 }
 
 // `cast` between types that are cast.
@@ -51,7 +58,7 @@ fn cast_by_type(alloc: Global, array: &ArrayRef, dtype: &DType) -> VortexResult<
     requires { IsTrue (is_cast (tree_type array.now) (type_of dtype.now)) }
     ensures { IsCast (type_of dtype.now) (rows array.now) result }
 {
-    if array.dtype().is_integer() && dtype.is_integer() {
+    if are_integers(array.dtype(), dtype) {
         cast_integers(alloc, array, dtype.ptype(), dtype.nullability())
     } else {
         cast_nullability(alloc, array, dtype)

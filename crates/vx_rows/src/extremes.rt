@@ -148,6 +148,7 @@ fn integer_extremes(values: &Ints, valid: &Option<Mask>) -> Option<(Cell<'static
 }
 
 // `integer_extremes` of items of one type.
+#[tactic(auto, using(crate::proofs::ExtremeLemmas::item_rows))]
 fn item_extremes<T: Integer>(
     items: &[T],
     valid: &Option<Mask>,

@@ -1,5 +1,6 @@
 //! What is answered of a whole column: constancy, least and greatest, nulls and sums.
 
+use crate::calls::{is_constant, min_max, null_count, sum};
 use crate::columns::{by_codes, is_text, structs, texts_with_nulls, truths, whole};
 use std::test::Fail;
 use vx_array::ArrayRef;
@@ -7,7 +8,6 @@ use vx_base::Nullability::{NonNullable, Nullable};
 use vx_base::PType::{I8, I32, I64, U8, U64};
 use vx_base::{DType, PType, Scalar, VortexError};
 use vx_fixtures::{accepted, flat, with_nulls};
-use vx_rows::{is_constant, min_max, null_count, sum};
 
 #[test]
 fn no_rows_are_not_constant(rt: HostRuntime) -> Result<(), Fail> {

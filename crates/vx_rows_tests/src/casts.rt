@@ -1,5 +1,6 @@
 //! Casts: between integer types, of nullability alone, and refusals.
 
+use crate::calls::cast;
 use crate::columns::{by_codes, structs, texts, texts_with_nulls, whole};
 use std::test::Fail;
 use vx_array::ArrayRef;
@@ -7,7 +8,6 @@ use vx_base::Nullability::{NonNullable, Nullable};
 use vx_base::PType::{I8, I32, I64, U8, U64};
 use vx_base::{DType, Nullability, PType, VortexError};
 use vx_fixtures::{flat, has_rows, with_nulls};
-use vx_rows::cast;
 
 fn integers(ptype: PType, nullability: Nullability) -> DType {
     DType::primitive(ptype, nullability)

@@ -1,5 +1,6 @@
 //! Fills of nulls: numbers, texts, timestamps, truth values and structs, constants and encoded rows, and refusals.
 
+use crate::calls::{fill_null, null_count};
 use crate::columns::{
     by_codes, has_texts, has_truths, structs, text, texts_with_nulls, truths, whole,
 };
@@ -9,7 +10,6 @@ use vx_base::Nullability::{NonNullable, Nullable};
 use vx_base::PType::{I32, I64};
 use vx_base::{Scalar, TimeUnit, VortexError};
 use vx_fixtures::{accepted, flat, has_rows, has_stamps, stamps, utc, with_nulls};
-use vx_rows::{fill_null, null_count};
 
 #[test]
 fn a_fill_stands_in_place_of_null(rt: HostRuntime) -> Result<(), Fail> {

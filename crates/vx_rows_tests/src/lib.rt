@@ -4,14 +4,10 @@
 #[cfg(test)]
 mod aggregates;
 #[cfg(test)]
+mod calls;
+#[cfg(test)]
 mod casts;
 #[cfg(test)]
 mod columns;
 #[cfg(test)]
-mod comparisons;
-#[cfg(test)]
 mod fills;
-#[cfg(test)]
-mod patterns;
-#[cfg(test)]
-mod ranges;

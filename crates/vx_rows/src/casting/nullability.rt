@@ -26,8 +26,11 @@ pub(super) fn cast_nullability(
     ensures { IsCast (type_of dtype.now) (rows array.now) result }
 {
     array.known();
+    if dtype.is_nullable() {
+        return retyped(alloc, array, dtype);
+    }
     let nulls = nulls_of(alloc, array)?;
-    if nulls > 0 && !dtype.is_nullable() {
+    if nulls > 0 {
         return Err(VortexError::CastRefused);
     }
     retyped(alloc, array, dtype)
