@@ -1,6 +1,6 @@
 -- Types of one base, and values of both.
-use Rattle.std.proofs.Common.{◌≡◌, ◌∙◌, ◌<◌, ◌+◌, ℕ, Bool, true, false, cond, List, [], ◌∷◌, refl, sym, ap, arith}
-use Rattle.std.specs.Prelude.{◌&&◌, count_by}
+use Rattle.std.proofs.Common.{◌≡◌, ◌∙◌, ◌<◌, ◌+◌, ℕ, zero, suc, Bool, true, false, cond, List, [], ◌∷◌, refl, sym, ap, arith}
+use Rattle.std.specs.Prelude.{◌&&◌, ◌==◌, count_by}
 use Rattle.std.specs.List.{list_all}
 use Rattle.std.proofs.lemmas.Bool.{and_parts, and_from}
 use Rattle.std.proofs.lemmas.List.Sums.{sum_by-cons}
@@ -74,3 +74,7 @@ null-unfit t (truth b ∷ vs) n h = unfit-next (fits t (truth b)) _ (null-unfit 
 null-unfit t (int z ∷ vs) n h = unfit-next (fits t (int z)) _ (null-unfit t vs n h)
 null-unfit t (bytes bs ∷ vs) n h = unfit-next (fits t (bytes bs)) _ (null-unfit t vs n h)
 null-unfit t (items ws ∷ vs) n h = unfit-next (fits t (items ws)) _ (null-unfit t vs n h)
+
+pub null-test : (s t : PlainType) (vs : List PlainValue) (n : ℕ) → same_base s t ≡ true → is_nullable t ≡ false → list_all (fits s) vs ≡ true → n ≡ count_by is_null vs → (n == 0) ≡ list_all (fits t) vs
+null-test s t vs zero same e h k = sym (valid-fit s t same vs (sym k) h)
+null-test s t vs (suc n) same e h k = sym (null-unfit t vs e (omega (arith, k)))

@@ -1,6 +1,6 @@
 -- Columns with a fill in place of nulls.
 use Rattle.std.proofs.Common.{◌≡◌, ◌∙◌, ℕ, zero, suc, Bool, true, false, cond, List, [], ◌∷◌, map, None, refl, sym, ap, arith}
-use Rattle.std.specs.Prelude.{◌&&◌, ◌==◌, not, replicate, Result, Ok, Err}
+use Rattle.std.specs.Prelude.{◌&&◌, ◌||◌, ◌==◌, not, replicate, Result, Ok, Err}
 use Rattle.std.specs.List.{list_all}
 use Rattle.std.proofs.lemmas.Bool.{and_parts}
 use Rattle.vx_base.specs.declared.error.VortexError.{VortexError}
@@ -46,12 +46,27 @@ pub same-values : (fill v : PlainValue) (n : ℕ) → is_null v ≡ false → ma
 same-values fill v zero e = refl
 same-values fill v (suc n) e = (λ i. cond (e i) fill v ∷ map (or_default fill) (replicate n v)) ∙ ap (λ vs. v ∷ vs) (same-values fill v n e)
 
-pub no-values : (fill v : PlainValue) (n : ℕ) → n ≡ 0 → map (or_default fill) (replicate n v) ≡ replicate n fill
-no-values fill v zero e = refl
-no-values fill v (suc n) e = absurd (omega (arith, e))
-
 pub same-fits : (t : PlainType) (fill v : PlainValue) (n : ℕ) → list_all (fits t) (map (or_default fill) (replicate n v)) ≡ true → is_null v ≡ false → (n == 0) ≡ false → fits t v ≡ true
 same-fits t fill v zero h e k = absurd cc
 same-fits t fill v (suc n) h e k =
     let all : list_all (fits t) (replicate (suc n) v) ≡ true = sym (ap (list_all (fits t)) (same-values fill v (suc n) e)) ∙ h in
     (and_parts (fits t v) (list_all (fits t) (replicate n v)) all).0
+
+-- by the test of both
+or-false : (b : Bool) → (b || false) ≡ true → b ≡ true
+or-false true h = refl
+or-false false h = absurd cc
+
+neither : (b c : Bool) → (b || c) ≡ false → (b ≡ false) × (c ≡ false)
+neither true c h = absurd cc
+neither false c h = (refl, h)
+
+pub same-filled : (fill v : PlainValue) (n : ℕ) → (is_null v || n == 0) ≡ true → map (or_default fill) (replicate n v) ≡ replicate n fill
+same-filled fill v zero h = refl
+same-filled fill v (suc n) h = same-nulls fill v (suc n) (or-false (is_null v) h)
+
+pub same-own : (fill v : PlainValue) (n : ℕ) → (is_null v || n == 0) ≡ false → map (or_default fill) (replicate n v) ≡ replicate n v
+same-own fill v n h = same-values fill v n (neither (is_null v) (n == 0) h).0
+
+pub own-fits : (t : PlainType) (fill v : PlainValue) (n : ℕ) → list_all (fits t) (map (or_default fill) (replicate n v)) ≡ true → (is_null v || n == 0) ≡ false → fits t v ≡ true
+own-fits t fill v n h k = let both = neither (is_null v) (n == 0) k in same-fits t fill v n h both.0 both.1

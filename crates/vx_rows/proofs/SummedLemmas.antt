@@ -1,6 +1,6 @@
 -- Columns that are summed: their types, and what one value in every row comes to.
-use Rattle.std.proofs.Common.{◌≡◌, ◌∙◌, ℕ, zero, suc, ℤ, pos, negsuc, Bool, true, false, List, [], ◌∷◌, length, refl, sym, ap, arith}
-use Rattle.std.specs.Prelude.{◌||◌, ◌==◌, replicate, nat_lt, ◌^◌}
+use Rattle.std.proofs.Common.{◌≡◌, ◌∙◌, ℕ, zero, suc, ℤ, pos, negsuc, Bool, true, false, List, [], ◌∷◌, map, length, None, refl, sym, ap, arith}
+use Rattle.std.specs.Prelude.{◌||◌, ◌==◌, replicate, nat_lt, ◌^◌, Result, Err}
 use Rattle.std.specs.List.{list_all}
 use Rattle.std.proofs.lemmas.Bool.{and_parts}
 use Rattle.std.proofs.lemmas.Bool.Decides.{nat_tests}
@@ -8,14 +8,22 @@ use Rattle.vx_base.specs.declared.ptype.PType.{PType}
 use Rattle.vx_base.specs.declared.ptype.PType.TheVariants as kinds
 use Rattle.vx_base.specs.CellValue.{cell_value}
 use Rattle.vx_base.specs.Integers.{lies_in}
-use Rattle.vx_base.specs.PlainScalar.{fits}
+use Rattle.vx_base.specs.declared.dtype.Nullability.TheVariants.{Nullable}
+use Rattle.vx_base.specs.declared.error.VortexError.{VortexError}
+use Rattle.vx_base.specs.declared.error.VortexError.TheVariants.{MismatchedTypes}
+use Rattle.vx_base.specs.Answers.{Answers, Decided, OrMemory, unless}
+use Rattle.vx_base.specs.PlainScalar.{PlainScalar, fits, scalar}
 use Rattle.vx_base.specs.PlainType.{PlainType, is_flat}
 use Rattle.vx_base.specs.PlainType as types
 use Rattle.vx_base.specs.PlainValue.{PlainValue, null, truth, int, bytes, items}
+use Rattle.vx_base.specs.Undelta.{total}
+use Rattle.vx_model.specs.Column.{Column}
+use Rattle.vx_rules.specs.Aggregates.{or_null, sum, sum_ptype, sum_refusal, summand}
 use Rattle.vx_rows.specs.declared.lent.Lent.{Lent}
 use Rattle.vx_rows.specs.declared.lent.Lent.TheVariants.{Bits, Ints, Bytes, Same}
 use Rattle.vx_rows.specs.Readable.{lent_rows}
 use Rattle.vx_rows.specs.Totals.{has_total, is_summed, is_word}
+use Rattle.vx_rows.proofs.ExtremeLemmas.{same-answer}
 
 pub summed-flat : (t : PlainType) → is_summed t ≡ true → is_flat t ≡ true
 summed-flat (types.boolean n) h = refl
@@ -60,3 +68,22 @@ sized t (Ints xs valid) h = refl
 sized t (Bytes bss valid) h = refl
 sized t (Same v zero) h = or-right (is_word (cell_value v)) true refl
 sized t (Same v (suc n)) h = or-left (is_word (cell_value v)) _ (word-fits t (cell_value v) (and_parts (fits t (cell_value v)) (list_all (fits t) (replicate n (cell_value v))) h).0)
+
+-- ---- what a sum answers
+
+by-test : {A : Type 0} (b : Bool) (e : VortexError) (P : A → Type 0) (r : Result A VortexError) → b ≡ true → OrMemory r P → Decided (unless b e None) P r
+by-test true e P r h a = a
+by-test false e P r h a = absurd cc
+
+pub sum-refused : (c : Column) (P : PlainScalar → Type 0) → is_summed c.dtype ≡ false → Decided (sum_refusal c) P (Err MismatchedTypes)
+sum-refused c P h = by (is_summed c.dtype) h
+  where
+    by : (b : Bool) → b ≡ false → Decided (unless b MismatchedTypes None) P (Err MismatchedTypes)
+    by true e = absurd cc
+    by false e = refl
+
+pub sum-answered : (c : Column) (p : PType) (z : ℤ) (r : Result PlainScalar VortexError) → is_summed c.dtype ≡ true → p ≡ sum_ptype c.dtype → z ≡ total (map summand c.values)
+    → Answers r (scalar (types.primitive p Nullable) (or_null p z)) → Decided (sum_refusal c) (λ out. out ≡ sum c) r
+sum-answered c p z r h e f a =
+    by-test (is_summed c.dtype) MismatchedTypes (λ out. out ≡ sum c) r h
+    (same-answer r (scalar (types.primitive p Nullable) (or_null p z)) (sum c) (λ i. scalar (types.primitive (e i) Nullable) (or_null (e i) (f i))) a)

@@ -159,14 +159,30 @@ bytes-counted rows (Some bits) = masked bits rows
     masked (true ∷ bits) (r ∷ rows) = counts-cons (bytes r) (masked_rows bits (map bytes rows)) refl (masked bits rows)
     masked (false ∷ bits) (r ∷ rows) = counts-cons null (masked_rows bits (map bytes rows)) refl (masked bits rows)
 
-pub same-counted : (v : PlainValue) (n : ℕ) → summand v ≡ pos (cond (truth_or_false v) 1 0) → total (map summand (replicate n v)) ≡ pos (count_by truth_or_false (replicate n v))
-same-counted v zero e = refl
-same-counted v (suc n) e = counts-cons v (replicate n v) e (same-counted v n e)
-
--- ---- one integer in every row
+-- ---- one value in every row
 
 pub same-summed : (z : ℤ) (n : ℕ) → total (map summand (replicate n (int z))) ≡ pos n *ℤ z
 same-summed z zero = omega (arith, ints)
 same-summed z (suc n) = ap (λ s. z +ℤ s) (same-summed z n) ∙ omega (arith, ints) ∙ sym (suc_ℤ-*ℤ (pos n) z)
 
-pub ruleset rows_summed = (bits-counted, bytes-counted, same-counted, same-summed)
+pub same-true : (n : ℕ) → total (map summand (replicate n (truth true))) ≡ pos n
+same-true zero = refl
+same-true (suc n) = ap (λ s. pos 1 +ℤ s) (same-true n) ∙ omega (arith, ints)
+
+-- of a value that adds nothing
+nothing : (v : PlainValue) (n : ℕ) → summand v ≡ pos 0 → total (map summand (replicate n v)) ≡ pos 0
+nothing v zero e = refl
+nothing v (suc n) e = (λ i. e i +ℤ nothing v n e i) ∙ omega (arith, ints)
+
+pub same-false : (n : ℕ) → total (map summand (replicate n (truth false))) ≡ pos 0
+same-false n = nothing (truth false) n refl
+
+pub same-null : (n : ℕ) → total (map summand (replicate n null)) ≡ pos 0
+same-null n = nothing null n refl
+
+pub same-bytes : (bs : List ℕ) (n : ℕ) → total (map summand (replicate n (bytes bs))) ≡ pos 0
+same-bytes bs n = nothing (bytes bs) n refl
+
+pub ruleset same_rows = (same-summed, same-true, same-false, same-null, same-bytes)
+
+pub ruleset rows_summed = (bits-counted, bytes-counted)

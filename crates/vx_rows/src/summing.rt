@@ -1,7 +1,8 @@
 //! Sums of columns of integers or truth values.
 
-ghost use Rattle.std.specs.Prelude.{◌≡◌, ◌*◌, ◌*ℤ◌, ◌==◌, ◌||◌, IsTrue, count_by, false, length, map, pos, true};
+ghost use Rattle.std.specs.Prelude.{◌≡◌, ◌*◌, ◌*ℤ◌, ◌==◌, ◌||◌, IsTrue, count_by, false, length, map, pos, replicate, true};
 ghost use Rattle.vx_base.specs.Answers.{Answers, Decided, OrMemory};
+ghost use Rattle.vx_base.specs.CellValue.{cell_value};
 ghost use Rattle.vx_base.specs.Integers.{is_signed, lies_in};
 ghost use Rattle.vx_base.specs.PlainScalar.{scalar};
 ghost use Rattle.vx_base.specs.PlainType.{is_nullable};
@@ -88,8 +89,21 @@ fn lent_total(rows: Lent<'_>) -> Total
 {
     match rows {
         Lent::Ints(values, valid) => integer_total(values, valid),
-        Lent::Same(Cell::Int(whole), len) => product(whole, len),
-        _ => Total::Unsigned(true_rows(rows) as u128),
+        Lent::Same(value, len) => same_total(value, len),
+        Lent::Bits(_, _) | Lent::Bytes(_, _) => Total::Unsigned(true_rows(rows) as u128),
+    }
+}
+
+// The sum of one value in every row.
+#[tactic(auto, using(crate::proofs::TotalLemmas::same_rows))]
+fn same_total(value: Cell<'_>, len: u64) -> Total
+    requires { IsTrue (is_word (cell_value value) || len == 0) }
+    ensures { total_of result ≡ total (map summand (replicate len (cell_value value.entry))) }
+{
+    match value {
+        Cell::Int(whole) => product(whole, len),
+        Cell::Bool(true) => Total::Unsigned(len as u128),
+        Cell::Bool(false) | Cell::Null | Cell::Bytes(_) => Total::Unsigned(0),
     }
 }
 

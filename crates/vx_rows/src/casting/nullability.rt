@@ -2,7 +2,7 @@
 
 ghost use Rattle.std.specs.List.{list_all};
 ghost use Rattle.std.specs.Prelude.{◌≡◌, IsTrue, map};
-ghost use Rattle.vx_base.specs.Answers.{OrMemory};
+ghost use Rattle.vx_base.specs.Answers.{Answers, OrMemory};
 ghost use Rattle.vx_base.specs.PlainScalar.{fits};
 ghost use Rattle.vx_base.specs.PlainType.{same_base};
 ghost use Rattle.vx_base.specs.TypeOf.{type_of, value_of};
@@ -25,15 +25,24 @@ pub(super) fn cast_nullability(
     requires { IsTrue (same_base (tree_type array.now) (type_of dtype.now)) }
     ensures { IsCast (type_of dtype.now) (rows array.now) result }
 {
-    array.known();
-    if dtype.is_nullable() {
-        return retyped(alloc, array, dtype);
-    }
-    let nulls = nulls_of(alloc, array)?;
-    if nulls > 0 {
+    let held = are_of(alloc, array, dtype)?;
+    if !held {
         return Err(VortexError::CastRefused);
     }
     retyped(alloc, array, dtype)
+}
+
+// Whether each row is of such a type: it is nullable, or no row is null.
+fn are_of(alloc: Global, array: &ArrayRef, dtype: &DType) -> VortexResult<bool>
+    requires { IsTrue (same_base (tree_type array.now) (type_of dtype.now)) }
+    ensures { Answers result (list_all (fits (type_of dtype.now)) (rows array.now)) }
+{
+    array.known();
+    if dtype.is_nullable() {
+        return Ok(true);
+    }
+    let nulls = nulls_of(alloc, array)?;
+    Ok(nulls == 0)
 }
 
 // The rows as a column of a type that they are of.

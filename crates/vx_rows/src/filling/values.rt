@@ -1,11 +1,12 @@
 //! Values with a fill in place of nulls.
 
 ghost use Rattle.std.specs.List.{list_all};
-ghost use Rattle.std.specs.Prelude.{◌≡◌, ◌<◌, IsTrue, length, map, replicate};
+ghost use Rattle.std.specs.Prelude.{◌≡◌, ◌<◌, ◌==◌, ◌||◌, IsTrue, length, map, replicate};
 ghost use Rattle.vx_base.specs.Answers.{OrMemory};
 ghost use Rattle.vx_base.specs.CellValue.{cell_value};
 ghost use Rattle.vx_base.specs.Defaults.{or_default};
 ghost use Rattle.vx_base.specs.PlainScalar.{fits};
+ghost use Rattle.vx_base.specs.PlainValue.{is_null};
 ghost use Rattle.vx_base.specs.TypeOf.{value_of};
 ghost use Rattle.vx_model.specs.Column.{column, column_of};
 ghost use Rattle.vx_model.specs.Rows.{rows, row_at};
@@ -26,11 +27,18 @@ pub(super) fn filled_same(
     requires { IsTrue (list_all (fits fill.now.dtype) (map (or_default fill.now.value) (replicate len (cell_value value)))) }
     ensures { OrMemory result (λ out. column_of out ≡ column fill.now.dtype (map (or_default fill.now.value) (replicate len (cell_value value.entry)))) }
 {
-    if value.is_null() || len == 0 {
+    if is_filled(value, len) {
         return Ok(ArrayRef::constant(fill.copy(alloc)?, len));
     }
     let scalar = Scalar::of_cell(alloc, fill.dtype(), value)?;
     Ok(ArrayRef::constant(scalar, len))
+}
+
+// Whether one value in every row gives way to a fill: it is null, or there are no rows.
+fn is_filled(value: Cell<'_>, len: u64) -> bool
+    ensures { result ≡ (is_null (cell_value value.entry) || len == 0) }
+{
+    value.is_null() || len == 0
 }
 
 // The values of flat rows, the fill of null.

@@ -15,12 +15,12 @@ loop-row-init c = equal-first (cell_value c.cell-first.result) (lent_rows c.args
 pub loop-row-preserved : goal.loop-row-preserved
 loop-row-preserved c =
     equal-more (cell_value c.cell-first.result) (lent_rows c.args.rows) c.loop-row.row (omega (arith, c.len-len.ensures)) c.loop-row.invariant
-    (ap (same_value (cell_value c.cell-first.result)) (sym c.cell.ensures) ∙ sym (same_from stored_value (cell_value c.cell-first.result) (cell_value c.cell.result) c.same_cell.result (λ t. c.same_cell.ensures.0 t) (λ e. c.same_cell.ensures.1 e)) ∙ c.if-same_cell.true)
+    (ap (same_value (cell_value c.cell-first.result)) (sym c.cell.ensures) ∙ sym (same_from stored_value (cell_value c.cell-first.result) (cell_value c.cell.result) c.same_cell.result (λ t. c.same_cell.ensures.0 t) (λ e. c.same_cell.ensures.1 e)) ∙ c.if-not-same_cell.false)
 
-pub returns-then-same_cell : goal.returns-then-same_cell
-returns-then-same_cell c =
+pub returns-then-not-same_cell : goal.returns-then-not-same_cell
+returns-then-not-same_cell c =
     equal-not (cell_value c.cell-first.result) (lent_rows c.args.rows) c.loop-row.row (omega arith) (omega (arith, c.len-len.ensures)) c.cell-first.ensures
-    (ap (same_value (cell_value c.cell-first.result)) (sym c.cell.ensures) ∙ sym (same_from stored_value (cell_value c.cell-first.result) (cell_value c.cell.result) c.same_cell.result (λ t. c.same_cell.ensures.0 t) (λ e. c.same_cell.ensures.1 e)) ∙ c.if-same_cell.false)
+    (ap (same_value (cell_value c.cell-first.result)) (sym c.cell.ensures) ∙ sym (same_from stored_value (cell_value c.cell-first.result) (cell_value c.cell.result) c.same_cell.result (λ t. c.same_cell.ensures.0 t) (λ e. c.same_cell.ensures.1 e)) ∙ c.if-not-same_cell.true)
 
 pub returns : goal.returns
 returns c = equal-all (cell_value c.cell-first.result) (lent_rows c.args.rows) c.loop-row.row (omega (arith, c.len-len.ensures)) c.cell-first.ensures (omega (arith, c.len-len.ensures)) c.loop-row.invariant

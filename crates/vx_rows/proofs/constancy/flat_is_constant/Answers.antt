@@ -10,8 +10,8 @@ use Rattle.vx_rows.specs.Readable.{lent_rows}
 use Rattle.vx_rules.specs.Aggregates.{all_equal}
 use Rattle.vx_rows.proofs.constancy.flat_is_constant.Goals as goal
 
-pub readable-read-requires : goal.readable-read-requires
-readable-read-requires c = c.requires
+pub readable-requires : goal.readable-requires
+readable-requires c = c.requires
 
 pub rows_of-rows-requires-clause-flat : goal.rows_of-rows-requires-clause-flat
 rows_of-rows-requires-clause-flat c = ap is_flat c.in_ok-read.ensures.dtype ∙ c.requires

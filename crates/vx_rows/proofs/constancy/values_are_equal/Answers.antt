@@ -13,12 +13,12 @@ loop-row-init c = equal-first (value_of c.in_ok-first.first) (rows c.args.tree.n
 pub loop-row-preserved : goal.loop-row-preserved
 loop-row-preserved c =
     equal-more (value_of c.in_ok-first.first) (rows c.args.tree.now) c.loop-row.row (omega (arith, c.len-len.ensures)) c.loop-row.invariant
-    (sym c.in_ok-equal.ensures ∙ c.if-equal.true)
+    (sym c.in_ok-equal.ensures ∙ c.if-not-equal.false)
 
-pub returns-then-equal : goal.returns-then-equal
-returns-then-equal c =
+pub returns-then-not-equal : goal.returns-then-not-equal
+returns-then-not-equal c =
     equal-not (value_of c.in_ok-first.first) (rows c.args.tree.now) c.loop-row.row (omega arith) (omega (arith, c.len-len.ensures)) c.in_ok-first.ensures
-    (sym c.in_ok-equal.ensures ∙ c.if-equal.false)
+    (sym c.in_ok-equal.ensures ∙ c.if-not-equal.true)
 
 pub returns : goal.returns
 returns c = equal-all (value_of c.in_ok-first.first) (rows c.args.tree.now) c.loop-row.row (omega (arith, c.len-len.ensures)) c.in_ok-first.ensures (omega (arith, c.len-len.ensures)) c.loop-row.invariant

@@ -11,8 +11,8 @@ use Rattle.vx_rules.specs.Aggregates.{min_max}
 use Rattle.vx_rows.proofs.ExtremeLemmas.{same-answer}
 use Rattle.vx_rows.proofs.extremes.flat_extremes.Goals as goal
 
-pub readable-read-requires : goal.readable-read-requires
-readable-read-requires c = c.requires
+pub readable-requires : goal.readable-requires
+readable-requires c = c.requires
 
 pub rows_of-rows-requires-clause-flat : goal.rows_of-rows-requires-clause-flat
 rows_of-rows-requires-clause-flat c = ap is_flat c.in_ok-read.ensures.dtype ∙ c.requires

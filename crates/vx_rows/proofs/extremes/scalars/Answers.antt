@@ -6,11 +6,11 @@ use Rattle.vx_rows.specs.Readable.{lent_rows}
 use Rattle.vx_rows.proofs.ExtremeLemmas.{greatest-holds, least-holds}
 use Rattle.vx_rows.proofs.extremes.scalars.Goals as goal
 
-pub of_cell-least-requires : goal.of_cell-least-requires
-of_cell-least-requires c = least-holds (fits (type_of c.args.dtype.now)) (lent_rows c.args.rows) _ c.requires.fit (sym c.in-Some.ensures.least)
+pub of_cell-requires : goal.of_cell-requires
+of_cell-requires c = least-holds (fits (type_of c.args.dtype.now)) (lent_rows c.args.rows) _ c.requires.fit (sym c.in-Some.ensures.least)
 
-pub of_cell-greatest-requires : goal.of_cell-greatest-requires
-of_cell-greatest-requires c = greatest-holds (fits (type_of c.args.dtype.now)) (lent_rows c.args.rows) _ c.requires.fit (sym c.in-Some.ensures.greatest)
+pub of_cell-requires-2 : goal.of_cell-requires-2
+of_cell-requires-2 c = greatest-holds (fits (type_of c.args.dtype.now)) (lent_rows c.args.rows) _ c.requires.fit (sym c.in-Some.ensures.greatest)
 
 pub returns-in-Some : goal.returns-in-Some
 returns-in-Some c = (λ i. Some (c.in_ok-least.ensures i, c.in_ok-greatest.ensures i)) ∙ (λ i. scalar_pair (type_of c.args.dtype.now) (c.in-Some.ensures.least i) (c.in-Some.ensures.greatest i))

@@ -8,8 +8,8 @@ use Rattle.vx_rows.specs.Readable.{lent_rows}
 use Rattle.vx_rows.proofs.FillLemmas.{answer-along, fill-value, filled-fit}
 use Rattle.vx_rows.proofs.filling.filled_flat.Goals as goal
 
-pub readable-read-requires : goal.readable-read-requires
-readable-read-requires c = c.requires.flat
+pub readable-requires : goal.readable-requires
+readable-requires c = c.requires.flat
 
 pub rows_of-rows-requires-clause-flat : goal.rows_of-rows-requires-clause-flat
 rows_of-rows-requires-clause-flat c = ap is_flat c.in_ok-read.ensures.dtype ∙ c.requires.flat

@@ -7,8 +7,8 @@ use Rattle.vx_rows.specs.Readable.{lent_rows}
 use Rattle.vx_rows.proofs.SummedLemmas.{sized, summed-flat}
 use Rattle.vx_rows.proofs.summing.column_total.Goals as goal
 
-pub readable-read-requires : goal.readable-read-requires
-readable-read-requires c = summed-flat (tree_type c.args.array.now) c.requires
+pub readable-requires : goal.readable-requires
+readable-requires c = summed-flat (tree_type c.args.array.now) c.requires
 
 pub rows_of-rows-requires-clause-flat : goal.rows_of-rows-requires-clause-flat
 rows_of-rows-requires-clause-flat c = ap is_flat c.in_ok-read.ensures.dtype ∙ summed-flat (tree_type c.args.array.now) c.requires

@@ -1,4 +1,4 @@
-use Rattle.std.proofs.Common.{◌≡◌, ◌<◌, ◌∙◌, ap, arith, false, get_or, length, map, sym}
+use Rattle.std.proofs.Common.{◌≡◌, ◌<◌, ◌∙◌, ap, arith, false, get_or, length, map, sym, take}
 use Rattle.std.specs.Prelude.{◌&&◌, ◌||◌, not}
 use Rattle.std.specs.Int.{w128}
 use Rattle.std.proofs.lemmas.Int.{to_z-of_z}
@@ -20,7 +20,8 @@ loop-row-preserved g c =
     let bits : row < length mask = omega (arith, c.requires) in
     let wholes : row < length (map whole items) = omega (arith, length-map items whole) in
     let number = to_z-of_z w128 c.to_whole.result (record { sfits = c.to_whole.type_inv }) ∙ c.to_whole.ensures.value in
-    (λ i. c.loop-row.invariant i && (not (get_or mask row false) || lies_in c.args.ptype (number i)))
+    (λ i. c.loop-row.invariant i && (not (get_or mask row false) || c.is_in.ensures i))
+    ∙ ap (λ z. masked_in c.args.ptype (take row mask) (take row (map whole items)) && (not (get_or mask row false) || lies_in c.args.ptype z)) number
     ∙ sym (masked-more c.args.ptype mask (map whole items) row (whole x) bits wholes (item-at whole items row x here c.index-items-row.is))
 
 pub returns : goal.returns
