@@ -7,6 +7,7 @@ ghost use Rattle.vx_base.specs.PlainType as types;
 ghost use Rattle.vx_base.specs.PlainValue.{int};
 ghost use Rattle.vx_base.specs.TypeOf.{type_of};
 ghost use Rattle.vx_model.specs.Column.{column_of};
+ghost use Rattle.vx_model.specs.Plain.{IsPlain};
 ghost use Rattle.vx_model.specs.Rows.{rows};
 ghost use Rattle.vx_model.specs.TreeType.{tree_type};
 ghost use Rattle.vx_rows.specs.Casting.{IsCast};
@@ -83,7 +84,6 @@ fn cast_integers(
 }
 
 // `cast` of integers that are decoded first.
-#[tactic(auto, using(vx_model::proofs::PrimitiveLemmas::plain_roots))]
 fn cast_encoded(
     alloc: Global,
     array: &ArrayRef,
@@ -93,7 +93,24 @@ fn cast_encoded(
     requires { IsTrue (is_integer (tree_type array.now)) }
     ensures { IsCast (types.primitive ptype nullability) (rows array.now) result }
 {
-    let plain = array.canonical(alloc)?;
+    match array.canonical(alloc) {
+        Ok(plain) => cast_plain(alloc, &plain, ptype, nullability),
+        Err(error) => Err(error),
+    }
+}
+
+// `cast` of a plain tree of integers.
+#[tactic(auto, using(vx_model::proofs::PrimitiveLemmas::plain_roots))]
+fn cast_plain(
+    alloc: Global,
+    plain: &ArrayRef,
+    ptype: PType,
+    nullability: Nullability,
+) -> VortexResult<ArrayRef>
+    requires integer { IsTrue (is_integer (tree_type plain.now)) }
+    requires plain { IsPlain plain.now }
+    ensures { IsCast (types.primitive ptype nullability) (rows plain.now) result }
+{
     match plain.node() {
         Node::Primitive(values, valid, _) => cast_rows(alloc, values, valid, ptype, nullability),
         _ => unreachable!(),

@@ -25,11 +25,10 @@ pub(super) fn cast_nullability(
     requires { IsTrue (same_base (tree_type array.now) (type_of dtype.now)) }
     ensures { IsCast (type_of dtype.now) (rows array.now) result }
 {
-    let held = are_of(alloc, array, dtype)?;
-    if !held {
-        return Err(VortexError::CastRefused);
+    match are_of(alloc, array, dtype) {
+        Ok(held) => retyped_if(alloc, array, dtype, held),
+        Err(error) => Err(error),
     }
-    retyped(alloc, array, dtype)
 }
 
 // Whether each row is of such a type: it is nullable, or no row is null.
@@ -43,6 +42,23 @@ fn are_of(alloc: Global, array: &ArrayRef, dtype: &DType) -> VortexResult<bool>
     }
     let nulls = nulls_of(alloc, array)?;
     Ok(nulls == 0)
+}
+
+// The rows as a column of a type where they are of it.
+fn retyped_if(
+    alloc: Global,
+    array: &ArrayRef,
+    dtype: &DType,
+    held: bool,
+) -> VortexResult<ArrayRef>
+    requires { held ≡ list_all (fits (type_of dtype.now)) (rows array.now) }
+    ensures { IsCast (type_of dtype.now) (rows array.now) result }
+{
+    if held {
+        retyped(alloc, array, dtype)
+    } else {
+        Err(VortexError::CastRefused)
+    }
 }
 
 // The rows as a column of a type that they are of.
