@@ -3,6 +3,7 @@ use Rattle.std.proofs.Common.{◌≡◌, ◌∙◌, ◌<◌, ◌+◌, ℕ, zero,
 use Rattle.std.specs.Prelude.{◌&&◌, ◌==◌, count_by}
 use Rattle.std.specs.List.{list_all}
 use Rattle.std.proofs.lemmas.Bool.{and_parts, and_from}
+use Rattle.std.proofs.lemmas.Bool.Decides.{nat_tests}
 use Rattle.std.proofs.lemmas.List.Sums.{sum_by-cons}
 use Rattle.vx_base.specs.declared.dtype.Nullability.{Nullability}
 use Rattle.vx_base.specs.declared.dtype.Nullability.TheVariants.{NonNullable}
@@ -77,4 +78,4 @@ null-unfit t (items ws ∷ vs) n h = unfit-next (fits t (items ws)) _ (null-unfi
 
 pub null-test : (s t : PlainType) (vs : List PlainValue) (n : ℕ) → same_base s t ≡ true → is_nullable t ≡ false → list_all (fits s) vs ≡ true → n ≡ count_by is_null vs → (n == 0) ≡ list_all (fits t) vs
 null-test s t vs zero same e h k = sym (valid-fit s t same vs (sym k) h)
-null-test s t vs (suc n) same e h k = sym (null-unfit t vs e (omega (arith, k)))
+null-test s t vs (suc n) same e h k = let no : (suc n == 0) ≡ false = grind (arith, nat_tests) in no ∙ sym (null-unfit t vs e (omega (arith, k)))

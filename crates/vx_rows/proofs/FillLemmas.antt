@@ -3,6 +3,7 @@ use Rattle.std.proofs.Common.{◌≡◌, ◌∙◌, ℕ, zero, suc, Bool, true, 
 use Rattle.std.specs.Prelude.{◌&&◌, ◌||◌, ◌==◌, not, replicate, Result, Ok, Err}
 use Rattle.std.specs.List.{list_all}
 use Rattle.std.proofs.lemmas.Bool.{and_parts}
+use Rattle.std.proofs.lemmas.Bool.Decides.{nat_tests}
 use Rattle.vx_base.specs.declared.error.VortexError.{VortexError}
 use Rattle.vx_base.specs.Answers.{OrMemory}
 use Rattle.vx_base.specs.Defaults.{or_default}
@@ -63,7 +64,9 @@ neither false c h = (refl, h)
 
 pub same-filled : (fill v : PlainValue) (n : ℕ) → (is_null v || n == 0) ≡ true → map (or_default fill) (replicate n v) ≡ replicate n fill
 same-filled fill v zero h = refl
-same-filled fill v (suc n) h = same-nulls fill v (suc n) (or-false (is_null v) h)
+same-filled fill v (suc n) h =
+    let no : (suc n == 0) ≡ false = grind (arith, nat_tests) in
+    same-nulls fill v (suc n) (or-false (is_null v) (ap (λ b. is_null v || b) (sym no) ∙ h))
 
 pub same-own : (fill v : PlainValue) (n : ℕ) → (is_null v || n == 0) ≡ false → map (or_default fill) (replicate n v) ≡ replicate n v
 same-own fill v n h = same-values fill v n (neither (is_null v) (n == 0) h).0

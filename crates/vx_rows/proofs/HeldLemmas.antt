@@ -14,6 +14,8 @@ use Rattle.vx_model.specs.Column.{column, column_of}
 use Rattle.vx_model.specs.Refusals.{kept, primitive_refusal, validity_allowed, validity_length}
 use Rattle.vx_model.specs.Rows.{masked_rows, valid_rows}
 use Rattle.vx_model.specs.Tree.{Validity, primitive}
+use Rattle.vx_model.specs.WellFormed.{WellFormed}
+use Rattle.vx_model.proofs.MadeLemmas.{has_length}
 use Rattle.vx_rows.specs.Conversions.{all_valid_in, whole_or_zero_in}
 use Rattle.vx_rows.proofs.ConvertLemmas.{converted-rows, fit-rows}
 
@@ -55,3 +57,9 @@ module _ (p : PType) (n : Nullability) (valid : Validity) (zs : List ℤ) (whole
         ap (column (types.primitive q n)) (kept-rows bits (map int ws) (ap (validity_length bits) (length-map ws int) ∙ fitted))
         ∙ (λ i. column (types.primitive (of i) n) (valid_rows (same i) (map int (converted i))))
         ∙ ap (column (types.primitive p n)) (converted-rows p valid zs tests.1)
+
+-- a node of integers has a validity bit for each, where it has validity bits
+pub primitive-whole : (p : PType) (zs : List ℤ) (valid : Validity) (n : Nullability) → WellFormed (primitive p zs valid n) → validity_length valid (length zs) ≡ true
+primitive-whole p zs valid n w = has_length valid (length zs) n w.0.validity
+
+pub ruleset whole_roots = (primitive-whole)

@@ -67,6 +67,7 @@ fn cast_by_type(alloc: Global, array: &ArrayRef, dtype: &DType) -> VortexResult<
 }
 
 // `cast` of integers to another integer type.
+#[tactic(auto, using(crate::proofs::HeldLemmas::whole_roots))]
 fn cast_integers(
     alloc: Global,
     array: &ArrayRef,
@@ -100,7 +101,6 @@ fn cast_encoded(
 }
 
 // `cast` of a plain tree of integers.
-#[tactic(auto, using(vx_model::proofs::PrimitiveLemmas::plain_roots))]
 fn cast_plain(
     alloc: Global,
     plain: &ArrayRef,
@@ -111,8 +111,6 @@ fn cast_plain(
     requires plain { IsPlain plain.now }
     ensures { IsCast (types.primitive ptype nullability) (rows plain.now) result }
 {
-    match plain.node() {
-        Node::Primitive(values, valid, _) => cast_rows(alloc, values, valid, ptype, nullability),
-        _ => unreachable!(),
-    }
+    let (values, valid, _) = plain.as_primitive();
+    cast_rows(alloc, values, valid, ptype, nullability)
 }

@@ -2,10 +2,10 @@
 
 ghost use Rattle.std.specs.List.{list_all};
 ghost use Rattle.std.specs.Ordering.{ord_max, ord_min};
-ghost use Rattle.std.specs.Prelude.{◌≡◌, IsTrue, length, map, option_map, true};
+ghost use Rattle.std.specs.Prelude.{◌≡◌, IsTrue, length, map, option_map, Some, true};
 ghost use Rattle.vx_base.specs.Answers.{Answers, Decided};
 ghost use Rattle.vx_base.specs.CellValue.{cell_value};
-ghost use Rattle.vx_base.specs.PlainScalar.{fits};
+ghost use Rattle.vx_base.specs.PlainScalar.{fits, scalar};
 ghost use Rattle.vx_base.specs.PlainType.{is_flat};
 ghost use Rattle.vx_base.specs.PlainValue.{int};
 ghost use Rattle.vx_base.specs.TypeOf.{type_of};
@@ -62,13 +62,25 @@ fn scalars(alloc: Global, dtype: &DType, rows: Lent<'_>) -> VortexResult<Option<
     ensures { Answers result (min_max (column (type_of dtype.now) (lent_rows rows.entry))) }
 {
     match row_extremes(rows) {
-        Some((least, greatest)) => {
-            let least = Scalar::of_cell(alloc, dtype, least)?;
-            let greatest = Scalar::of_cell(alloc, dtype, greatest)?;
-            Ok(Some((least, greatest)))
-        }
+        Some((least, greatest)) => found_scalars(alloc, dtype, least, greatest),
         None => Ok(None),
     }
+}
+
+// Two values of a type as scalars.
+fn found_scalars(
+    alloc: Global,
+    dtype: &DType,
+    least: Cell<'_>,
+    greatest: Cell<'_>,
+) -> VortexResult<Option<(Scalar, Scalar)>>
+    requires least { IsTrue (fits (type_of dtype.now) (cell_value least)) }
+    requires greatest { IsTrue (fits (type_of dtype.now) (cell_value greatest)) }
+    ensures { Answers result (Some (scalar (type_of dtype.now) (cell_value least.entry), scalar (type_of dtype.now) (cell_value greatest.entry))) }
+{
+    let first = Scalar::of_cell(alloc, dtype, least)?;
+    let second = Scalar::of_cell(alloc, dtype, greatest)?;
+    Ok(Some((first, second)))
 }
 
 // The least and the greatest valid row. Of a constant it is its value.
@@ -92,8 +104,9 @@ fn cell_extremes(rows: Lent<'_>) -> Option<(Cell<'_>, Cell<'_>)>
     ensures least { option_map (λ p. cell_value p.0) result ≡ least (valid_values (lent_rows rows.entry)) }
     ensures greatest { option_map (λ p. cell_value p.1) result ≡ greatest (valid_values (lent_rows rows.entry)) }
 {
+    let len = rows.len();
     let mut found = None;
-    for row in 0..rows.len() {
+    for row in 0..len {
         found = with_value(found, rows.cell(row));
     }
     found
