@@ -31,10 +31,7 @@ use vx_values::Ints;
 
 /// The least and the greatest valid value, None without one: false below true, integers and timestamps as numbers, texts and binaries
 /// by their bytes. Refuses MismatchedTypes unless the type is flat.
-pub fn min_max(
-    array: &ArrayRef,
-    ctx: &mut ExecutionCtx,
-) -> VortexResult<Option<(Scalar, Scalar)>>
+pub fn min_max(array: &ArrayRef, ctx: &mut ExecutionCtx) -> VortexResult<Option<(Scalar, Scalar)>>
     ensures answer { Decided (min_max_refusal (column_of array.now)) (λ out. out ≡ min_max (column_of array.now)) result }
     ensures ctx { ctx.new ≡ ctx.old }
 {

@@ -30,11 +30,7 @@ use vx_values::Ints;
 
 /// The fill in place of each null, as a column of the fill's type: a non-nullable fill makes it non-nullable, since no null is left.
 /// Refuses MismatchedTypes where the fill is null or not of the column's type, up to outermost nullability.
-pub fn fill_null(
-    array: &ArrayRef,
-    fill: &Scalar,
-    ctx: &mut ExecutionCtx,
-) -> VortexResult<ArrayRef>
+pub fn fill_null(array: &ArrayRef, fill: &Scalar, ctx: &mut ExecutionCtx) -> VortexResult<ArrayRef>
     ensures answer { Decided (fill_null_refusal (column_of array.now) fill.now) (λ out. column_of out ≡ null_filled (column_of array.now) fill.now) result }
     ensures ctx { ctx.new ≡ ctx.old }
 {

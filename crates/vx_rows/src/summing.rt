@@ -28,7 +28,9 @@ use crate::kernels::{
 use crate::lent::{Lent, rows_of};
 use std::alloc::Global;
 use vx_array::ArrayRef;
-use vx_base::{Cell, DType, ExecutionCtx, Integer, Mask, Nullability, PType, Scalar, VortexError, VortexResult};
+use vx_base::{
+    Cell, DType, ExecutionCtx, Integer, Mask, Nullability, PType, Scalar, VortexError, VortexResult,
+};
 use vx_values::Ints;
 
 /// A sum: signed where it may be negative.

@@ -45,12 +45,7 @@ fn are_of(alloc: Global, array: &ArrayRef, dtype: &DType) -> VortexResult<bool>
 }
 
 // The rows as a column of a type where they are of it.
-fn retyped_if(
-    alloc: Global,
-    array: &ArrayRef,
-    dtype: &DType,
-    held: bool,
-) -> VortexResult<ArrayRef>
+fn retyped_if(alloc: Global, array: &ArrayRef, dtype: &DType, held: bool) -> VortexResult<ArrayRef>
     requires { held ≡ list_all (fits (type_of dtype.now)) (rows array.now) }
     ensures { IsCast (type_of dtype.now) (rows array.now) result }
 {

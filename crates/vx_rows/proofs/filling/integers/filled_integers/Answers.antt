@@ -20,8 +20,8 @@ returns c =
     let zs = wholes_of c.args.values.now in
     let valid = c.args.valid.now in
     let filled =
-        ap (map int) c.in_ok-filled.ensures.1
-        ∙ ap (λ z. map int (zeroed_by z valid zs)) (to_z-of_z w128 c.integer_of-whole.result (record { sfits = c.integer_of-whole.type_inv }))
-        ∙ sym (filled-rows c.integer_of-whole.result valid zs c.requires.whole)
-        ∙ ap (λ v. map (or_default v) (valid_rows valid (map int zs))) c.integer_of-whole.ensures.value in
+    ap (map int) c.in_ok-filled.ensures.1
+    ∙ ap (λ z. map int (zeroed_by z valid zs)) (to_z-of_z w128 c.integer_of-whole.result (record { sfits = c.integer_of-whole.type_inv }))
+    ∙ sym (filled-rows c.integer_of-whole.result valid zs c.requires.whole)
+    ∙ ap (λ v. map (or_default v) (valid_rows valid (map int zs))) c.integer_of-whole.ensures.value in
     answer-along c.typed_integers.result _ _ (λ i. column (c.dtype.ensures i) (filled i)) c.typed_integers.ensures
