@@ -1,12 +1,10 @@
 -- What a cast answers: the values in a new type, where each is one of it.
-use Rattle.std.proofs.Common.{◌≡◌, ◌∙◌, ◌<◌, ℕ, zero, suc, ℤ, Bool, true, false, cond, List, [], ◌∷◌, map, length, Some, None, inl, inr, refl, sym, ap, arith}
+use Rattle.std.proofs.Common.{◌≡◌, ◌∙◌, ℕ, zero, suc, Bool, true, false, cond, List, [], Some, None, inl, inr, refl, sym, ap, arith}
 use Rattle.std.specs.Prelude.{◌&&◌, ◌||◌, ◌==◌, replicate, Result, Ok, Err}
 use Rattle.std.specs.List.{list_all}
-use Rattle.std.proofs.lemmas.Bool.{and_parts, and_from}
-use Rattle.vx_base.specs.declared.dtype.Nullability.{Nullability}
+use Rattle.std.proofs.lemmas.Bool.{and_from}
 use Rattle.vx_base.specs.declared.error.VortexError.{VortexError}
 use Rattle.vx_base.specs.declared.error.VortexError.TheVariants.{CastRefused, MismatchedTypes, NoMemory}
-use Rattle.vx_base.specs.declared.ptype.PType.{PType}
 use Rattle.vx_base.specs.Answers.{OrMemory, unless}
 use Rattle.vx_base.specs.Casts.{is_cast}
 use Rattle.vx_base.specs.PlainScalar.{fits}

@@ -2,7 +2,7 @@
 use Rattle.std.proofs.Common.{◌≡◌, ◌∙◌, ◌<◌, ◌+◌, ℕ, zero, suc, ℤ, pos, Bool, true, false, cond, List, [], ◌∷◌, map, take, length, get_or, Some, None, refl, sym, ap, arith, add-one}
 use Rattle.std.specs.Prelude.{◌&&◌, ◌||◌, not}
 use Rattle.std.specs.List.{list_all}
-use Rattle.std.proofs.lemmas.Bool.{and_parts, and_from, eqb-true}
+use Rattle.std.proofs.lemmas.Bool.{and_parts, eqb-true}
 use Rattle.vx_base.specs.declared.dtype.Nullability.{Nullability}
 use Rattle.vx_base.specs.declared.dtype.Nullability.TheVariants.{NonNullable, Nullable}
 use Rattle.vx_base.specs.declared.ptype.PType.{PType}
@@ -10,7 +10,7 @@ use Rattle.vx_base.specs.Defaults.{or_default}
 use Rattle.vx_base.specs.Integers.{lies_in}
 use Rattle.vx_base.specs.PlainScalar.{fits}
 use Rattle.vx_base.specs.PlainType as types
-use Rattle.vx_base.specs.PlainValue.{PlainValue, int, null}
+use Rattle.vx_base.specs.PlainValue.{int, null}
 use Rattle.vx_model.specs.Decoded.{zeroed, zeroed_by}
 use Rattle.vx_model.specs.Refusals.{validity_allowed, validity_length}
 use Rattle.vx_model.specs.Rows.{masked_rows, valid_rows}

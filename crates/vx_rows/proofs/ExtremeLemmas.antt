@@ -1,6 +1,6 @@
 -- The least and the greatest, one value further, and of integers.
-use Rattle.std.proofs.Common.{◌≡◌, ◌<◌, ◌∙◌, ℕ, zero, suc, ◌+◌, ℤ, Bool, true, false, cond, List, [], ◌∷◌, ◌++◌, map, take, length, get_or, Option, Some, None, refl, sym, ap, arith, fold, add-one}
-use Rattle.std.specs.Prelude.{option_map, not, filter, replicate, Result, Ok, Err}
+use Rattle.std.proofs.Common.{◌≡◌, ◌<◌, ◌∙◌, ℕ, zero, suc, ◌+◌, ℤ, Bool, true, false, cond, List, [], ◌∷◌, ◌++◌, map, take, length, get_or, Some, None, refl, sym, ap, arith, fold, add-one}
+use Rattle.std.specs.Prelude.{option_map, not, replicate, Result, Ok, Err}
 use Rattle.std.proofs.lemmas.List.{append-nil}
 use Rattle.std.specs.List.{list_all, reduce}
 use Rattle.std.proofs.lemmas.Bool.{and_from, and_parts}
@@ -8,7 +8,7 @@ use Rattle.std.specs.Ordering.{int_cmp, is_lt, ord_max, ord_min}
 use Rattle.std.proofs.lemmas.List.Sums.{fold-append}
 use Rattle.vx_base.specs.declared.error.VortexError.{VortexError}
 use Rattle.vx_base.specs.Answers.{Answers}
-use Rattle.vx_base.specs.PlainValue.{PlainValue, int, null, is_null}
+use Rattle.vx_base.specs.PlainValue.{PlainValue, int, is_null}
 use Rattle.vx_model.specs.Rows.{masked_rows, row_at}
 use Rattle.vx_rules.specs.Aggregates.{greatest, least, valid_values}
 use Rattle.vx_rules.specs.ValueOrder.{value_cmp}

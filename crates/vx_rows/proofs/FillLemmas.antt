@@ -1,6 +1,6 @@
 -- Columns with a fill in place of nulls.
-use Rattle.std.proofs.Common.{◌≡◌, ◌∙◌, ℕ, zero, suc, Bool, true, false, cond, List, [], ◌∷◌, map, None, refl, sym, ap, arith}
-use Rattle.std.specs.Prelude.{◌&&◌, ◌||◌, ◌==◌, not, replicate, Result, Ok, Err}
+use Rattle.std.proofs.Common.{◌≡◌, ◌∙◌, ℕ, zero, suc, Bool, true, false, cond, List, ◌∷◌, map, None, refl, sym, ap, arith}
+use Rattle.std.specs.Prelude.{◌||◌, ◌==◌, not, replicate, Result, Ok, Err}
 use Rattle.std.specs.List.{list_all}
 use Rattle.std.proofs.lemmas.Bool.{and_parts}
 use Rattle.std.proofs.lemmas.Bool.Decides.{nat_tests}
@@ -13,7 +13,7 @@ use Rattle.vx_base.specs.PlainValue.{PlainValue, is_null}
 use Rattle.vx_model.specs.Column.{Column, column, column_of}
 use Rattle.vx_model.specs.Tree.{Tree}
 use Rattle.vx_model.proofs.PackedLemmas.{passed}
-use Rattle.vx_rules.specs.Conversions.{fill_null_refusal, null_filled}
+use Rattle.vx_rules.specs.Conversions.{fill_null_refusal}
 use Rattle.vx_rules.proofs.FitLaws.{answers_are_columns}
 
 -- ---- what is accepted as a fill

@@ -1,6 +1,6 @@
 -- Columns that are summed: their types, and what one value in every row comes to.
-use Rattle.std.proofs.Common.{◌≡◌, ◌∙◌, ℕ, zero, suc, ℤ, pos, negsuc, Bool, true, false, List, [], ◌∷◌, map, length, None, refl, sym, ap, arith}
-use Rattle.std.specs.Prelude.{◌||◌, ◌==◌, replicate, nat_lt, ◌^◌, Result, Err}
+use Rattle.std.proofs.Common.{◌≡◌, zero, suc, ℤ, pos, negsuc, Bool, true, false, map, None, refl, arith}
+use Rattle.std.specs.Prelude.{◌||◌, replicate, Result, Err}
 use Rattle.std.specs.List.{list_all}
 use Rattle.std.proofs.lemmas.Bool.{and_parts}
 use Rattle.std.proofs.lemmas.Bool.Decides.{nat_tests}

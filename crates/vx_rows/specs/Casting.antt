@@ -1,5 +1,5 @@
 -- What a cast answers.
-use Rattle.std.specs.Prelude.{◌≡◌, List, None, Result, Ok, Err}
+use Rattle.std.specs.Prelude.{◌≡◌, List, None, Result}
 use Rattle.std.specs.List.{list_all}
 use Rattle.vx_base.specs.declared.error.VortexError.{VortexError}
 use Rattle.vx_base.specs.declared.error.VortexError.TheVariants.{CastRefused}

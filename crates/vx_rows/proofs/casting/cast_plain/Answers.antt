@@ -1,4 +1,4 @@
-use Rattle.std.proofs.Common.{◌∙◌, subst}
+use Rattle.std.proofs.Common.{subst}
 use Rattle.vx_base.specs.PlainType as types
 use Rattle.vx_model.specs.Rows.{rows}
 use Rattle.vx_model.proofs.PrimitiveLemmas.{encoding-plain}

@@ -1,11 +1,8 @@
-use Rattle.std.proofs.Common.{◌≡◌, ◌∙◌, ap, length, sym}
+use Rattle.std.proofs.Common.{◌∙◌, ap, sym}
 use Rattle.std.specs.List.{list_all}
 use Rattle.vx_base.specs.PlainScalar.{fits}
 use Rattle.vx_base.specs.PlainType.{is_flat}
-use Rattle.vx_base.specs.TypeOf.{type_of}
 use Rattle.vx_model.specs.Column.{column}
-use Rattle.vx_model.specs.Rows.{rows}
-use Rattle.vx_model.specs.TreeType.{tree_type}
 use Rattle.vx_rows.specs.Readable.{lent_rows}
 use Rattle.vx_rules.specs.Aggregates.{min_max}
 use Rattle.vx_rows.proofs.ExtremeLemmas.{same-answer}

@@ -1,4 +1,4 @@
-use Rattle.std.proofs.Common.{◌∙◌, sym}
+use Rattle.std.proofs.Common.{sym}
 use Rattle.vx_base.specs.PlainScalar.{fits}
 use Rattle.vx_base.specs.TypeOf.{type_of}
 use Rattle.vx_rules.specs.Aggregates.{scalar_pair}

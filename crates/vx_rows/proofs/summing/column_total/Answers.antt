@@ -1,9 +1,8 @@
-use Rattle.std.proofs.Common.{◌≡◌, ◌∙◌, ap, map, sym}
+use Rattle.std.proofs.Common.{◌∙◌, ap, map}
 use Rattle.vx_base.specs.PlainType.{is_flat}
 use Rattle.vx_base.specs.Undelta.{total}
 use Rattle.vx_model.specs.TreeType.{tree_type}
 use Rattle.vx_rules.specs.Aggregates.{summand}
-use Rattle.vx_rows.specs.Readable.{lent_rows}
 use Rattle.vx_rows.proofs.SummedLemmas.{sized, summed-flat}
 use Rattle.vx_rows.proofs.summing.column_total.Goals as goal
 

@@ -1,4 +1,4 @@
-use Rattle.std.proofs.Common.{◌≡◌, ◌∙◌, ap, sym, true}
+use Rattle.std.proofs.Common.{◌∙◌, ap, sym}
 use Rattle.vx_model.specs.Column.{column_of}
 use Rattle.vx_rows.specs.Totals.{is_summed, total_of}
 use Rattle.vx_rules.specs.Aggregates.{sum_ptype}

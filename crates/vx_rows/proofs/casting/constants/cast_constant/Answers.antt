@@ -1,4 +1,4 @@
-use Rattle.std.proofs.Common.{◌∙◌, arith, sym}
+use Rattle.std.proofs.Common.{arith}
 use Rattle.vx_base.specs.PlainType as types
 use Rattle.vx_rows.proofs.CastLemmas.{cast-none}
 use Rattle.vx_rows.proofs.casting.constants.cast_constant.Goals as goal

@@ -1,5 +1,4 @@
 use Rattle.std.proofs.Common.{◌≡◌, ◌<◌, ◌∙◌, ap, arith, false, get_or, length, map, sym}
-use Rattle.std.specs.List.{reduce}
 use Rattle.std.specs.Ordering.{int_cmp, ord_max, ord_min}
 use Rattle.std.proofs.lemmas.List.{get_or-map, length-map}
 use Rattle.vx_rows.specs.Extremes.{next_if}

@@ -1,8 +1,7 @@
-use Rattle.std.proofs.Common.{◌≡◌, ◌<◌, ◌∙◌, ℕ, sym, ap, cond, map, length, get_or, pos, arith, to_z, of_z, false}
+use Rattle.std.proofs.Common.{◌≡◌, ◌<◌, ◌∙◌, map, length, arith}
 use Rattle.std.specs.Int.{w128}
 use Rattle.std.proofs.lemmas.Int.{to_z-of_z}
-use Rattle.std.proofs.lemmas.List.{length-map, take_all}
-use Rattle.vx_base.specs.Undelta.{total}
+use Rattle.std.proofs.lemmas.List.{length-map}
 use Rattle.vx_rows.proofs.TotalLemmas.{item-at, next-signed}
 use Rattle.vx_rows.proofs.kernels.totals.signed_total.Goals as goal
 

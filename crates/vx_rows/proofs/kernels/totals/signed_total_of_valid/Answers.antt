@@ -1,7 +1,7 @@
-use Rattle.std.proofs.Common.{◌≡◌, ◌<◌, ◌∙◌, ap, sym, cond, map, length, get_or, pos, arith, false}
+use Rattle.std.proofs.Common.{◌<◌, ◌∙◌, ap, sym, cond, length, get_or, pos, arith, false}
 use Rattle.std.specs.Int.{w128}
 use Rattle.std.proofs.lemmas.Int.{to_z-of_z}
-use Rattle.std.proofs.lemmas.List.{length-map, take_all}
+use Rattle.std.proofs.lemmas.List.{take_all}
 use Rattle.vx_base.specs.Integers.{lies_in}
 use Rattle.vx_base.specs.Undelta.{total}
 use Rattle.vx_rows.proofs.TotalLemmas.{length-terms, next-signed, term-at, terms}

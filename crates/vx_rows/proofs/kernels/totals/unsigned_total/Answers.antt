@@ -1,8 +1,5 @@
-use Rattle.std.proofs.Common.{◌≡◌, ◌<◌, ◌∙◌, ap, sym, cond, map, length, get_or, pos, arith, false}
-use Rattle.std.specs.Int.{w128}
-use Rattle.std.proofs.lemmas.Int.{to_z-of_z}
+use Rattle.std.proofs.Common.{◌<◌, map, length, arith}
 use Rattle.std.proofs.lemmas.List.{length-map}
-use Rattle.vx_base.specs.Integers.{lies_in}
 use Rattle.vx_rows.proofs.TotalLemmas.{item-at, next-natural}
 use Rattle.vx_rows.proofs.kernels.totals.unsigned_total.Goals as goal
 
