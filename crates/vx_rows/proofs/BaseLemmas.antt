@@ -5,33 +5,15 @@ use Rattle.std.specs.List.{list_all}
 use Rattle.std.proofs.lemmas.Bool.{and_parts, and_from}
 use Rattle.std.proofs.lemmas.Bool.Decides.{nat_tests}
 use Rattle.std.proofs.lemmas.List.Sums.{sum_by-cons}
-use Rattle.vx_base.specs.declared.dtype.Nullability.{Nullability}
 use Rattle.vx_base.specs.declared.dtype.Nullability.TheVariants.{NonNullable}
 use Rattle.vx_base.specs.PlainScalar.{fits}
-use Rattle.vx_base.specs.PlainType.{PlainType, is_flat, is_nullable, same_base, stored_type, with_nullability}
-use Rattle.vx_base.specs.PlainType as types
+use Rattle.vx_base.specs.PlainType.{PlainType, is_nullable, same_base, stored_type, with_nullability}
 use Rattle.vx_base.specs.PlainValue.{PlainValue, null, truth, int, bytes, items, is_null}
-use Rattle.vx_base.specs.Storable.{same_from, same_path}
+use Rattle.vx_base.specs.Storable.{same_from}
 use Rattle.vx_rules.proofs.FitLaws.{fits-base}
 
 pub alike : (s t : PlainType) (b : Bool) → (b ≡ true → with_nullability s NonNullable ≡ with_nullability t NonNullable) → (with_nullability s NonNullable ≡ with_nullability t NonNullable → b ≡ true) → b ≡ same_base s t
 alike s t b f g = same_from stored_type (with_nullability s NonNullable) (with_nullability t NonNullable) b f g
-
-flat-with : (t : PlainType) (n : Nullability) → is_flat (with_nullability t n) ≡ is_flat t
-flat-with types.null_type n = refl
-flat-with (types.boolean m) n = refl
-flat-with (types.primitive p m) n = refl
-flat-with (types.utf8 m) n = refl
-flat-with (types.binary m) n = refl
-flat-with (types.timestamp k m) n = refl
-flat-with (types.structure fs m) n = refl
-flat-with (types.list t m) n = refl
-flat-with (types.fixed_size_list t size m) n = refl
-
-pub flat-base : (s t : PlainType) → same_base s t ≡ true → is_flat s ≡ true → is_flat t ≡ true
-flat-base s t e h =
-    let same = same_path stored_type (with_nullability s NonNullable) (with_nullability t NonNullable) e in
-    sym (flat-with t NonNullable) ∙ ap is_flat (sym same) ∙ flat-with s NonNullable ∙ h
 
 -- ---- values of one type, as those of the other
 

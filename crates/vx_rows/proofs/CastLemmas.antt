@@ -1,8 +1,7 @@
 -- What a cast answers: the values in a new type, where each is one of it.
-use Rattle.std.proofs.Common.{◌≡◌, ◌∙◌, ℕ, zero, suc, Bool, true, false, cond, List, [], Some, None, inl, inr, refl, sym, ap, arith}
-use Rattle.std.specs.Prelude.{◌&&◌, ◌||◌, ◌==◌, replicate, Result, Ok, Err}
+use Rattle.std.proofs.Common.{◌≡◌, ◌∙◌, ℕ, zero, suc, Bool, true, false, List, [], None, inl, inr, refl, sym, ap, arith}
+use Rattle.std.specs.Prelude.{◌&&◌, ◌||◌, replicate, Result, Ok, Err}
 use Rattle.std.specs.List.{list_all}
-use Rattle.std.proofs.lemmas.Bool.{and_from}
 use Rattle.vx_base.specs.declared.error.VortexError.{VortexError}
 use Rattle.vx_base.specs.declared.error.VortexError.TheVariants.{CastRefused, MismatchedTypes, NoMemory}
 use Rattle.vx_base.specs.Answers.{OrMemory, unless}
@@ -62,23 +61,6 @@ base-cast s t h e = ap (λ b. b || same_base s t) (sym e) ∙ h
 
 -- ---- one value in every row
 
-pub same-held : (t : PlainType) (v : PlainValue) (n : ℕ) → fits t v ≡ true → list_all (fits t) (replicate n v) ≡ true
-same-held t v zero e = refl
-same-held t v (suc n) e = and_from _ _ e (same-held t v n e)
-
-pub same-unheld : (t : PlainType) (v : PlainValue) (n : ℕ) → fits t v ≡ false → (n == 0) ≡ false → list_all (fits t) (replicate n v) ≡ false
-same-unheld t v zero e k = absurd cc
-same-unheld t v (suc n) e k = ap (λ b. b && list_all (fits t) (replicate n v)) e
-
 pub cast-none : (t : PlainType) (v : PlainValue) (n : ℕ) (r : Result Tree VortexError) → n ≡ 0 → OrMemory r (λ out. column_of out ≡ column t []) → IsCast t (replicate n v) r
 cast-none t v zero r e h = cast-answered t [] r refl h
 cast-none t v (suc n) r e h = absurd (omega (arith, e))
-
--- what a choice by a test was
-pub chosen-some : {A : Type 0} (b : Bool) (x y : A) → Some x ≡ cond b (Some y) None → (b ≡ true) × (x ≡ y)
-chosen-some true x y e = (refl, cc)
-chosen-some false x y e = absurd cc
-
-pub chosen-none : {A : Type 0} (b : Bool) (y : A) → None ≡ cond b (Some y) None → b ≡ false
-chosen-none true y e = absurd cc
-chosen-none false y e = refl

@@ -8,7 +8,7 @@ use Rattle.vx_base.specs.declared.error.VortexError.{VortexError}
 use Rattle.vx_base.specs.Answers.{OrMemory}
 use Rattle.vx_base.specs.Defaults.{or_default}
 use Rattle.vx_base.specs.PlainScalar.{PlainScalar, fits}
-use Rattle.vx_base.specs.PlainType.{PlainType, same_base}
+use Rattle.vx_base.specs.PlainType.{PlainType}
 use Rattle.vx_base.specs.PlainValue.{PlainValue, is_null}
 use Rattle.vx_model.specs.Column.{Column, column, column_of}
 use Rattle.vx_model.specs.Tree.{Tree}
@@ -23,9 +23,6 @@ flip true h = absurd cc
 flip false h = refl
 
 module _ (c : Column) (fill : PlainScalar) (none : fill_null_refusal c fill ≡ None) where
-  pub fill-alike : same_base c.dtype fill.dtype ≡ true
-  fill-alike = (and_parts _ _ (passed _ _ _ none).0).0
-
   pub fill-value : is_null fill.value ≡ false
   fill-value = flip (is_null fill.value) (and_parts _ _ (passed _ _ _ none).0).1
 

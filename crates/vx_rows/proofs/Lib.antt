@@ -6,7 +6,6 @@ pub mod CountLemmas
 pub mod ExtremeLemmas
 pub mod FillLemmas
 pub mod HeldLemmas
-pub mod KindLemmas
 pub mod LentLemmas
 pub mod ReadLemmas
 pub mod SummedLemmas
