@@ -27,13 +27,13 @@ all_masked (b ∷ bits) [] a l = absurd (omega arith)
 all_masked (b ∷ bits) (r ∷ rs) a l = let h = and_parts b (list_all (λ bit. bit) bits) a in λ i. cond (h.0 i) r null ∷ all_masked bits rs h.1 (omega arith) i
 
 -- validity in its one form stands for the same rows
-kept-rows : (valid : Validity) (rs : List PlainValue) → validity_length valid (length rs) ≡ true → valid_rows (kept valid) rs ≡ valid_rows valid rs
+pub kept-rows : (valid : Validity) (rs : List PlainValue) → validity_length valid (length rs) ≡ true → valid_rows (kept valid) rs ≡ valid_rows valid rs
 kept-rows None rs l = refl
 kept-rows (Some bits) rs l =
     cond_both (list_all (λ bit. bit) bits) None (Some bits) (λ valid. valid_rows valid rs ≡ masked_rows bits rs)
     (λ all. sym (all_masked bits rs all (eqb-true _ _ l))) (λ some. refl)
 
-pass : (b : Bool) (e : VortexError) (o : Option VortexError) → b ≡ true → o ≡ None → unless b e o ≡ None
+pub pass : (b : Bool) (e : VortexError) (o : Option VortexError) → b ≡ true → o ≡ None → unless b e o ≡ None
 pass true e o h n = n
 pass false e o h n = absurd cc
 

@@ -8,5 +8,6 @@ pub mod FillLemmas
 pub mod HeldLemmas
 pub mod LentLemmas
 pub mod ReadLemmas
+pub mod RetypeLemmas
 pub mod SummedLemmas
 pub mod TotalLemmas

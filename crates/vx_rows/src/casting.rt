@@ -17,6 +17,7 @@ ghost use Rattle.vx_rules.specs.Outcomes.{Follows, outcome};
 mod constants;
 mod integers;
 mod nullability;
+mod retyping;
 
 use crate::bases::are_alike;
 use constants::cast_constant;

@@ -1,20 +1,20 @@
 //! Columns with another outermost nullability.
 
 ghost use Rattle.std.specs.List.{list_all};
-ghost use Rattle.std.specs.Prelude.{◌≡◌, IsTrue, map};
-ghost use Rattle.vx_base.specs.Answers.{Answers, OrMemory};
+ghost use Rattle.std.specs.Prelude.{◌≡◌, IsTrue};
+ghost use Rattle.vx_base.specs.Answers.{Answers};
 ghost use Rattle.vx_base.specs.PlainScalar.{fits};
 ghost use Rattle.vx_base.specs.PlainType.{same_base};
-ghost use Rattle.vx_base.specs.TypeOf.{type_of, value_of};
-ghost use Rattle.vx_model.specs.Column.{column, column_of};
+ghost use Rattle.vx_base.specs.TypeOf.{type_of};
 ghost use Rattle.vx_model.specs.Rows.{rows};
 ghost use Rattle.vx_model.specs.TreeType.{tree_type};
 ghost use Rattle.vx_rows.specs.Casting.{IsCast};
 
+use super::retyping::retyped;
 use crate::counting::nulls_of;
 use std::alloc::Global;
 use vx_array::ArrayRef;
-use vx_base::{DType, Value, VortexError, VortexResult};
+use vx_base::{DType, VortexError, VortexResult};
 
 // `cast` to a type that differs in outermost nullability alone.
 pub(super) fn cast_nullability(
@@ -54,26 +54,4 @@ fn retyped_if(alloc: Global, array: &ArrayRef, dtype: &DType, held: bool) -> Vor
     } else {
         Err(VortexError::CastRefused)
     }
-}
-
-// The rows as a column of a type that they are of.
-fn retyped(alloc: Global, array: &ArrayRef, dtype: &DType) -> VortexResult<ArrayRef>
-    requires { IsTrue (list_all (fits (type_of dtype.now)) (rows array.now)) }
-    ensures { OrMemory result (λ out. column_of out ≡ column (type_of dtype.now) (rows array.now)) }
-{
-    let plain = array.canonical(alloc)?;
-    let values = values_in(alloc, &plain)?;
-    ArrayRef::of_values(alloc, dtype, values)
-}
-
-// The values of all rows.
-fn values_in(alloc: Global, tree: &ArrayRef) -> VortexResult<Vec<Value>>
-    ensures { OrMemory result (λ out. map value_of out.items ≡ rows tree.now) }
-{
-    let len = tree.len();
-    let mut values = Vec::with_capacity(alloc, len as usize)?;
-    for row in 0..len {
-        values.push(tree.value_at(alloc, row)?)?;
-    }
-    Ok(values)
 }

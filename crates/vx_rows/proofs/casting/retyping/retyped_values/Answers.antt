@@ -4,7 +4,7 @@ use Rattle.vx_base.specs.PlainScalar.{fits}
 use Rattle.vx_base.specs.TypeOf.{type_of}
 use Rattle.vx_model.specs.Column.{column}
 use Rattle.vx_rows.proofs.FillLemmas.{answer-along}
-use Rattle.vx_rows.proofs.casting.nullability.retyped.Goals as goal
+use Rattle.vx_rows.proofs.casting.retyping.retyped_values.Goals as goal
 
 pub of_values-requires : goal.of_values-requires
 of_values-requires c = ap (list_all (fits (type_of c.args.dtype.now))) (c.in_ok-values.ensures ∙ ap (λ k. k.values) c.in_ok-plain.ensures.kept) ∙ c.requires
