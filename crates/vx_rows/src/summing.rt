@@ -1,9 +1,8 @@
 //! Sums of columns of integers or truth values.
 
-ghost use Rattle.std.specs.Prelude.{◌≡◌, ◌*◌, ◌*ℤ◌, ◌==◌, ◌||◌, IsTrue, count_by, false, length, map, pos, replicate, true};
+ghost use Rattle.std.specs.Prelude.{◌≡◌, IsTrue, count_by, false, length, map, pos, true};
 ghost use Rattle.vx_base.specs.Answers.{Answers, Decided, OrMemory};
-ghost use Rattle.vx_base.specs.CellValue.{cell_value};
-ghost use Rattle.vx_base.specs.Integers.{is_signed, lies_in};
+ghost use Rattle.vx_base.specs.Integers.{is_signed};
 ghost use Rattle.vx_base.specs.PlainScalar.{scalar};
 ghost use Rattle.vx_base.specs.PlainType.{is_nullable};
 ghost use Rattle.vx_base.specs.PlainType as types;
@@ -11,25 +10,27 @@ ghost use Rattle.vx_base.specs.PlainValue.{cell, int, null, truth_or_false};
 ghost use Rattle.vx_base.specs.TypeOf.{type_of};
 ghost use Rattle.vx_base.specs.Undelta.{total};
 ghost use Rattle.vx_base.specs.declared.dtype.Nullability.TheVariants.{Nullable};
-ghost use Rattle.vx_base.specs.declared.ptype.PType.TheVariants.{I64};
 ghost use Rattle.vx_model.specs.Column.{column_of};
 ghost use Rattle.vx_model.specs.Refusals.{validity_length};
 ghost use Rattle.vx_model.specs.Rows.{rows, valid_rows};
 ghost use Rattle.vx_model.specs.TreeType.{tree_type};
 ghost use Rattle.vx_rows.specs.Readable.{is_whole, lent_rows};
-ghost use Rattle.vx_rows.specs.Totals.{has_total, is_summed, is_word, total_of};
+ghost use Rattle.vx_rows.specs.Totals.{has_total, is_summed, total_of};
 ghost use Rattle.vx_rules.specs.Aggregates.{or_null, sum, sum_ptype, sum_refusal, summand};
 ghost use Rattle.vx_values.specs.IntsOf.{wholes_of};
 
+mod repeated;
+
 use crate::held::readable;
 use crate::kernels::{
-    is_in, signed_total, signed_total_of_valid, unsigned_total, unsigned_total_of_valid,
+    signed_total, signed_total_of_valid, unsigned_total, unsigned_total_of_valid,
 };
 use crate::lent::{Lent, rows_of};
+use repeated::same_total;
 use std::alloc::Global;
 use vx_array::ArrayRef;
 use vx_base::{
-    Cell, DType, ExecutionCtx, Integer, Mask, Nullability, PType, Scalar, VortexError, VortexResult,
+    DType, ExecutionCtx, Integer, Mask, Nullability, PType, Scalar, VortexError, VortexResult,
 };
 use vx_values::Ints;
 
@@ -94,48 +95,6 @@ fn lent_total(rows: Lent<'_>) -> Total
         Lent::Same(value, len) => same_total(value, len),
         Lent::Bits(_, _) | Lent::Bytes(_, _) => Total::Unsigned(true_rows(rows) as u128),
     }
-}
-
-// The sum of one value in every row.
-#[tactic(auto, using(crate::proofs::TotalLemmas::same_rows))]
-fn same_total(value: Cell<'_>, len: u64) -> Total
-    requires { IsTrue (is_word (cell_value value) || len == 0) }
-    ensures { total_of result ≡ total (map summand (replicate len (cell_value value.entry))) }
-{
-    match value {
-        Cell::Int(whole) => product(whole, len),
-        Cell::Bool(true) => Total::Unsigned(len as u128),
-        Cell::Bool(false) | Cell::Null | Cell::Bytes(_) => Total::Unsigned(0),
-    }
-}
-
-// A number of rows times a number of 64 bits, signed or not.
-fn product(whole: i128, len: u64) -> Total
-    requires { IsTrue (is_word (int whole) || len == 0) }
-    ensures { total_of result ≡ pos len *ℤ whole }
-{
-    if is_in(whole, PType::I64) {
-        return Total::Signed(signed_product(whole, len));
-    }
-    match u64::try_from(whole) {
-        Ok(whole) => Total::Unsigned(unsigned_product(whole, len)),
-        Err(_) => Total::Unsigned(0),
-    }
-}
-
-// A number of rows times a signed number of 64 bits.
-fn signed_product(whole: i128, len: u64) -> i128
-    requires { IsTrue (lies_in I64 whole) }
-    ensures { result ≡ pos len *ℤ whole }
-{
-    i128::from(len) * whole
-}
-
-// A number of rows times an unsigned number of 64 bits.
-fn unsigned_product(whole: u64, len: u64) -> u128
-    ensures { result ≡ len * whole }
-{
-    u128::from(len) * u128::from(whole)
 }
 
 // The rows that are true.
