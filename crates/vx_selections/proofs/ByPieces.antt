@@ -6,7 +6,7 @@ use Rattle.std.proofs.lemmas.List.{append-nil}
 use Rattle.vx_base.specs.Answers.{OrMemory}
 use Rattle.vx_base.specs.declared.error.VortexError.{VortexError}
 use Rattle.vx_base.specs.Masks.{is_part, rows_between}
-use Rattle.vx_model.specs.Column.{Column, column, column_of}
+use Rattle.vx_model.specs.Column.{Column, column_of}
 use Rattle.vx_model.specs.Tree.{Tree}
 use Rattle.vx_pieces.specs.declared.piece.Piece.TheVariants.{Rows}
 use Rattle.vx_pieces.specs.Pieces.{are_pieces, pieced}

@@ -1,8 +1,16 @@
 pub mod ByPieces
 pub mod ChosenLeaves
 pub mod Compacting
+pub mod Deciding
+pub mod IndexPieces
 pub mod KeptItems
 pub mod Leaves
+pub mod Masking
+pub mod Narrowing
 pub mod Parts
+pub mod Places
+pub mod Restricting
 pub mod StampColumns
+pub mod TakenColumns
+pub mod Taking
 pub mod Validities

@@ -3,7 +3,7 @@
 use std::alloc::Global;
 use vx_array::ArrayRef;
 use vx_base::{ExecutionCtx, Mask, Nullability, Scalar, VortexError, VortexResult, Words};
-use vx_selections::{filter, scalar_at, slice};
+use vx_selections::{filter, mask, scalar_at, slice, take};
 
 fn context(alloc: Global) -> VortexResult<ExecutionCtx> {
     Ok(ExecutionCtx::new(alloc, Words::from_vec(vec![in alloc; 0]?)))
@@ -20,6 +20,14 @@ pub(crate) fn sliced(
 
 pub(crate) fn filtered(alloc: Global, tree: &ArrayRef, keep: &Mask) -> VortexResult<ArrayRef> {
     filter(tree, keep, &mut context(alloc)?)
+}
+
+pub(crate) fn masked(alloc: Global, tree: &ArrayRef, keep: &Mask) -> VortexResult<ArrayRef> {
+    mask(tree, keep, &mut context(alloc)?)
+}
+
+pub(crate) fn taken(alloc: Global, tree: &ArrayRef, indices: &ArrayRef) -> VortexResult<ArrayRef> {
+    take(tree, indices, &mut context(alloc)?)
 }
 
 pub(crate) fn row_at(alloc: Global, tree: &ArrayRef, row: u64) -> VortexResult<Scalar> {

@@ -83,3 +83,10 @@ pub(crate) fn sparse(alloc: Global) -> VortexResult<ArrayRef> {
     let fill = accepted(Scalar::null(DType::primitive(I32, Nullable)))?;
     accepted(ArrayRef::sparse(alloc, patches, fill))
 }
+
+// 7, null, 7 and 8 by a dictionary.
+pub(crate) fn dictionary(alloc: Global) -> VortexResult<ArrayRef> {
+    let codes = flat(alloc, U8, NonNullable, &[0, 1, 0, 2])?;
+    let values = with_nulls(alloc, I32, &[7, 0, 8], &[true, false, true])?;
+    accepted(ArrayRef::dict(alloc, codes, values))
+}

@@ -1,2 +1,17 @@
+pub mod ComposedSlices
+pub mod ConstantRows
+pub mod ExtremeRows
+pub mod ExtremeSteps
+pub mod KernelAnswers
+pub mod KernelFacts
+pub mod KernelTypes
+pub mod MappedRows
 pub mod MetadataLaws
+pub mod PatchParts
+pub mod PatchSearch
+pub mod RowValues
+pub mod SlicedRows
+pub mod SparseSums
 pub mod StandardFacts
+pub mod SumParts
+pub mod Weighs

@@ -1,5 +1,15 @@
-//! Tests of sparse arrays: their metadata.
+//! Tests of sparse arrays: their kernels and their metadata.
 #![tactic(auto)]
 
 #[cfg(test)]
+mod aggregates;
+#[cfg(test)]
+mod columns;
+#[cfg(test)]
+mod counted;
+#[cfg(test)]
 mod metadata;
+#[cfg(test)]
+mod rows;
+#[cfg(test)]
+mod slices;

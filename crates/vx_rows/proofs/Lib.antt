@@ -1,0 +1,13 @@
+pub mod BaseLemmas
+pub mod CastLemmas
+pub mod ConstantLemmas
+pub mod ConvertLemmas
+pub mod CountLemmas
+pub mod ExtremeLemmas
+pub mod FillLemmas
+pub mod HeldLemmas
+pub mod LentLemmas
+pub mod ReadLemmas
+pub mod RetypeLemmas
+pub mod SummedLemmas
+pub mod TotalLemmas

@@ -1,0 +1,13 @@
+//! Tests of row functions: each on its types, with nulls, without rows, over encoded rows, and refused.
+#![tactic(auto)]
+
+#[cfg(test)]
+mod aggregates;
+#[cfg(test)]
+mod calls;
+#[cfg(test)]
+mod casts;
+#[cfg(test)]
+mod columns;
+#[cfg(test)]
+mod fills;
