@@ -1,0 +1,78 @@
+-- Truth values and their validity: one row further, and as a tree.
+use Rattle.std.proofs.Common.{◌≡◌, ◌∙◌, Bool, true, false, cond, List, [], ◌∷◌, ◌++◌, map, length, Option, Some, None, refl, sym, ap, arith, unwrap_or}
+use Rattle.std.specs.Prelude.{◌||◌, is_some}
+use Rattle.std.specs.List.{list_all}
+use Rattle.std.proofs.lemmas.Bool.{and_parts, eq-eqb, eqb-true}
+use Rattle.std.proofs.lemmas.List.{length-map, map-append}
+use Rattle.vx_base.specs.declared.dtype.Nullability.{Nullability}
+use Rattle.vx_base.specs.declared.dtype.Nullability.TheVariants.{NonNullable, Nullable}
+use Rattle.vx_base.specs.PlainScalar.{fits}
+use Rattle.vx_base.specs.PlainType.{PlainType}
+use Rattle.vx_base.specs.PlainType as types
+use Rattle.vx_base.specs.PlainValue.{PlainValue, null, truth}
+use Rattle.vx_model.specs.Column.{column, column_of}
+use Rattle.vx_model.specs.Refusals.{kept, primitive_refusal, validity_length, validity_allowed}
+use Rattle.vx_model.specs.Rows.{masked_rows, valid_rows}
+use Rattle.vx_model.specs.Tree.{Validity, bool}
+use Rattle.vx_rows.specs.Truths.{truth_or_null}
+
+-- ---- one row further
+
+next : (bits : List Bool) (xs : List PlainValue) (b : Bool) (v : PlainValue) → length bits ≡ length xs → masked_rows (bits ++ b ∷ []) (xs ++ v ∷ []) ≡ masked_rows bits xs ++ cond b v null ∷ []
+next [] [] b v e = refl
+next [] (x ∷ xs) b v e = absurd (omega arith)
+next (c ∷ bits) [] b v e = absurd (omega arith)
+next (c ∷ bits) (x ∷ xs) b v e = ap (λ rs. cond c x null ∷ rs) (next bits xs b v (omega arith))
+
+row-is : (row : Option Bool) → cond (is_some row) (truth (unwrap_or row false)) null ≡ truth_or_null row
+row-is None = refl
+row-is (Some b) = refl
+
+pub pushed : (valid values : List Bool) (row : Option Bool) → length valid ≡ length values
+    → masked_rows (valid ++ is_some row ∷ []) (map truth (values ++ unwrap_or row false ∷ [])) ≡ masked_rows valid (map truth values) ++ truth_or_null row ∷ []
+pushed valid values row e =
+    ap (masked_rows (valid ++ is_some row ∷ [])) (map-append truth values (unwrap_or row false ∷ []))
+    ∙ next valid (map truth values) (is_some row) (truth (unwrap_or row false)) (e ∙ sym (length-map values truth))
+    ∙ ap (λ r. masked_rows valid (map truth values) ++ r ∷ []) (row-is row)
+
+-- ---- rows by the one form of their validity
+
+masked-all : (bits : List Bool) (xs : List PlainValue) → length bits ≡ length xs → list_all (λ bit. bit) bits ≡ true → masked_rows bits xs ≡ xs
+masked-all [] [] e h = refl
+masked-all [] (x ∷ xs) e h = absurd (omega arith)
+masked-all (b ∷ bits) [] e h = absurd (omega arith)
+masked-all (true ∷ bits) (x ∷ xs) e h = ap (λ rs. x ∷ rs) (masked-all bits xs (omega arith) h)
+masked-all (false ∷ bits) (x ∷ xs) e h = absurd cc
+
+pub kept-rows : (valid : Validity) (xs : List PlainValue) → validity_length valid (length xs) ≡ true → valid_rows (kept valid) xs ≡ valid_rows valid xs
+kept-rows None xs h = refl
+kept-rows (Some bits) xs h = by_all (list_all (λ bit. bit) bits) refl
+  where
+    by_all : (b : Bool) → list_all (λ bit. bit) bits ≡ b → valid_rows (cond b None (Some bits)) xs ≡ masked_rows bits xs
+    by_all true all = sym (masked-all bits xs (eqb-true (length bits) (length xs) h) all)
+    by_all false all = refl
+
+-- ---- a type without null
+
+pub all_valid : (t : PlainType) (bits : List Bool) (xs : List PlainValue) → fits t null ≡ false → length bits ≡ length xs → list_all (fits t) (masked_rows bits xs) ≡ true → list_all (λ bit. bit) bits ≡ true
+all_valid t [] xs n e h = refl
+all_valid t (b ∷ bits) [] n e h = absurd (omega arith)
+all_valid t (true ∷ bits) (x ∷ xs) n e h = all_valid t bits xs n (omega arith) (and_parts (fits t x) (list_all (fits t) (masked_rows bits xs)) h).1
+all_valid t (false ∷ bits) (x ∷ xs) n e h = let no : fits t null ≡ true = (and_parts (fits t null) (list_all (fits t) (masked_rows bits xs)) h).0 in absurd cc
+
+truths_allowed : (valid : Validity) (xs : List PlainValue) (n : Nullability) → validity_length valid (length xs) ≡ true → list_all (fits (types.boolean n)) (valid_rows valid xs) ≡ true → validity_allowed valid n ≡ true
+truths_allowed None xs n l h = refl
+truths_allowed (Some bits) xs Nullable l h = refl
+truths_allowed (Some bits) xs NonNullable l h = all_valid (types.boolean NonNullable) bits xs refl (eqb-true (length bits) (length xs) l) h
+
+-- ---- truth values as a tree
+
+module _ (bs : List Bool) (valid : Validity) (n : Nullability) (l : validity_length valid (length bs) ≡ true) where
+  of_truths : validity_length valid (length (map truth bs)) ≡ true
+  of_truths = rw length-map l
+
+  pub truths-admitted : list_all (fits (types.boolean n)) (valid_rows valid (map truth bs)) ≡ true → primitive_refusal (length bs) valid n ≡ None
+  truths-admitted h = rw (l, truths_allowed valid (map truth bs) n of_truths h) refl
+
+  pub truths-made : column_of (bool bs (kept valid) n) ≡ column (types.boolean n) (valid_rows valid (map truth bs))
+  truths-made = ap (column (types.boolean n)) (kept-rows valid (map truth bs) of_truths)

@@ -1,0 +1,4 @@
+pub mod Pairs
+pub mod Readable
+pub mod Texts
+pub mod Truths

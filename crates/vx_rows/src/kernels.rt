@@ -1,0 +1,9 @@
+//! Kernels over slices of one integer type, and over validity bits.
+
+mod holding;
+mod pairs;
+mod validity;
+
+pub(crate) use holding::holds_with;
+pub(crate) use pairs::holds_between;
+pub(crate) use validity::both_valid;
