@@ -1,4 +1,5 @@
 pub mod Pairs
 pub mod Readable
+pub mod Suffixes
 pub mod Texts
 pub mod Truths

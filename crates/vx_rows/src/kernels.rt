@@ -3,7 +3,9 @@
 mod holding;
 mod pairs;
 mod validity;
+mod within;
 
 pub(crate) use holding::holds_with;
 pub(crate) use pairs::holds_between;
 pub(crate) use validity::both_valid;
+pub(crate) use within::holds_within;

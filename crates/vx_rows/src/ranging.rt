@@ -1,0 +1,124 @@
+//! Whether rows lie between the rows of two other columns, or between two scalars.
+
+ghost use Rattle.std.specs.Prelude.{◌≡◌, ◌&&◌, IsTrue, length};
+ghost use Rattle.vx_base.specs.Answers.{Decided, OrMemory};
+ghost use Rattle.vx_base.specs.TypeOf.{type_of};
+ghost use Rattle.vx_model.specs.Column.{column_of};
+ghost use Rattle.vx_model.specs.Rows.{rows};
+ghost use Rattle.vx_model.specs.TreeType.{tree_type};
+ghost use Rattle.vx_rows.specs.Pairs.{are_comparable};
+ghost use Rattle.vx_rules.specs.Comparisons.{between, between_refusal};
+ghost use Rattle.vx_rules.specs.Operations.{repeated};
+
+mod columns;
+
+use crate::comparing::are_comparable;
+use crate::held::readable;
+use crate::lent::{rows_of, same_rows};
+use columns::columns_within;
+use std::alloc::Global;
+use vx_array::ArrayRef;
+use vx_base::{DType, ExecutionCtx, Scalar, VortexError, VortexResult};
+use vx_rules::BetweenOptions;
+
+/// Whether each row lies between the bounds of its row: `low <= value && value <= high`, with `<` for a strict bound; null where any
+/// of the three is null.
+///
+/// Refuses MismatchedTypes unless the three are of one flat type, up to nullability, then LengthMismatch unless they are equally
+/// long.
+pub fn between(
+    array: &ArrayRef,
+    lower: &ArrayRef,
+    upper: &ArrayRef,
+    options: BetweenOptions,
+    ctx: &mut ExecutionCtx,
+) -> VortexResult<ArrayRef>
+    ensures answer { Decided (between_refusal (column_of array.now) (column_of lower.now) (column_of upper.now)) (λ out. column_of out ≡ between options (column_of array.now) (column_of lower.now) (column_of upper.now)) result }
+    ensures ctx { ctx.new ≡ ctx.old }
+{
+    if !are_within_types(array.dtype(), lower.dtype(), upper.dtype()) {
+        return Err(VortexError::MismatchedTypes);
+    }
+    if array.len() != lower.len() || array.len() != upper.len() {
+        return Err(VortexError::LengthMismatch);
+    }
+    trees_within(ctx.alloc(), options, array, lower, upper)
+}
+
+/// Whether each row lies between two values; null where the row or either value is null. Refuses MismatchedTypes unless the
+/// column's type is flat and that of both values, up to nullability.
+pub fn between_scalars(
+    array: &ArrayRef,
+    lower: &Scalar,
+    upper: &Scalar,
+    options: BetweenOptions,
+    ctx: &mut ExecutionCtx,
+) -> VortexResult<ArrayRef>
+    ensures answer { Decided (between_refusal (column_of array.now) (repeated lower.now (column_of array.now)) (repeated upper.now (column_of array.now))) (λ out. column_of out ≡ between options (column_of array.now) (repeated lower.now (column_of array.now)) (repeated upper.now (column_of array.now))) result }
+    ensures ctx { ctx.new ≡ ctx.old }
+{
+    if !are_within_types(array.dtype(), lower.dtype(), upper.dtype()) {
+        return Err(VortexError::MismatchedTypes);
+    }
+    tree_within(ctx.alloc(), options, array, lower, upper)
+}
+
+// Whether values of the first type are compared with those of the two others.
+fn are_within_types(dtype: &DType, lower: &DType, upper: &DType) -> bool
+    ensures { result ≡ (are_comparable (type_of dtype.now) (type_of lower.now) && are_comparable (type_of dtype.now) (type_of upper.now)) }
+{
+    are_comparable(dtype, lower) && are_comparable(dtype, upper)
+}
+
+// `between` of columns that it admits.
+fn trees_within(
+    alloc: Global,
+    options: BetweenOptions,
+    array: &ArrayRef,
+    low: &ArrayRef,
+    high: &ArrayRef,
+) -> VortexResult<ArrayRef>
+    requires low { IsTrue (are_comparable (tree_type array.now) (tree_type low.now)) }
+    requires high { IsTrue (are_comparable (tree_type array.now) (tree_type high.now)) }
+    requires lows { length (rows array.now) ≡ length (rows low.now) }
+    requires highs { length (rows array.now) ≡ length (rows high.now) }
+    ensures { OrMemory result (λ out. column_of out ≡ between options (column_of array.now) (column_of low.now) (column_of high.now)) }
+{
+    let dtype = array.dtype();
+    let low_type = low.dtype();
+    let high_type = high.dtype();
+    let read = readable(alloc, array)?;
+    let low_read = readable(alloc, low)?;
+    let high_read = readable(alloc, high)?;
+    let rows = rows_of(&read);
+    let lows = rows_of(&low_read);
+    let highs = rows_of(&high_read);
+    columns_within(
+        alloc, options, rows, dtype, lows, low_type, highs, high_type,
+    )
+}
+
+// `between_scalars` of a column and values that it admits.
+fn tree_within(
+    alloc: Global,
+    options: BetweenOptions,
+    array: &ArrayRef,
+    low: &Scalar,
+    high: &Scalar,
+) -> VortexResult<ArrayRef>
+    requires low { IsTrue (are_comparable (tree_type array.now) low.now.dtype) }
+    requires high { IsTrue (are_comparable (tree_type array.now) high.now.dtype) }
+    ensures { OrMemory result (λ out. column_of out ≡ between options (column_of array.now) (repeated low.now (column_of array.now)) (repeated high.now (column_of array.now))) }
+{
+    let dtype = array.dtype();
+    let low_type = low.dtype();
+    let high_type = high.dtype();
+    let len = array.len();
+    let lows = same_rows(low, len);
+    let highs = same_rows(high, len);
+    let read = readable(alloc, array)?;
+    let rows = rows_of(&read);
+    columns_within(
+        alloc, options, rows, dtype, lows, low_type, highs, high_type,
+    )
+}
