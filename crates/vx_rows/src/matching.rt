@@ -13,6 +13,7 @@ ghost use Rattle.vx_rows.specs.Readable.{is_whole, lent_rows};
 ghost use Rattle.vx_rules.specs.Operations.{repeated};
 ghost use Rattle.vx_rules.specs.Patterns.{like, like_refusal};
 
+mod cells;
 mod columns;
 
 use crate::held::readable;
