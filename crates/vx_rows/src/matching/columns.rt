@@ -30,9 +30,13 @@ pub(super) fn liked_rows(
     requires utf8_patterns { IsTrue (list_all has_text (lent_rows patterns)) }
     ensures { Answers result (liked_rows options (lent_rows texts.entry) (lent_rows patterns.entry)) }
 {
+    // Without rows nothing says that the bytes of a constant are a text.
+    if texts.len() == 0 {
+        return Truths::with_capacity(alloc, 0);
+    }
     match same_bytes(patterns) {
-        Some(pattern) if texts.len() > 0 => liked_by_one(alloc, texts, pattern, options),
-        _ => liked_by_each(alloc, texts, patterns, options),
+        Some(pattern) => liked_by_one(alloc, texts, pattern, options),
+        None => liked_by_each(alloc, texts, patterns, options),
     }
 }
 
