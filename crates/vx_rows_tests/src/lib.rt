@@ -1,0 +1,11 @@
+//! Tests of row functions: each on its types, with nulls, without rows, over encoded rows, and refused.
+#![tactic(auto)]
+
+#[cfg(test)]
+mod columns;
+#[cfg(test)]
+mod comparisons;
+#[cfg(test)]
+mod patterns;
+#[cfg(test)]
+mod ranges;
