@@ -1,7 +1,10 @@
 -- What the row functions answer, by the rows that they read: of the type and rows of their rules, and each row of its type.
-use Rattle.std.proofs.Common.{◌≡◌, ◌∙◌, ℕ, ℤ, Bool, true, List, map, length, refl, sym, ap}
-use Rattle.std.specs.Prelude.{replicate, Result, Ok, Err}
-use Rattle.std.specs.Ordering.{int_cmp}
+use Rattle.std.proofs.Common.{◌≡◌, ◌∙◌, ℕ, ℤ, Bool, true, false, List, [], ◌∷◌, map, length, refl, sym, ap}
+use Rattle.std.specs.Prelude.{◌&&◌, ◌||◌, cond, replicate, Result, Ok, Err}
+use Rattle.std.specs.declared.cmp.Ordering.{Ordering}
+use Rattle.std.specs.declared.cmp.Ordering.TheVariants.{Less, Equal, Greater}
+use Rattle.std.specs.Ordering.{int_cmp, ordering_reverse}
+use Rattle.std.proofs.lemmas.Cmp.{int_cmp_total}
 use Rattle.std.specs.List.{list_all}
 use Rattle.std.proofs.lemmas.Bool.{and_parts}
 use Rattle.vx_base.specs.declared.dtype.Nullability.{Nullability}
@@ -11,21 +14,23 @@ use Rattle.vx_base.specs.Answers.{OrMemory}
 use Rattle.vx_base.specs.PlainScalar.{fits}
 use Rattle.vx_base.specs.PlainType.{PlainType, is_flat, nullability_of, or_nullable, same_base, stored_type, with_nullability}
 use Rattle.vx_base.specs.PlainType as types
-use Rattle.vx_base.specs.PlainValue.{PlainValue, int, truth}
+use Rattle.vx_base.specs.PlainValue.{PlainValue, int, is_null, null, truth}
 use Rattle.vx_model.specs.Column.{Column, column, column_of, IsColumn}
 use Rattle.vx_rules.specs.declared.options.BetweenOptions.{BetweenOptions}
 use Rattle.vx_rules.specs.declared.options.CompareOperator.{CompareOperator}
+use Rattle.vx_rules.specs.declared.options.CompareOperator.TheVariants as ops
 use Rattle.vx_rules.specs.declared.options.LikeOptions.{LikeOptions}
 use Rattle.vx_model.specs.Rows.{valid_rows}
 use Rattle.vx_model.specs.Tree.{Tree, Validity}
-use Rattle.vx_rules.specs.Comparisons.{compared, comparison, holds, is_boolean, negated, within_bounds}
+use Rattle.vx_rules.specs.Comparisons.{bound_operator, compared, comparison, holds, is_boolean, negated, within_bounds}
 use Rattle.vx_rules.specs.Comparisons as comparisons
 use Rattle.vx_rules.specs.Patterns as patterns
+use Rattle.vx_rules.specs.ValueOrder.{value_cmp}
 use Rattle.vx_rules.proofs.FitLaws.{answers_are_columns}
 use Rattle.vx_base.specs.Storable.{same_path}
-use Rattle.vx_rows.specs.Pairs.{are_comparable, both_valid, compared_rows, each_pair, rows_within, whole_holds, whole_within}
+use Rattle.vx_rows.specs.Pairs.{are_comparable, both_true, both_valid, compared_rows, each_pair, rows_within, turned, whole_holds, whole_within}
 use Rattle.vx_rows.specs.Texts.{liked_rows}
-use Rattle.vx_rows.proofs.ValidLemmas.{map-valid, pair-replicate, pair-valid, triple-replicate}
+use Rattle.vx_rows.proofs.ValidLemmas.{map-valid, pair-replicate, pair-valid, replicate-pair, triple-replicate}
 
 module _ (c d : Column) (n : Nullability) (ls rs : List PlainValue) (e : n ≡ or_nullable (nullability_of c.dtype) (nullability_of d.dtype)) (l : ls ≡ c.values) (r : rs ≡ d.values) where
   pub compared-fit : (op : CompareOperator) → IsColumn c → IsColumn d → list_all (fits (types.boolean n)) (compared_rows op ls rs) ≡ true
@@ -57,9 +62,60 @@ pub rows-with-whole : (op : CompareOperator) (w : ℤ) (valid : Validity) (zs : 
     → compared_rows op (valid_rows valid (map int zs)) (replicate n (int w)) ≡ valid_rows valid (map truth (map (whole_holds op w) zs))
 rows-with-whole op w valid zs n e = pair-replicate (compared op) (valid_rows valid (map int zs)) (int w) n e ∙ map-valid (λ v. compared op v (int w)) int (whole_holds op w) truth refl (λ z. refl) valid zs
 
+-- an operator holds of two values where the turned one holds of them exchanged
+turned-is : (op : CompareOperator) (o : Ordering) → holds op (ordering_reverse o) ≡ holds (turned op) o
+turned-is ops.Eq Less = refl
+turned-is ops.Eq Equal = refl
+turned-is ops.Eq Greater = refl
+turned-is ops.NotEq Less = refl
+turned-is ops.NotEq Equal = refl
+turned-is ops.NotEq Greater = refl
+turned-is ops.Gt Less = refl
+turned-is ops.Gt Equal = refl
+turned-is ops.Gt Greater = refl
+turned-is ops.Gte Less = refl
+turned-is ops.Gte Equal = refl
+turned-is ops.Gte Greater = refl
+turned-is ops.Lt Less = refl
+turned-is ops.Lt Equal = refl
+turned-is ops.Lt Greater = refl
+turned-is ops.Lte Less = refl
+turned-is ops.Lte Equal = refl
+turned-is ops.Lte Greater = refl
+
+turned-holds : (op : CompareOperator) (w z : ℤ) → holds op (int_cmp w z) ≡ whole_holds (turned op) w z
+turned-holds op w z = ap (holds op) (int_cmp_total.antisymm w z) ∙ turned-is op (int_cmp z w)
+
+pub whole-with-rows : (op : CompareOperator) (w : ℤ) (valid : Validity) (zs : List ℤ) (n : ℕ) → length (valid_rows valid (map int zs)) ≡ n
+    → compared_rows op (replicate n (int w)) (valid_rows valid (map int zs)) ≡ valid_rows valid (map truth (map (whole_holds (turned op) w) zs))
+whole-with-rows op w valid zs n e =
+    replicate-pair (compared op) (int w) (valid_rows valid (map int zs)) n e
+    ∙ map-valid (λ v. compared op (int w) v) int (whole_holds (turned op) w) truth refl (λ z. ap truth (turned-holds op w z)) valid zs
+
 pub rows-of-pairs : (op : CompareOperator) (valid others : Validity) (zs ws : List ℤ)
     → compared_rows op (valid_rows valid (map int zs)) (valid_rows others (map int ws)) ≡ valid_rows (both_valid valid others) (map truth (each_pair (λ z w. holds op (int_cmp z w)) zs ws))
 rows-of-pairs op valid others zs ws = pair-valid (compared op) int int (λ z w. holds op (int_cmp z w)) truth (λ v. refl) (λ z. refl) (λ z w. refl) valid others zs ws
+
+-- ---- bounds, by two comparisons
+
+both-bounds : (options : BetweenOptions) (v low high : PlainValue)
+    → both_true (compared (bound_operator options.lower_strict) low v) (compared (bound_operator options.upper_strict) v high) ≡ within_bounds options v low high
+both-bounds options v low high = by (is_null v) (is_null low) (is_null high) (holds (bound_operator options.lower_strict) (value_cmp low v)) (holds (bound_operator options.upper_strict) (value_cmp v high))
+  where
+    by : (i j k a b : Bool) → both_true (cond (j || i) null (truth a)) (cond (i || k) null (truth b)) ≡ cond (i || (j || k)) null (truth (a && b))
+    by true true k a b = refl
+    by true false k a b = refl
+    by false true k a b = refl
+    by false false true a b = refl
+    by false false false a b = refl
+
+pub rows-by-bounds : (options : BetweenOptions) (vs lows highs : List PlainValue)
+    → each_pair both_true (compared_rows (bound_operator options.lower_strict) lows vs) (compared_rows (bound_operator options.upper_strict) vs highs) ≡ rows_within options vs lows highs
+rows-by-bounds options [] [] highs = refl
+rows-by-bounds options [] (l ∷ lows) highs = refl
+rows-by-bounds options (v ∷ vs) [] highs = refl
+rows-by-bounds options (v ∷ vs) (l ∷ lows) [] = refl
+rows-by-bounds options (v ∷ vs) (l ∷ lows) (h ∷ highs) = λ i. both-bounds options v l h i ∷ rows-by-bounds options vs lows highs i
 
 pub rows-within-wholes : (options : BetweenOptions) (low high : ℤ) (valid : Validity) (zs : List ℤ) (n : ℕ) → length (valid_rows valid (map int zs)) ≡ n
     → rows_within options (valid_rows valid (map int zs)) (replicate n (int low)) (replicate n (int high)) ≡ valid_rows valid (map truth (map (whole_within options low high) zs))

@@ -6,3 +6,4 @@ pub mod SuffixLemmas
 pub mod TextLemmas
 pub mod TruthLemmas
 pub mod ValidLemmas
+pub mod WholeLemmas

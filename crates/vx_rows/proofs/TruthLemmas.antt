@@ -1,6 +1,6 @@
 -- Truth values and their validity: one row further, and as a tree.
-use Rattle.std.proofs.Common.{◌≡◌, ◌∙◌, Bool, true, false, cond, List, [], ◌∷◌, ◌++◌, map, length, Option, Some, None, refl, sym, ap, arith, unwrap_or}
-use Rattle.std.specs.Prelude.{◌||◌, is_some}
+use Rattle.std.proofs.Common.{◌≡◌, ◌∙◌, Bool, true, false, cond, ℕ, List, [], ◌∷◌, ◌++◌, map, length, Option, Some, None, refl, sym, ap, arith, unwrap_or}
+use Rattle.std.specs.Prelude.{◌||◌, ◌&&◌, is_some}
 use Rattle.std.specs.List.{list_all}
 use Rattle.std.proofs.lemmas.Bool.{and_parts, eq-eqb, eqb-true}
 use Rattle.std.proofs.lemmas.List.{length-map, map-append}
@@ -14,7 +14,10 @@ use Rattle.vx_model.specs.Column.{column, column_of}
 use Rattle.vx_model.specs.Refusals.{kept, primitive_refusal, validity_length, validity_allowed}
 use Rattle.vx_model.specs.Rows.{masked_rows, valid_rows}
 use Rattle.vx_model.specs.Tree.{Validity, bool}
+use Rattle.vx_rows.specs.Pairs.{both_true, both_valid, each_pair}
 use Rattle.vx_rows.specs.Truths.{truth_or_null}
+use Rattle.vx_rows.proofs.PairLemmas.{length-each_pair}
+use Rattle.vx_rows.proofs.ValidLemmas.{pair-valid}
 
 -- ---- one row further
 
@@ -76,3 +79,18 @@ module _ (bs : List Bool) (valid : Validity) (n : Nullability) (l : validity_len
 
   pub truths-made : column_of (bool bs (kept valid) n) ≡ column (types.boolean n) (valid_rows valid (map truth bs))
   truths-made = ap (column (types.boolean n)) (kept-rows valid (map truth bs) of_truths)
+
+-- ---- two columns of truth values
+
+pub both-rows : (valid others : Validity) (bs cs : List Bool)
+    → valid_rows (both_valid valid others) (map truth (each_pair (λ a b. a && b) bs cs)) ≡ each_pair both_true (valid_rows valid (map truth bs)) (valid_rows others (map truth cs))
+both-rows valid others bs cs = sym (pair-valid both_true truth truth (λ a b. a && b) truth (λ v. refl) (λ a. refl) (λ a b. refl) valid others bs cs)
+
+pub both-long : (valid others : Validity) (n m k : ℕ) → validity_length valid n ≡ true → validity_length others m ≡ true → n ≡ m → k ≡ n → validity_length (both_valid valid others) k ≡ true
+both-long None None n m k h l e f = refl
+both-long None (Some others) n m k h l e f = ap (validity_length (Some others)) (f ∙ e) ∙ l
+both-long (Some bits) None n m k h l e f = ap (validity_length (Some bits)) f ∙ h
+both-long (Some bits) (Some others) n m k h l e f =
+    let left = eqb-true (length bits) n h in
+    let right = eqb-true (length others) m l in
+    eq-eqb (length-each_pair (λ a b. a && b) bits others (left ∙ e ∙ sym right) ∙ left ∙ sym f)

@@ -1,11 +1,12 @@
 -- Rows of two or three columns side by side.
-use Rattle.std.specs.Prelude.{ℤ, Bool, ◌&&◌, List, map, zip, None, Some}
+use Rattle.std.specs.Prelude.{ℤ, Bool, ◌&&◌, ◌||◌, if◌then◌else◌, List, map, zip, None, Some}
 use Rattle.std.specs.Ordering.{int_cmp}
 use Rattle.vx_base.specs.PlainType.{PlainType, is_flat, same_base}
-use Rattle.vx_base.specs.PlainValue.{PlainValue}
+use Rattle.vx_base.specs.PlainValue.{PlainValue, null, truth, is_null, truth_or_false}
 use Rattle.vx_model.specs.Tree.{Validity}
 use Rattle.vx_rules.specs.declared.options.BetweenOptions.{BetweenOptions}
 use Rattle.vx_rules.specs.declared.options.CompareOperator.{CompareOperator}
+use Rattle.vx_rules.specs.declared.options.CompareOperator.TheVariants as ops
 use Rattle.vx_rules.specs.Comparisons.{bound_operator, compared, holds, within_bounds}
 
 -- whether values of two types are compared: they are of one flat type, up to nullability
@@ -25,6 +26,18 @@ both_valid (Some bits) (Some others) = Some (each_pair (λ a b. a && b) bits oth
 -- whether an operator holds, row by row of two columns
 abbrev pub compared_rows : CompareOperator → List PlainValue → List PlainValue → List PlainValue
 compared_rows operator lefts rights = each_pair (compared operator) lefts rights
+
+-- the operator that holds of two values exchanged
+abbrev pub turned : CompareOperator → CompareOperator
+turned ops.Gt = ops.Lt
+turned ops.Gte = ops.Lte
+turned ops.Lt = ops.Gt
+turned ops.Lte = ops.Gte
+turned operator = operator
+
+-- whether two truth values are true, null where either is null
+abbrev pub both_true : PlainValue → PlainValue → PlainValue
+both_true v w = if is_null v || is_null w then null else truth (truth_or_false v && truth_or_false w)
 
 -- whether each row lies within its bounds, row by row of three columns
 abbrev pub rows_within : BetweenOptions → List PlainValue → List PlainValue → List PlainValue → List PlainValue

@@ -12,9 +12,11 @@ ghost use Rattle.vx_rules.specs.Operations.{repeated};
 
 mod columns;
 
+pub(crate) use columns::compared_rows;
+
 use crate::held::readable;
 use crate::lent::{rows_of, same_rows};
-use columns::compared_columns;
+use crate::truths::either_nullability;
 use std::alloc::Global;
 use vx_array::ArrayRef;
 use vx_base::{DType, ExecutionCtx, Scalar, VortexError, VortexResult};
@@ -77,15 +79,13 @@ fn compared_trees(
     requires lengths { length (rows left.now) ≡ length (rows right.now) }
     ensures { OrMemory result (λ out. column_of out ≡ comparison operator (column_of left.now) (column_of right.now)) }
 {
-    let left_type = left.dtype();
-    let right_type = right.dtype();
     let left_read = readable(alloc, left)?;
     let right_read = readable(alloc, right)?;
-    let left_rows = rows_of(&left_read);
-    let right_rows = rows_of(&right_read);
-    compared_columns(
-        alloc, operator, left_rows, left_type, right_rows, right_type,
-    )
+    let lefts = rows_of(&left_read);
+    let rights = rows_of(&right_read);
+    let truths = compared_rows(alloc, operator, lefts, rights)?;
+    let nullability = either_nullability(left.dtype(), right.dtype());
+    Ok(truths.into_tree(nullability))
 }
 
 // `compare_scalar` of a column and a value that it admits.
@@ -98,11 +98,10 @@ fn compared_with(
     requires types { IsTrue (are_comparable (tree_type array.now) value.now.dtype) }
     ensures { OrMemory result (λ out. column_of out ≡ comparison operator (column_of array.now) (repeated value.now (column_of array.now))) }
 {
-    let dtype = array.dtype();
-    let value_type = value.dtype();
-    let len = array.len();
-    let others = same_rows(value, len);
     let read = readable(alloc, array)?;
     let rows = rows_of(&read);
-    compared_columns(alloc, operator, rows, dtype, others, value_type)
+    let others = same_rows(value, array.len());
+    let truths = compared_rows(alloc, operator, rows, others)?;
+    let nullability = either_nullability(array.dtype(), value.dtype());
+    Ok(truths.into_tree(nullability))
 }

@@ -7,5 +7,5 @@ mod within;
 
 pub(crate) use holding::holds_with;
 pub(crate) use pairs::holds_between;
-pub(crate) use validity::both_valid;
+pub(crate) use validity::{and_bits, both_valid};
 pub(crate) use within::holds_within;

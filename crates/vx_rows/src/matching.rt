@@ -1,15 +1,12 @@
 //! Texts that match patterns, row by row.
 
-ghost use Rattle.std.specs.List.{list_all};
 ghost use Rattle.std.specs.Prelude.{◌≡◌, IsTrue, length};
 ghost use Rattle.vx_base.specs.Answers.{Decided, OrMemory};
-ghost use Rattle.vx_base.specs.PlainScalar.{fits};
 ghost use Rattle.vx_base.specs.PlainType.{is_text};
 ghost use Rattle.vx_base.specs.TypeOf.{type_of};
-ghost use Rattle.vx_model.specs.Column.{column, column_of};
+ghost use Rattle.vx_model.specs.Column.{column_of};
 ghost use Rattle.vx_model.specs.Rows.{rows};
 ghost use Rattle.vx_model.specs.TreeType.{tree_type};
-ghost use Rattle.vx_rows.specs.Readable.{is_whole, lent_rows};
 ghost use Rattle.vx_rules.specs.Operations.{repeated};
 ghost use Rattle.vx_rules.specs.Patterns.{like, like_refusal};
 
@@ -17,7 +14,7 @@ mod cells;
 mod columns;
 
 use crate::held::readable;
-use crate::lent::{Lent, rows_of, same_rows};
+use crate::lent::{rows_of, same_rows};
 use crate::truths::either_nullability;
 use columns::liked_rows;
 use std::alloc::Global;
@@ -84,13 +81,13 @@ fn trees_liked(
     requires lengths { length (rows array.now) ≡ length (rows patterns.now) }
     ensures { OrMemory result (λ out. column_of out ≡ like options (column_of array.now) (column_of patterns.now)) }
 {
-    let dtype = array.dtype();
-    let pattern_type = patterns.dtype();
     let read = readable(alloc, array)?;
     let pattern_read = readable(alloc, patterns)?;
     let texts = rows_of(&read);
     let pattern_rows = rows_of(&pattern_read);
-    columns_liked(alloc, texts, dtype, pattern_rows, pattern_type, options)
+    let truths = liked_rows(alloc, texts, pattern_rows, options)?;
+    let nullability = either_nullability(array.dtype(), patterns.dtype());
+    Ok(truths.into_tree(nullability))
 }
 
 // `like_scalar` of a column and a pattern that it admits.
@@ -104,34 +101,10 @@ fn tree_liked(
     requires pattern { IsTrue (is_text pattern.now.dtype) }
     ensures { OrMemory result (λ out. column_of out ≡ like options (column_of array.now) (repeated pattern.now (column_of array.now))) }
 {
-    let dtype = array.dtype();
-    let pattern_type = pattern.dtype();
-    let len = array.len();
-    let pattern_rows = same_rows(pattern, len);
     let read = readable(alloc, array)?;
     let texts = rows_of(&read);
-    columns_liked(alloc, texts, dtype, pattern_rows, pattern_type, options)
-}
-
-// Whether each text matches the pattern of its row, of columns that are equally long, as a tree.
-fn columns_liked(
-    alloc: Global,
-    texts: Lent<'_>,
-    dtype: &DType,
-    patterns: Lent<'_>,
-    pattern_type: &DType,
-    options: LikeOptions,
-) -> VortexResult<ArrayRef>
-    requires texts { IsTrue (is_whole texts) }
-    requires patterns { IsTrue (is_whole patterns) }
-    requires lengths { length (lent_rows texts) ≡ length (lent_rows patterns) }
-    requires text { IsTrue (is_text (type_of dtype.now)) }
-    requires pattern { IsTrue (is_text (type_of pattern_type.now)) }
-    requires fit { IsTrue (list_all (fits (type_of dtype.now)) (lent_rows texts)) }
-    requires pattern_fit { IsTrue (list_all (fits (type_of pattern_type.now)) (lent_rows patterns)) }
-    ensures { OrMemory result (λ out. column_of out ≡ like options (column (type_of dtype.now) (lent_rows texts.entry)) (column (type_of pattern_type.now) (lent_rows patterns.entry))) }
-{
-    let nullability = either_nullability(dtype, pattern_type);
-    let truths = liked_rows(alloc, texts, patterns, options)?;
+    let pattern_rows = same_rows(pattern, array.len());
+    let truths = liked_rows(alloc, texts, pattern_rows, options)?;
+    let nullability = either_nullability(array.dtype(), pattern.dtype());
     Ok(truths.into_tree(nullability))
 }

@@ -1,13 +1,13 @@
 //! Truth values negated.
 
-ghost use Rattle.std.specs.List.{list_all};
-ghost use Rattle.std.specs.Prelude.{◌≡◌, IsTrue, length, map, not};
+ghost use Rattle.std.specs.Prelude.{◌≡◌, IsTrue, length, map, not, true};
 ghost use Rattle.vx_base.specs.Answers.{Answers, Decided, OrMemory};
 ghost use Rattle.vx_base.specs.CellValue.{cell_value};
-ghost use Rattle.vx_base.specs.PlainScalar.{fits};
-ghost use Rattle.vx_base.specs.PlainType.{boolean};
+ghost use Rattle.vx_base.specs.PlainValue.{truth};
 ghost use Rattle.vx_base.specs.TypeOf.{type_of};
-ghost use Rattle.vx_model.specs.Column.{column, column_of};
+ghost use Rattle.vx_model.specs.Column.{column_of};
+ghost use Rattle.vx_model.specs.Refusals.{validity_length};
+ghost use Rattle.vx_model.specs.Rows.{valid_rows};
 ghost use Rattle.vx_model.specs.TreeType.{tree_type};
 ghost use Rattle.vx_rows.specs.Readable.{is_whole, lent_rows};
 ghost use Rattle.vx_rows.specs.Truths.{truth_or_null};
@@ -15,10 +15,10 @@ ghost use Rattle.vx_rules.specs.Comparisons.{is_boolean, negated, negation, not_
 
 use crate::held::readable;
 use crate::lent::{Lent, rows_of};
-use crate::truths::{Truths, truth_tree};
+use crate::truths::{Truths, TruthsBuilder};
 use std::alloc::Global;
 use vx_array::ArrayRef;
-use vx_base::{Cell, DType, ExecutionCtx, Mask, Nullability, VortexError, VortexResult};
+use vx_base::{Cell, DType, ExecutionCtx, Mask, VortexError, VortexResult};
 use vx_values::copy_validity;
 
 /// Each truth value negated; null stays null. Refuses MismatchedTypes unless the column is of truth values.
@@ -44,40 +44,44 @@ fn negated_tree(alloc: Global, array: &ArrayRef) -> VortexResult<ArrayRef>
     requires { IsTrue (is_boolean (tree_type array.now)) }
     ensures { OrMemory result (λ out. column_of out ≡ negation (column_of array.now)) }
 {
-    let dtype = array.dtype();
-    let nullability = dtype.nullability();
     let read = readable(alloc, array)?;
     let rows = rows_of(&read);
-    negated_rows(alloc, rows, nullability)
+    let truths = negated_rows(alloc, rows)?;
+    let nullability = array.dtype().nullability();
+    Ok(truths.into_tree(nullability))
 }
 
-// The rows negated, as a tree.
-fn negated_rows(alloc: Global, rows: Lent<'_>, nullability: Nullability) -> VortexResult<ArrayRef>
-    requires whole { IsTrue (is_whole rows) }
-    requires fit { IsTrue (list_all (fits (boolean nullability)) (lent_rows rows)) }
-    ensures { OrMemory result (λ out. column_of out ≡ column (boolean nullability) (map negated (lent_rows rows.entry))) }
+// The rows negated: bits as they stand, and a constant value by value.
+fn negated_rows(alloc: Global, rows: Lent<'_>) -> VortexResult<Truths>
+    requires { IsTrue (is_whole rows) }
+    ensures { Answers result (map negated (lent_rows rows.entry)) }
 {
     match rows {
-        Lent::Bits(values, valid) => {
-            let bits = flipped(alloc, values)?;
-            let valid = copy_validity(alloc, valid)?;
-            Ok(truth_tree(bits, valid, nullability))
-        }
-        _ => negated_cells(alloc, rows, nullability),
+        Lent::Bits(values, valid) => negated_bits(alloc, values, valid),
+        _ => negated_cells(alloc, rows),
     }
 }
 
-// `negated_rows`, cell by cell.
-fn negated_cells(alloc: Global, rows: Lent<'_>, nullability: Nullability) -> VortexResult<ArrayRef>
-    requires whole { IsTrue (is_whole rows) }
-    requires fit { IsTrue (list_all (fits (boolean nullability)) (lent_rows rows)) }
-    ensures { OrMemory result (λ out. column_of out ≡ column (boolean nullability) (map negated (lent_rows rows.entry))) }
+// Truth values negated, with their validity.
+fn negated_bits(alloc: Global, values: &Mask, valid: &Option<Mask>) -> VortexResult<Truths>
+    requires { validity_length valid.now (length values.now) ≡ true }
+    ensures { Answers result (map negated (valid_rows valid.now (map truth values.now))) }
 {
-    let mut truths = Truths::with_capacity(alloc, rows.len())?;
+    let bits = flipped(alloc, values)?;
+    let valid = copy_validity(alloc, valid)?;
+    Ok(Truths::new(bits, valid))
+}
+
+// `negated_rows`, value by value.
+fn negated_cells(alloc: Global, rows: Lent<'_>) -> VortexResult<Truths>
+    requires { IsTrue (is_whole rows) }
+    ensures { Answers result (map negated (lent_rows rows.entry)) }
+{
+    let mut truths = TruthsBuilder::with_capacity(alloc, rows.len())?;
     for row in 0..rows.len() {
         truths.push(negated(rows.cell(row)))?;
     }
-    Ok(truths.into_tree(nullability))
+    Ok(truths.finish())
 }
 
 // A truth value negated, None of null.

@@ -2,6 +2,7 @@
 
 ghost use Rattle.std.specs.Prelude.{◌≡◌, ◌&&◌, IsTrue, length};
 ghost use Rattle.vx_base.specs.Answers.{Decided, OrMemory};
+ghost use Rattle.vx_base.specs.PlainType.{nullability_of, or_nullable};
 ghost use Rattle.vx_base.specs.TypeOf.{type_of};
 ghost use Rattle.vx_model.specs.Column.{column_of};
 ghost use Rattle.vx_model.specs.Rows.{rows};
@@ -15,10 +16,11 @@ mod columns;
 use crate::comparing::are_comparable;
 use crate::held::readable;
 use crate::lent::{rows_of, same_rows};
-use columns::columns_within;
+use crate::truths::either_nullability;
+use columns::rows_within;
 use std::alloc::Global;
 use vx_array::ArrayRef;
-use vx_base::{DType, ExecutionCtx, Scalar, VortexError, VortexResult};
+use vx_base::{DType, ExecutionCtx, Nullability, Scalar, VortexError, VortexResult};
 use vx_rules::BetweenOptions;
 
 /// Whether each row lies between the bounds of its row: `low <= value && value <= high`, with `<` for a strict bound; null where any
@@ -84,18 +86,15 @@ fn trees_within(
     requires highs { length (rows array.now) ≡ length (rows high.now) }
     ensures { OrMemory result (λ out. column_of out ≡ between options (column_of array.now) (column_of low.now) (column_of high.now)) }
 {
-    let dtype = array.dtype();
-    let low_type = low.dtype();
-    let high_type = high.dtype();
     let read = readable(alloc, array)?;
     let low_read = readable(alloc, low)?;
     let high_read = readable(alloc, high)?;
     let rows = rows_of(&read);
     let lows = rows_of(&low_read);
     let highs = rows_of(&high_read);
-    columns_within(
-        alloc, options, rows, dtype, lows, low_type, highs, high_type,
-    )
+    let truths = rows_within(alloc, options, rows, lows, highs)?;
+    let nullability = nullability_within(array.dtype(), low.dtype(), high.dtype());
+    Ok(truths.into_tree(nullability))
 }
 
 // `between_scalars` of a column and values that it admits.
@@ -110,15 +109,18 @@ fn tree_within(
     requires high { IsTrue (are_comparable (tree_type array.now) high.now.dtype) }
     ensures { OrMemory result (λ out. column_of out ≡ between options (column_of array.now) (repeated low.now (column_of array.now)) (repeated high.now (column_of array.now))) }
 {
-    let dtype = array.dtype();
-    let low_type = low.dtype();
-    let high_type = high.dtype();
-    let len = array.len();
-    let lows = same_rows(low, len);
-    let highs = same_rows(high, len);
     let read = readable(alloc, array)?;
     let rows = rows_of(&read);
-    columns_within(
-        alloc, options, rows, dtype, lows, low_type, highs, high_type,
-    )
+    let lows = same_rows(low, array.len());
+    let highs = same_rows(high, array.len());
+    let truths = rows_within(alloc, options, rows, lows, highs)?;
+    let nullability = nullability_within(array.dtype(), low.dtype(), high.dtype());
+    Ok(truths.into_tree(nullability))
+}
+
+// Whether the answers may be null: they are where the row or either bound is.
+fn nullability_within(dtype: &DType, low: &DType, high: &DType) -> Nullability
+    ensures { result ≡ or_nullable (nullability_of (type_of dtype.now)) (or_nullable (nullability_of (type_of low.now)) (nullability_of (type_of high.now))) }
+{
+    dtype.nullability().or(either_nullability(low, high))
 }

@@ -1,4 +1,4 @@
-//! Truth values with nulls, as rows that are pushed one by one and as trees.
+//! Truth values with nulls: the rows of an answer, made of bits or pushed one by one, and then a tree.
 
 ghost use Rattle.std.specs.List.{list_all};
 ghost use Rattle.std.specs.Prelude.{◌≡◌, ◌++◌, ◌∷◌, [], IsTrue, true, length, map};
@@ -10,21 +10,73 @@ ghost use Rattle.vx_base.specs.TypeOf.{type_of};
 ghost use Rattle.vx_model.specs.Column.{column, column_of};
 ghost use Rattle.vx_model.specs.Refusals.{validity_length};
 ghost use Rattle.vx_model.specs.Rows.{valid_rows};
+ghost use Rattle.vx_rows.specs.Pairs.{both_true, each_pair};
 ghost use Rattle.vx_rows.specs.Truths.{truth_or_null};
 
+use crate::kernels::{and_bits, both_valid};
 use std::alloc::Global;
 use std::marker::Model;
 use vx_array::ArrayRef;
 use vx_base::{DType, Mask, Nullability, VortexResult};
 
-/// Truth values and their validity, as many of each. Contracts see the values, null where a row isn't valid.
+/// Truth values with their validity. Contracts see the rows, null where one isn't valid.
 #[derive(Drop)]
 pub(crate) struct Truths {
+    values: Mask,
+    valid: Option<Mask>,
+}
+
+impl Model for Truths {
+    ghost use Rattle.std.specs.Prelude.{◌≡◌, List, length, map, true};
+    ghost use Rattle.vx_base.specs.PlainValue.{PlainValue, truth, values_code};
+    ghost use Rattle.vx_model.specs.Refusals.{validity_length};
+    ghost use Rattle.vx_model.specs.Rows.{valid_rows};
+
+    ghost Value = { List PlainValue };
+
+    ghost coded = { values_code };
+
+    ghost view = { λ a. valid_rows a.valid (map truth a.values) };
+
+    ghost invariant = { λ a. validity_length a.valid (length a.values) ≡ true };
+}
+
+impl Truths {
+    pub(crate) fn new(values: Mask, valid: Option<Mask>) -> Truths
+        requires { validity_length valid (length values) ≡ true }
+        ensures { result ≡ valid_rows valid (map truth values) }
+    {
+        Truths { values, valid }
+    }
+
+    /// Whether both are true, row by row; null where either is null.
+    pub(crate) fn and(&self, alloc: Global, other: &Truths) -> VortexResult<Truths>
+        requires { length self.now ≡ length other.now }
+        ensures { Answers result (each_pair both_true self.now other.now) }
+    {
+        let values = and_bits(alloc, &self.values, &other.values)?;
+        let valid = both_valid(alloc, &self.valid, &other.valid, self.values.len())?;
+        Ok(Truths::new(values, valid))
+    }
+
+    /// The rows as a tree.
+    pub(crate) fn into_tree(self, nullability: Nullability) -> ArrayRef
+        requires { IsTrue (list_all (fits (boolean nullability)) self) }
+        ensures { column_of result ≡ column (boolean nullability) self }
+    {
+        let Truths { values, valid } = self;
+        ArrayRef::bool_of(values, valid, nullability)
+    }
+}
+
+/// Rows that are pushed one by one.
+#[derive(Drop)]
+pub(crate) struct TruthsBuilder {
     values: Vec<bool>,
     valid: Vec<bool>,
 }
 
-impl Model for Truths {
+impl Model for TruthsBuilder {
     ghost use Rattle.std.specs.Prelude.{◌≡◌, List, map, length};
     ghost use Rattle.vx_base.specs.PlainValue.{PlainValue, truth, values_code};
     ghost use Rattle.vx_model.specs.Rows.{masked_rows};
@@ -38,14 +90,14 @@ impl Model for Truths {
     ghost invariant = { λ a. length a.valid.items ≡ length a.values.items };
 }
 
-impl Truths {
+impl TruthsBuilder {
     /// No rows, with room for `len` of them.
-    pub(crate) fn with_capacity(alloc: Global, len: u64) -> VortexResult<Truths>
+    pub(crate) fn with_capacity(alloc: Global, len: u64) -> VortexResult<TruthsBuilder>
         ensures { Answers result [] }
     {
         let values = Vec::with_capacity(alloc, len as usize)?;
         let valid = Vec::with_capacity(alloc, len as usize)?;
-        Ok(Truths { values, valid })
+        Ok(TruthsBuilder { values, valid })
     }
 
     /// Appends a row, null of None.
@@ -58,24 +110,13 @@ impl Truths {
         Ok(())
     }
 
-    /// The rows as a tree.
-    pub(crate) fn into_tree(self, nullability: Nullability) -> ArrayRef
-        requires { IsTrue (list_all (fits (boolean nullability)) self) }
-        ensures { column_of result ≡ column (boolean nullability) self }
+    pub(crate) fn finish(self) -> Truths
+        ensures { result ≡ self }
     {
-        let Truths { values, valid } = self;
+        let TruthsBuilder { values, valid } = self;
         let valid = Some(Mask::from_bits(valid));
-        truth_tree(Mask::from_bits(values), valid, nullability)
+        Truths::new(Mask::from_bits(values), valid)
     }
-}
-
-/// Truth values and their validity as a tree.
-pub(crate) fn truth_tree(values: Mask, valid: Option<Mask>, nullability: Nullability) -> ArrayRef
-    requires whole { validity_length valid (length values) ≡ true }
-    requires fit { IsTrue (list_all (fits (boolean nullability)) (valid_rows valid (map truth values))) }
-    ensures { column_of result ≡ column (boolean nullability) (valid_rows valid (map truth values)) }
-{
-    ArrayRef::bool_of(values, valid, nullability)
 }
 
 /// Whether the answers for rows of two types may be null: they are where either row is.

@@ -1,4 +1,4 @@
-//! The validity of rows of two columns.
+//! Two lists of bits, and the validity of rows of two columns.
 
 ghost use Rattle.std.specs.Prelude.{◌≡◌, ◌&&◌, length, true};
 ghost use Rattle.vx_base.specs.Answers.{Answers};
@@ -21,14 +21,20 @@ pub(crate) fn both_valid(
     ensures { Answers result (both_valid left.now right.now) }
 {
     match (left, right) {
-        (Some(bits), Some(others)) => {
-            let mut both = vec![in alloc; false; len as usize]?;
-            write_both(bits.as_slice(), others.as_slice(), both.as_mut_slice());
-            Ok(Some(Mask::from_bits(both)))
-        }
+        (Some(bits), Some(others)) => Ok(Some(and_bits(alloc, bits, others)?)),
         (Some(_), None) => copy_validity(alloc, left),
         (None, _) => copy_validity(alloc, right),
     }
+}
+
+/// Whether both bits are true, place by place.
+pub(crate) fn and_bits(alloc: Global, bits: &Mask, others: &Mask) -> VortexResult<Mask>
+    requires { length bits.now ≡ length others.now }
+    ensures { Answers result (each_pair (λ a b. a && b) bits.now others.now) }
+{
+    let mut both = vec![in alloc; false; bits.len() as usize]?;
+    write_both(bits.as_slice(), others.as_slice(), both.as_mut_slice());
+    Ok(Mask::from_bits(both))
 }
 
 // Writes whether both bits are true.

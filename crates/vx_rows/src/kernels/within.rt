@@ -38,13 +38,28 @@ fn within_wholes<T: Integer>(
     ensures { Answers result (map (whole_within options low high) (map T.whole items.now)) }
 {
     let mut bits = vec![in alloc; false; items.len()]?;
-    match (T::from_whole(low), T::from_whole(high)) {
-        (Some(low), Some(high)) => {
-            write_by_options(options, items, low, high, bits.as_mut_slice());
-        }
-        _ => write_wide(options, items, low, high, bits.as_mut_slice()),
-    }
+    write_wholes(options, items, low, high, bits.as_mut_slice());
     Ok(Mask::from_bits(bits))
+}
+
+// Writes whether each item lies within: in the items' type, where it holds both numbers.
+fn write_wholes<T: Integer>(
+    options: BetweenOptions,
+    items: &[T],
+    low: i128,
+    high: i128,
+    bits: &mut [bool],
+)
+    requires { length bits.old ≡ length items.now }
+    ensures { bits.new ≡ map (whole_within options low high) (map T.whole items.now) }
+{
+    match (T::from_whole(low), T::from_whole(high)) {
+        (Some(low), Some(high)) => write_by_options(options, items, low, high, bits),
+        _ => {
+            let (lower, upper) = (options.lower_operator(), options.upper_operator());
+            write_wide(lower, upper, items, low, high, bits);
+        }
+    }
 }
 
 // Writes whether each item lies within: one loop for each pair of operators, which are constants in it.
@@ -88,16 +103,16 @@ fn write_within<T: Integer>(
 
 // Writes whether each item lies between two numbers of which the items' type doesn't hold both.
 fn write_wide<T: Integer>(
-    options: BetweenOptions,
+    lower: CompareOperator,
+    upper: CompareOperator,
     items: &[T],
     low: i128,
     high: i128,
     bits: &mut [bool],
 )
     requires { length bits.old ≡ length items.now }
-    ensures { bits.new ≡ map (whole_within options low high) (map T.whole items.now) }
+    ensures { bits.new ≡ map (λ z. holds lower (int_cmp low z) && holds upper (int_cmp z high)) (map T.whole items.now) }
 {
-    let (lower, upper) = (options.lower_operator(), options.upper_operator());
     for row in 0..items.len() {
         let whole = items[row].to_whole();
         bits[row] = lower.holds(low.cmp(&whole)) & upper.holds(whole.cmp(&high));

@@ -11,7 +11,7 @@ ghost use Rattle.vx_rules.specs.Patterns.{liked};
 
 use super::cells::{cell_liked, items_of, row_liked};
 use crate::lent::{Lent, same_bytes};
-use crate::truths::Truths;
+use crate::truths::{Truths, TruthsBuilder};
 use std::alloc::Global;
 use vx_base::VortexResult;
 use vx_rules::LikeOptions;
@@ -32,7 +32,7 @@ pub(super) fn liked_rows(
 {
     // Without rows nothing says that the bytes of a constant are a text.
     if texts.len() == 0 {
-        return Truths::with_capacity(alloc, 0);
+        return Ok(TruthsBuilder::with_capacity(alloc, 0)?.finish());
     }
     match same_bytes(patterns) {
         Some(pattern) => liked_by_one(alloc, texts, pattern, options),
@@ -53,11 +53,11 @@ fn liked_by_one(
     ensures { Answers result (map (λ v. liked options v (bytes pattern.now)) (lent_rows texts.entry)) }
 {
     let items = items_of(alloc, pattern)?;
-    let mut truths = Truths::with_capacity(alloc, texts.len())?;
+    let mut truths = TruthsBuilder::with_capacity(alloc, texts.len())?;
     for row in 0..texts.len() {
         truths.push(cell_liked(alloc, texts.cell(row), items.as_slice(), options)?)?;
     }
-    Ok(truths)
+    Ok(truths.finish())
 }
 
 // Whether each text matches the pattern of its row.
@@ -74,10 +74,9 @@ fn liked_by_each(
     requires utf8_patterns { IsTrue (list_all has_text (lent_rows patterns)) }
     ensures { Answers result (liked_rows options (lent_rows texts.entry) (lent_rows patterns.entry)) }
 {
-    let _rows = patterns.len();
-    let mut truths = Truths::with_capacity(alloc, texts.len())?;
+    let mut truths = TruthsBuilder::with_capacity(alloc, texts.len())?;
     for row in 0..texts.len() {
         truths.push(row_liked(alloc, texts.cell(row), patterns.cell(row), options)?)?;
     }
-    Ok(truths)
+    Ok(truths.finish())
 }

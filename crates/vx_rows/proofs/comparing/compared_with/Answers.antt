@@ -1,41 +1,46 @@
 use Rattle.std.proofs.Common.{◌≡◌, ◌∙◌, ap, length, sym}
-use Rattle.std.specs.Prelude.{replicate}
 use Rattle.std.specs.List.{list_all}
-use Rattle.vx_base.specs.PlainScalar.{fits}
-use Rattle.vx_base.specs.PlainType.{is_flat}
-use Rattle.vx_base.specs.TypeOf.{type_of}
-use Rattle.vx_model.specs.Column.{column}
-use Rattle.vx_model.specs.Rows.{rows}
-use Rattle.vx_model.specs.TreeType.{tree_type}
-use Rattle.vx_rows.specs.Readable.{lent_rows}
+use Rattle.std.specs.Prelude.{replicate}
 use Rattle.std.proofs.lemmas.List.{length-replicate}
-use Rattle.vx_rules.specs.Comparisons.{comparison}
-use Rattle.vx_rows.proofs.AnswerLemmas.{answer-along, comparable-flat}
+use Rattle.vx_base.specs.PlainScalar.{fits}
+use Rattle.vx_base.specs.PlainType as types
+use Rattle.vx_base.specs.PlainType.{is_flat, nullability_of, or_nullable}
+use Rattle.vx_model.specs.Column.{column, column_of, IsColumn}
+use Rattle.vx_model.specs.TreeType.{tree_type}
+use Rattle.vx_rules.specs.Operations.{repeated}
+use Rattle.vx_rows.specs.Readable.{held, lent_rows}
+use Rattle.vx_rows.proofs.AnswerLemmas.{comparable-flat, compared-fit, compared-made}
+use Rattle.vx_rows.proofs.ReadLemmas.{read-column}
 use Rattle.vx_rows.proofs.comparing.compared_with.Goals as goal
 
-pub same_rows-others-requires : goal.same_rows-others-requires
-same_rows-others-requires c = (comparable-flat (tree_type c.args.array.now) c.args.value.now.dtype c.requires.types).1
-
 pub readable-read-requires : goal.readable-read-requires
-readable-read-requires c = (comparable-flat (tree_type c.args.array.now) c.args.value.now.dtype c.requires.types).0
+readable-read-requires c = (comparable-flat (tree_type c.args.array.now) c.args.value.now.dtype c.requires).0
 
 pub rows_of-rows-requires-clause-flat : goal.rows_of-rows-requires-clause-flat
-rows_of-rows-requires-clause-flat c = ap is_flat c.in_ok-read.ensures.dtype ∙ (comparable-flat (tree_type c.args.array.now) c.args.value.now.dtype c.requires.types).0
+rows_of-rows-requires-clause-flat c = ap is_flat c.in_ok-read.ensures.dtype ∙ (comparable-flat (tree_type c.args.array.now) c.args.value.now.dtype c.requires).0
 
 pub rows_of-rows-requires-clause-readable : goal.rows_of-rows-requires-clause-readable
 rows_of-rows-requires-clause-readable c = c.in_ok-read.ensures.readable
 
-pub compared_columns-requires-clause-lengths : goal.compared_columns-requires-clause-lengths
-compared_columns-requires-clause-lengths c = ap length (c.rows_of-rows.ensures.rows ∙ c.in_ok-read.ensures.rows) ∙ sym (ap length c.same_rows-others.ensures.rows ∙ length-replicate c.len-len.result c.args.value.now.value ∙ c.len-len.ensures)
+pub same_rows-others-requires : goal.same_rows-others-requires
+same_rows-others-requires c = (comparable-flat (tree_type c.args.array.now) c.args.value.now.dtype c.requires).1
 
-pub compared_columns-requires-clause-left_fit : goal.compared_columns-requires-clause-left_fit
-compared_columns-requires-clause-left_fit c = ap (λ t. list_all (fits t) (lent_rows c.rows_of-rows.result)) (c.dtype-dtype.ensures ∙ sym c.in_ok-read.ensures.dtype) ∙ c.rows_of-rows.ensures.fit
+pub compared_rows-truths-requires-clause-lengths : goal.compared_rows-truths-requires-clause-lengths
+compared_rows-truths-requires-clause-lengths c = ap length (c.rows_of-rows.ensures.rows ∙ c.in_ok-read.ensures.rows) ∙ sym (ap length c.same_rows-others.ensures.rows ∙ length-replicate c.len.result c.args.value.now.value ∙ c.len.ensures)
 
-pub compared_columns-requires-clause-right_fit : goal.compared_columns-requires-clause-right_fit
-compared_columns-requires-clause-right_fit c = ap (λ t. list_all (fits t) (lent_rows c.same_rows-others.result)) c.dtype-value_type.ensures ∙ c.same_rows-others.ensures.fit
+pub into_tree-requires : goal.into_tree-requires
+into_tree-requires c = 
+    let n = c.either_nullability-nullability.result in
+    let e = c.either_nullability-nullability.ensures ∙ (λ i. or_nullable (nullability_of (c.dtype.ensures i)) (nullability_of (c.dtype-2.ensures i))) in
+    let l = c.rows_of-rows.ensures.rows ∙ c.in_ok-read.ensures.rows in
+    let r = c.same_rows-others.ensures.rows ∙ ap (λ k. replicate k c.args.value.now.value) c.len.ensures in
+    ap (list_all (fits (types.boolean n))) c.in_ok-truths.ensures
+    ∙ compared-fit (column_of c.args.array.now) (repeated c.args.value.now (column_of c.args.array.now)) n _ _ e l r c.args.operator (read-column c.args.array.now (held c.in_ok-read.read) (lent_rows c.rows_of-rows.result) c.in_ok-read.ensures c.rows_of-rows.ensures.rows c.rows_of-rows.ensures.fit) (sym (ap (list_all (fits c.args.value.now.dtype)) (c.same_rows-others.ensures.rows ∙ ap (λ k. replicate k c.args.value.now.value) c.len.ensures)) ∙ c.same_rows-others.ensures.fit)
 
 pub returns : goal.returns
-returns c =
+returns c = 
+    let n = c.either_nullability-nullability.result in
+    let e = c.either_nullability-nullability.ensures ∙ (λ i. or_nullable (nullability_of (c.dtype.ensures i)) (nullability_of (c.dtype-2.ensures i))) in
     let l = c.rows_of-rows.ensures.rows ∙ c.in_ok-read.ensures.rows in
-    let r = (c.same_rows-others.ensures.rows ∙ ap (λ n. replicate n c.args.value.now.value) c.len-len.ensures) in
-    answer-along c.compared_columns.result _ _ (λ i. comparison c.args.operator (column (c.dtype-dtype.ensures i) (l i)) (column (c.dtype-value_type.ensures i) (r i))) c.compared_columns.ensures
+    let r = c.same_rows-others.ensures.rows ∙ ap (λ k. replicate k c.args.value.now.value) c.len.ensures in
+    compared-made (column_of c.args.array.now) (repeated c.args.value.now (column_of c.args.array.now)) n _ _ e l r c.args.operator _ (c.into_tree.ensures ∙ ap (column (types.boolean n)) c.in_ok-truths.ensures)

@@ -1,10 +1,5 @@
-use Rattle.std.proofs.Common.{◌≡◌, ◌∙◌, ap, arith, map, sym}
-use Rattle.std.specs.List.{list_all}
-use Rattle.vx_base.specs.PlainScalar.{fits}
-use Rattle.vx_base.specs.PlainType as types
-use Rattle.vx_model.specs.Column.{column}
+use Rattle.std.proofs.Common.{◌≡◌, ◌∙◌, arith}
 use Rattle.vx_rules.specs.Comparisons.{negated}
-use Rattle.vx_rows.proofs.AnswerLemmas.{negated-fit}
 use Rattle.vx_rows.proofs.PairLemmas.{maps-all, maps-more}
 use Rattle.vx_rows.specs.Readable.{lent_rows}
 use Rattle.vx_rows.proofs.negating.negated_cells.Goals as goal
@@ -12,8 +7,5 @@ use Rattle.vx_rows.proofs.negating.negated_cells.Goals as goal
 pub loop-row-preserved : goal.loop-row-preserved
 loop-row-preserved c = c.in_ok-push.ensures ∙ maps-more negated (lent_rows c.args.rows) c.loop-row.truths c.loop-row.row _ _ (omega (arith, c.len-row-end.ensures)) c.cell.ensures c.negated.ensures c.loop-row.invariant
 
-pub into_tree-requires : goal.into_tree-requires
-into_tree-requires c = ap (list_all (fits (types.boolean c.args.nullability))) (c.loop-row.invariant ∙ maps-all negated (lent_rows c.args.rows) c.loop-row.row (omega (arith, c.len-row-end.ensures))) ∙ negated-fit c.args.nullability (lent_rows c.args.rows) c.requires.fit
-
 pub returns : goal.returns
-returns c = c.into_tree.ensures ∙ ap (column (types.boolean c.args.nullability)) (c.loop-row.invariant ∙ maps-all negated (lent_rows c.args.rows) c.loop-row.row (omega (arith, c.len-row-end.ensures)))
+returns c = c.finish.ensures ∙ c.loop-row.invariant ∙ maps-all negated (lent_rows c.args.rows) c.loop-row.row (omega (arith, c.len-row-end.ensures))

@@ -1,15 +1,13 @@
 use Rattle.std.proofs.Common.{◌≡◌, ◌∙◌, ap, length, sym}
-use Rattle.std.specs.Prelude.{replicate}
 use Rattle.std.specs.List.{list_all}
 use Rattle.vx_base.specs.PlainScalar.{fits}
-use Rattle.vx_base.specs.PlainType.{is_flat}
-use Rattle.vx_base.specs.TypeOf.{type_of}
-use Rattle.vx_model.specs.Column.{column}
-use Rattle.vx_model.specs.Rows.{rows}
+use Rattle.vx_base.specs.PlainType as types
+use Rattle.vx_base.specs.PlainType.{is_flat, nullability_of, or_nullable}
+use Rattle.vx_model.specs.Column.{column, column_of, IsColumn}
 use Rattle.vx_model.specs.TreeType.{tree_type}
-use Rattle.vx_rows.specs.Readable.{lent_rows}
-use Rattle.vx_rules.specs.Comparisons.{between}
-use Rattle.vx_rows.proofs.AnswerLemmas.{answer-along, comparable-flat}
+use Rattle.vx_rows.specs.Readable.{held, lent_rows}
+use Rattle.vx_rows.proofs.AnswerLemmas.{comparable-flat, within-fit, within-made}
+use Rattle.vx_rows.proofs.ReadLemmas.{read-column}
 use Rattle.vx_rows.proofs.ranging.trees_within.Goals as goal
 
 pub readable-read-requires : goal.readable-read-requires
@@ -39,25 +37,28 @@ rows_of-highs-requires-clause-flat c = ap is_flat c.in_ok-high_read.ensures.dtyp
 pub rows_of-highs-requires-clause-readable : goal.rows_of-highs-requires-clause-readable
 rows_of-highs-requires-clause-readable c = c.in_ok-high_read.ensures.readable
 
-pub columns_within-requires-clause-lows : goal.columns_within-requires-clause-lows
-columns_within-requires-clause-lows c = ap length (c.rows_of-rows.ensures.rows ∙ c.in_ok-read.ensures.rows) ∙ c.requires.lows ∙ sym (ap length (c.rows_of-lows.ensures.rows ∙ c.in_ok-low_read.ensures.rows))
+pub rows_within-truths-requires-clause-lows : goal.rows_within-truths-requires-clause-lows
+rows_within-truths-requires-clause-lows c = ap length (c.rows_of-rows.ensures.rows ∙ c.in_ok-read.ensures.rows) ∙ c.requires.lows ∙ sym (ap length (c.rows_of-lows.ensures.rows ∙ c.in_ok-low_read.ensures.rows))
 
-pub columns_within-requires-clause-highs : goal.columns_within-requires-clause-highs
-columns_within-requires-clause-highs c = ap length (c.rows_of-rows.ensures.rows ∙ c.in_ok-read.ensures.rows) ∙ c.requires.highs ∙ sym (ap length (c.rows_of-highs.ensures.rows ∙ c.in_ok-high_read.ensures.rows))
+pub rows_within-truths-requires-clause-highs : goal.rows_within-truths-requires-clause-highs
+rows_within-truths-requires-clause-highs c = ap length (c.rows_of-rows.ensures.rows ∙ c.in_ok-read.ensures.rows) ∙ c.requires.highs ∙ sym (ap length (c.rows_of-highs.ensures.rows ∙ c.in_ok-high_read.ensures.rows))
 
-pub columns_within-requires-clause-fit : goal.columns_within-requires-clause-fit
-columns_within-requires-clause-fit c = ap (λ t. list_all (fits t) (lent_rows c.rows_of-rows.result)) (c.dtype-dtype.ensures ∙ sym c.in_ok-read.ensures.dtype) ∙ c.rows_of-rows.ensures.fit
-
-pub columns_within-requires-clause-low_fit : goal.columns_within-requires-clause-low_fit
-columns_within-requires-clause-low_fit c = ap (λ t. list_all (fits t) (lent_rows c.rows_of-lows.result)) (c.dtype-low_type.ensures ∙ sym c.in_ok-low_read.ensures.dtype) ∙ c.rows_of-lows.ensures.fit
-
-pub columns_within-requires-clause-high_fit : goal.columns_within-requires-clause-high_fit
-columns_within-requires-clause-high_fit c = ap (λ t. list_all (fits t) (lent_rows c.rows_of-highs.result)) (c.dtype-high_type.ensures ∙ sym c.in_ok-high_read.ensures.dtype) ∙ c.rows_of-highs.ensures.fit
+pub into_tree-requires : goal.into_tree-requires
+into_tree-requires c = 
+    let n = c.nullability_within-nullability.result in
+    let e = c.nullability_within-nullability.ensures ∙ (λ i. or_nullable (nullability_of (c.dtype.ensures i)) (or_nullable (nullability_of (c.dtype-2.ensures i)) (nullability_of (c.dtype-3.ensures i)))) in
+    let r = c.rows_of-rows.ensures.rows ∙ c.in_ok-read.ensures.rows in
+    let l = c.rows_of-lows.ensures.rows ∙ c.in_ok-low_read.ensures.rows in
+    let h = c.rows_of-highs.ensures.rows ∙ c.in_ok-high_read.ensures.rows in
+    ap (list_all (fits (types.boolean n))) c.in_ok-truths.ensures
+    ∙ within-fit (column_of c.args.array.now) (column_of c.args.low.now) (column_of c.args.high.now) n _ _ _ e r l h c.args.options (read-column c.args.array.now (held c.in_ok-read.read) (lent_rows c.rows_of-rows.result) c.in_ok-read.ensures c.rows_of-rows.ensures.rows c.rows_of-rows.ensures.fit)
+    (read-column c.args.low.now (held c.in_ok-low_read.low_read) (lent_rows c.rows_of-lows.result) c.in_ok-low_read.ensures c.rows_of-lows.ensures.rows c.rows_of-lows.ensures.fit) (read-column c.args.high.now (held c.in_ok-high_read.high_read) (lent_rows c.rows_of-highs.result) c.in_ok-high_read.ensures c.rows_of-highs.ensures.rows c.rows_of-highs.ensures.fit)
 
 pub returns : goal.returns
-returns c =
-    let l = (c.rows_of-rows.ensures.rows ∙ c.in_ok-read.ensures.rows) in
-    let low = (c.rows_of-lows.ensures.rows ∙ c.in_ok-low_read.ensures.rows) in
-    let high = (c.rows_of-highs.ensures.rows ∙ c.in_ok-high_read.ensures.rows) in
-    answer-along c.columns_within.result _ _
-    (λ i. between c.args.options (column (c.dtype-dtype.ensures i) (l i)) (column (c.dtype-low_type.ensures i) (low i)) (column (c.dtype-high_type.ensures i) (high i))) c.columns_within.ensures
+returns c = 
+    let n = c.nullability_within-nullability.result in
+    let e = c.nullability_within-nullability.ensures ∙ (λ i. or_nullable (nullability_of (c.dtype.ensures i)) (or_nullable (nullability_of (c.dtype-2.ensures i)) (nullability_of (c.dtype-3.ensures i)))) in
+    let r = c.rows_of-rows.ensures.rows ∙ c.in_ok-read.ensures.rows in
+    let l = c.rows_of-lows.ensures.rows ∙ c.in_ok-low_read.ensures.rows in
+    let h = c.rows_of-highs.ensures.rows ∙ c.in_ok-high_read.ensures.rows in
+    within-made (column_of c.args.array.now) (column_of c.args.low.now) (column_of c.args.high.now) n _ _ _ e r l h c.args.options _ (c.into_tree.ensures ∙ ap (column (types.boolean n)) c.in_ok-truths.ensures)

@@ -18,4 +18,4 @@ loop-row-preserved c =
     ∙ pairs-more (liked c.args.options) (lent_rows c.args.texts) (lent_rows c.args.patterns) c.loop-row.truths c.loop-row.row _ _ _ (omega (arith, c.len-row-end.ensures)) c.requires.lengths c.cell.ensures c.cell-2.ensures c.in_ok-row_liked.ensures c.loop-row.invariant
 
 pub returns : goal.returns
-returns c = c.loop-row.invariant ∙ pairs-all (liked c.args.options) (lent_rows c.args.texts) (lent_rows c.args.patterns) c.loop-row.row (omega (arith, c.len-row-end.ensures)) c.requires.lengths
+returns c = c.finish.ensures ∙ c.loop-row.invariant ∙ pairs-all (liked c.args.options) (lent_rows c.args.texts) (lent_rows c.args.patterns) c.loop-row.row (omega (arith, c.len-row-end.ensures)) c.requires.lengths

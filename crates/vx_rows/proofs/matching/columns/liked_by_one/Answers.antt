@@ -19,4 +19,4 @@ loop-row-preserved c =
     (c.in_ok-cell_liked.ensures ∙ liked-items c.args.options _ c.args.pattern.now _ (ap (map plain_item) c.as_slice.ensures.value ∙ c.in_ok-items.ensures)) c.loop-row.invariant
 
 pub returns : goal.returns
-returns c = c.loop-row.invariant ∙ maps-all (λ v. liked c.args.options v (bytes c.args.pattern.now)) (lent_rows c.args.texts) c.loop-row.row (omega (arith, c.len-row-end.ensures))
+returns c = c.finish.ensures ∙ c.loop-row.invariant ∙ maps-all (λ v. liked c.args.options v (bytes c.args.pattern.now)) (lent_rows c.args.texts) c.loop-row.row (omega (arith, c.len-row-end.ensures))
