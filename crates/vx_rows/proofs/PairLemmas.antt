@@ -1,6 +1,6 @@
 -- Rows of two lists side by side: one row further, and their number.
-use Rattle.std.proofs.Common.{◌≡◌, ◌<◌, ◌≤◌, ◌∙◌, ℕ, zero, suc, ◌+◌, List, [], ◌∷◌, ◌++◌, map, take, length, get_or, refl, sym, ap, arith, add-one}
-use Rattle.std.proofs.lemmas.List.{take_all}
+use Rattle.std.proofs.Common.{◌≡◌, ◌<◌, ◌≤◌, ◌∙◌, ℕ, zero, suc, ◌+◌, List, [], ◌∷◌, ◌++◌, map, take, length, get_or, set, refl, sym, ap, arith, add-one}
+use Rattle.std.proofs.lemmas.List.{take_all, take_more_set}
 use Rattle.vx_base.specs.PlainValue.{PlainValue}
 use Rattle.vx_model.specs.Rows.{row_at}
 use Rattle.vx_rows.specs.Pairs.{each_pair}
@@ -42,6 +42,14 @@ pairs-more f xs ys done i v w out h e a b o d = (λ j. d j ++ (o ∙ (λ k. f (a
 pub pairs-all : (f : PlainValue → PlainValue → PlainValue) (xs ys : List PlainValue) (i : ℕ) → length xs ≤ i → length xs ≡ length ys → each_pair f (take i xs) (take i ys) ≡ each_pair f xs ys
 pairs-all f xs ys i h e = λ j. each_pair f (take_all i xs h j) (take_all i ys (omega arith) j)
 
+-- the rows up to one place, in a list where that place is set
+pub pairs-set : (f : PlainValue → PlainValue → PlainValue) (xs ys done : List PlainValue) (i : ℕ) (v w out : PlainValue) → i < length xs → length xs ≡ length ys → length done ≡ length xs → v ≡ row_at xs i → w ≡ row_at ys i
+    → out ≡ f v w → take i done ≡ each_pair f (take i xs) (take i ys) → take (i + 1) (set done i out) ≡ each_pair f (take (i + 1) xs) (take (i + 1) ys)
+pairs-set f xs ys done i v w out h e l a b o d = take_more_set done i out (omega arith) ∙ pairs-more f xs ys (take i done) i v w out h e a b o d
+
+pub pairs-done : (f : PlainValue → PlainValue → PlainValue) (xs ys done : List PlainValue) (i : ℕ) → length xs ≤ i → length xs ≡ length ys → length done ≡ length xs → take i done ≡ each_pair f (take i xs) (take i ys) → done ≡ each_pair f xs ys
+pairs-done f xs ys done i h e l d = sym (take_all i done (omega arith)) ∙ d ∙ pairs-all f xs ys i h e
+
 next-mapped : {C : Type 0} (f : PlainValue → C) (xs : List PlainValue) (i : ℕ) → i < length xs → map f (take (suc i) xs) ≡ map f (take i xs) ++ f (row_at xs i) ∷ []
 next-mapped f [] i h = absurd (omega arith)
 next-mapped f (a ∷ xs) zero h = refl
@@ -52,3 +60,9 @@ maps-more f xs done i v out h a o d = (λ j. d j ++ (o ∙ ap f a) j ∷ []) ∙
 
 pub maps-all : {C : Type 0} (f : PlainValue → C) (xs : List PlainValue) (i : ℕ) → length xs ≤ i → map f (take i xs) ≡ map f xs
 maps-all f xs i h = ap (map f) (take_all i xs h)
+
+pub maps-set : {C : Type 0} (f : PlainValue → C) (xs : List PlainValue) (done : List C) (i : ℕ) (v : PlainValue) (out : C) → i < length xs → length done ≡ length xs → v ≡ row_at xs i → out ≡ f v → take i done ≡ map f (take i xs) → take (i + 1) (set done i out) ≡ map f (take (i + 1) xs)
+maps-set f xs done i v out h l a o d = take_more_set done i out (omega arith) ∙ maps-more f xs (take i done) i v out h a o d
+
+pub maps-done : {C : Type 0} (f : PlainValue → C) (xs : List PlainValue) (done : List C) (i : ℕ) → length xs ≤ i → length done ≡ length xs → take i done ≡ map f (take i xs) → done ≡ map f xs
+maps-done f xs done i h l d = sym (take_all i done (omega arith)) ∙ d ∙ maps-all f xs i h

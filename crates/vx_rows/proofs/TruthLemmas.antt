@@ -1,9 +1,9 @@
--- Truth values and their validity: one row further, and as a tree.
-use Rattle.std.proofs.Common.{◌≡◌, ◌∙◌, Bool, true, false, cond, ℕ, List, [], ◌∷◌, ◌++◌, map, length, Option, Some, None, refl, sym, ap, arith, unwrap_or}
-use Rattle.std.specs.Prelude.{◌||◌, ◌&&◌, is_some}
+-- Truth values and their validity: rows that are set, two columns, and as a tree.
+use Rattle.std.proofs.Common.{◌≡◌, ◌∙◌, Bool, true, false, cond, ℕ, zero, suc, List, [], ◌∷◌, map, length, set, Option, Some, None, refl, sym, ap, arith, unwrap_or}
+use Rattle.std.specs.Prelude.{◌&&◌, is_some, replicate}
 use Rattle.std.specs.List.{list_all}
 use Rattle.std.proofs.lemmas.Bool.{and_parts, eq-eqb, eqb-true}
-use Rattle.std.proofs.lemmas.List.{length-map, map-append}
+use Rattle.std.proofs.lemmas.List.{length-map}
 use Rattle.vx_base.specs.declared.dtype.Nullability.{Nullability}
 use Rattle.vx_base.specs.declared.dtype.Nullability.TheVariants.{NonNullable, Nullable}
 use Rattle.vx_base.specs.PlainScalar.{fits}
@@ -19,24 +19,26 @@ use Rattle.vx_rows.specs.Truths.{truth_or_null}
 use Rattle.vx_rows.proofs.PairLemmas.{length-each_pair}
 use Rattle.vx_rows.proofs.ValidLemmas.{pair-valid}
 
--- ---- one row further
+-- ---- rows that are set
 
-next : (bits : List Bool) (xs : List PlainValue) (b : Bool) (v : PlainValue) → length bits ≡ length xs → masked_rows (bits ++ b ∷ []) (xs ++ v ∷ []) ≡ masked_rows bits xs ++ cond b v null ∷ []
-next [] [] b v e = refl
-next [] (x ∷ xs) b v e = absurd (omega arith)
-next (c ∷ bits) [] b v e = absurd (omega arith)
-next (c ∷ bits) (x ∷ xs) b v e = ap (λ rs. cond c x null ∷ rs) (next bits xs b v (omega arith))
+nulls-are : (n : ℕ) → masked_rows (replicate n false) (map truth (replicate n false)) ≡ replicate n null
+nulls-are zero = refl
+nulls-are (suc n) = ap (λ rs. null ∷ rs) (nulls-are n)
+
+pub nulls : (valid values : List Bool) (n : ℕ) → valid ≡ replicate n false → values ≡ replicate n false → masked_rows valid (map truth values) ≡ replicate n null
+nulls valid values n e f = (λ i. masked_rows (e i) (map truth (f i))) ∙ nulls-are n
 
 row-is : (row : Option Bool) → cond (is_some row) (truth (unwrap_or row false)) null ≡ truth_or_null row
 row-is None = refl
 row-is (Some b) = refl
 
-pub pushed : (valid values : List Bool) (row : Option Bool) → length valid ≡ length values
-    → masked_rows (valid ++ is_some row ∷ []) (map truth (values ++ unwrap_or row false ∷ [])) ≡ masked_rows valid (map truth values) ++ truth_or_null row ∷ []
-pushed valid values row e =
-    ap (masked_rows (valid ++ is_some row ∷ [])) (map-append truth values (unwrap_or row false ∷ []))
-    ∙ next valid (map truth values) (is_some row) (truth (unwrap_or row false)) (e ∙ sym (length-map values truth))
-    ∙ ap (λ r. masked_rows valid (map truth values) ++ r ∷ []) (row-is row)
+pub set-rows : (valid values : List Bool) (i : ℕ) (row : Option Bool) → length valid ≡ length values
+    → masked_rows (set valid i (is_some row)) (map truth (set values i (unwrap_or row false))) ≡ set (masked_rows valid (map truth values)) i (truth_or_null row)
+set-rows [] [] i row e = refl
+set-rows [] (v ∷ values) i row e = absurd (omega arith)
+set-rows (b ∷ valid) [] i row e = absurd (omega arith)
+set-rows (b ∷ valid) (v ∷ values) zero row e = λ j. row-is row j ∷ masked_rows valid (map truth values)
+set-rows (b ∷ valid) (v ∷ values) (suc i) row e = ap (λ rs. cond b (truth v) null ∷ rs) (set-rows valid values i row (omega arith))
 
 -- ---- rows by the one form of their validity
 
@@ -93,4 +95,4 @@ both-long (Some bits) None n m k h l e f = ap (validity_length (Some bits)) f �
 both-long (Some bits) (Some others) n m k h l e f =
     let left = eqb-true (length bits) n h in
     let right = eqb-true (length others) m l in
-    eq-eqb (length-each_pair (λ a b. a && b) bits others (left ∙ e ∙ sym right) ∙ left ∙ sym f)
+    eq-eqb (length (each_pair (λ a b. a && b) bits others)) k (length-each_pair (λ a b. a && b) bits others (left ∙ e ∙ sym right) ∙ left ∙ sym f)

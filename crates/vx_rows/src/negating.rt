@@ -77,9 +77,9 @@ fn negated_cells(alloc: Global, rows: Lent<'_>) -> VortexResult<Truths>
     requires { IsTrue (is_whole rows) }
     ensures { Answers result (map negated (lent_rows rows.entry)) }
 {
-    let mut truths = TruthsBuilder::with_capacity(alloc, rows.len())?;
+    let mut truths = TruthsBuilder::nulls(alloc, rows.len())?;
     for row in 0..rows.len() {
-        truths.push(negated(rows.cell(row)))?;
+        truths.set(row, negated(rows.cell(row)));
     }
     Ok(truths.finish())
 }

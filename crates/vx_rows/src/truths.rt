@@ -1,11 +1,11 @@
-//! Truth values with nulls: the rows of an answer, made of bits or pushed one by one, and then a tree.
+//! Truth values with nulls: the rows of an answer, made of bits or set one by one, and then a tree.
 
 ghost use Rattle.std.specs.List.{list_all};
-ghost use Rattle.std.specs.Prelude.{◌≡◌, ◌++◌, ◌∷◌, [], IsTrue, true, length, map};
-ghost use Rattle.vx_base.specs.Answers.{Answers, OrMemory};
+ghost use Rattle.std.specs.Prelude.{◌≡◌, ◌<◌, IsTrue, true, length, map, replicate, slice_set};
+ghost use Rattle.vx_base.specs.Answers.{Answers};
 ghost use Rattle.vx_base.specs.PlainScalar.{fits};
 ghost use Rattle.vx_base.specs.PlainType.{boolean, nullability_of, or_nullable};
-ghost use Rattle.vx_base.specs.PlainValue.{truth};
+ghost use Rattle.vx_base.specs.PlainValue.{null, truth};
 ghost use Rattle.vx_base.specs.TypeOf.{type_of};
 ghost use Rattle.vx_model.specs.Column.{column, column_of};
 ghost use Rattle.vx_model.specs.Refusals.{validity_length};
@@ -69,7 +69,7 @@ impl Truths {
     }
 }
 
-/// Rows that are pushed one by one.
+/// Rows that are set one by one.
 #[derive(Drop)]
 pub(crate) struct TruthsBuilder {
     values: Vec<bool>,
@@ -91,23 +91,24 @@ impl Model for TruthsBuilder {
 }
 
 impl TruthsBuilder {
-    /// No rows, with room for `len` of them.
-    pub(crate) fn with_capacity(alloc: Global, len: u64) -> VortexResult<TruthsBuilder>
-        ensures { Answers result [] }
+    /// `len` rows, each null.
+    #[tactic(auto, using(crate::proofs::TruthLemmas::nulls))]
+    pub(crate) fn nulls(alloc: Global, len: u64) -> VortexResult<TruthsBuilder>
+        ensures { Answers result (replicate len null) }
     {
-        let values = Vec::with_capacity(alloc, len as usize)?;
-        let valid = Vec::with_capacity(alloc, len as usize)?;
+        let values = vec![in alloc; false; len as usize]?;
+        let valid = vec![in alloc; false; len as usize]?;
         Ok(TruthsBuilder { values, valid })
     }
 
-    /// Appends a row, null of None.
-    #[tactic(auto, using(crate::proofs::TruthLemmas::pushed))]
-    pub(crate) fn push(&mut self, row: Option<bool>) -> VortexResult<()>
-        ensures { OrMemory result (λ _. self.new ≡ self.old ++ truth_or_null row ∷ []) }
+    /// Sets a row, null of None.
+    pub(crate) fn set(&mut self, row: u64, value: Option<bool>)
+        requires { row < length self.old }
+        ensures { self.new ≡ slice_set self.old row (truth_or_null value) }
     {
-        self.values.push(row.unwrap_or(false))?;
-        self.valid.push(row.is_some())?;
-        Ok(())
+        let row = row as usize;
+        self.values[row] = value.unwrap_or(false);
+        self.valid[row] = value.is_some();
     }
 
     pub(crate) fn finish(self) -> Truths

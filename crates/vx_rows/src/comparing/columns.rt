@@ -114,9 +114,9 @@ fn compared_cells(
     requires lengths { length (lent_rows left) ≡ length (lent_rows right) }
     ensures { Answers result (compared_rows operator (lent_rows left.entry) (lent_rows right.entry)) }
 {
-    let mut truths = TruthsBuilder::with_capacity(alloc, left.len())?;
+    let mut truths = TruthsBuilder::nulls(alloc, left.len())?;
     for row in 0..left.len() {
-        truths.push(compared(operator, left.cell(row), right.cell(row)))?;
+        truths.set(row, compared(operator, left.cell(row), right.cell(row)));
     }
     Ok(truths.finish())
 }

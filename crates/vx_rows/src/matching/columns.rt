@@ -32,7 +32,7 @@ pub(super) fn liked_rows(
 {
     // Without rows nothing says that the bytes of a constant are a text.
     if texts.len() == 0 {
-        return Ok(TruthsBuilder::with_capacity(alloc, 0)?.finish());
+        return Ok(TruthsBuilder::nulls(alloc, 0)?.finish());
     }
     match same_bytes(patterns) {
         Some(pattern) => liked_by_one(alloc, texts, pattern, options),
@@ -53,9 +53,10 @@ fn liked_by_one(
     ensures { Answers result (map (λ v. liked options v (bytes pattern.now)) (lent_rows texts.entry)) }
 {
     let items = items_of(alloc, pattern)?;
-    let mut truths = TruthsBuilder::with_capacity(alloc, texts.len())?;
+    let mut truths = TruthsBuilder::nulls(alloc, texts.len())?;
     for row in 0..texts.len() {
-        truths.push(cell_liked(alloc, texts.cell(row), items.as_slice(), options)?)?;
+        let answer = cell_liked(alloc, texts.cell(row), items.as_slice(), options)?;
+        truths.set(row, answer);
     }
     Ok(truths.finish())
 }
@@ -74,9 +75,10 @@ fn liked_by_each(
     requires utf8_patterns { IsTrue (list_all has_text (lent_rows patterns)) }
     ensures { Answers result (liked_rows options (lent_rows texts.entry) (lent_rows patterns.entry)) }
 {
-    let mut truths = TruthsBuilder::with_capacity(alloc, texts.len())?;
+    let mut truths = TruthsBuilder::nulls(alloc, texts.len())?;
     for row in 0..texts.len() {
-        truths.push(row_liked(alloc, texts.cell(row), patterns.cell(row), options)?)?;
+        let answer = row_liked(alloc, texts.cell(row), patterns.cell(row), options)?;
+        truths.set(row, answer);
     }
     Ok(truths.finish())
 }

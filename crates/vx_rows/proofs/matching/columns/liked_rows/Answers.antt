@@ -24,4 +24,4 @@ returns-in-Some c =
     or-map c.liked_by_one.result _ _ (λ truths e. e ∙ sym same) c.liked_by_one.ensures
 
 pub returns-then-len-eq0 : goal.returns-then-len-eq0
-returns-then-len-eq0 c = c.finish.ensures ∙ c.in_ok-with_capacity.ensures ∙ no-rows c.args.options (lent_rows c.args.texts) (lent_rows c.args.patterns) (omega (arith, c.len.ensures, c.if-len-eq0.true))
+returns-then-len-eq0 c = c.finish.ensures ∙ c.in_ok-nulls.ensures ∙ no-rows c.args.options (lent_rows c.args.texts) (lent_rows c.args.patterns) (omega (arith, c.len.ensures, c.if-len-eq0.true))
