@@ -1,6 +1,6 @@
 -- What the row functions answer, by the rows that they read: of the type and rows of their rules, and each row of its type.
-use Rattle.std.proofs.Common.{◌≡◌, ◌∙◌, ℕ, ℤ, Bool, true, false, List, [], ◌∷◌, map, length, refl, sym, ap}
-use Rattle.std.specs.Prelude.{◌&&◌, ◌||◌, cond, replicate, Result, Ok, Err}
+use Rattle.std.proofs.Common.{◌≡◌, ◌∙◌, ℕ, ℤ, Bool, true, false, List, [], ◌∷◌, map, length, refl, sym, ap, cond, Option, Some, None, unwrap_or}
+use Rattle.std.specs.Prelude.{◌&&◌, ◌||◌, IfSome, replicate, Result, Ok, Err}
 use Rattle.std.specs.declared.cmp.Ordering.{Ordering}
 use Rattle.std.specs.declared.cmp.Ordering.TheVariants.{Less, Equal, Greater}
 use Rattle.std.specs.Ordering.{int_cmp, ordering_reverse}
@@ -128,6 +128,10 @@ rows-within-wholes options low high valid zs n e =
 pub or-map : {A : Type 0} (r : Result A VortexError) (P Q : A → Type 0) → ((a : A) → P a → Q a) → OrMemory r P → OrMemory r Q
 or-map (Ok a) P Q f h = f a h
 or-map (Err e) P Q f h = h
+
+pub some-equal : {A : Type 0} (found : Option A) (x z : A) → found ≡ Some x → IfSome found (λ y. y ≡ z) → x ≡ z
+some-equal None x z e h = absurd cc
+some-equal (Some y) x z e h = sym (ap (λ o. unwrap_or o x) e) ∙ h
 
 -- the column of an answer, by an equation
 pub answer-along : (r : Result Tree VortexError) (c d : Column) → c ≡ d → OrMemory r (λ out. column_of out ≡ c) → OrMemory r (λ out. column_of out ≡ d)

@@ -6,7 +6,7 @@ ghost use Rattle.vx_base.specs.CellValue.{cell_value};
 ghost use Rattle.vx_base.specs.PlainValue.{int, truth};
 ghost use Rattle.vx_model.specs.Refusals.{validity_length};
 ghost use Rattle.vx_model.specs.Rows.{valid_rows};
-ghost use Rattle.vx_rows.specs.Pairs.{compared_rows, turned, whole_holds};
+ghost use Rattle.vx_rows.specs.Pairs.{both_valid, compared_rows, turned, whole_holds};
 ghost use Rattle.vx_rows.specs.Readable.{is_whole, lent_rows};
 ghost use Rattle.vx_rows.specs.Truths.{truth_or_null};
 ghost use Rattle.vx_rules.specs.Comparisons.{compared};
@@ -74,16 +74,29 @@ fn compared_pairs(
     requires lengths { length (wholes_of values.now) ≡ length (wholes_of others.now) }
     ensures { Answers result (compared_rows operator (valid_rows valid.now (map int (wholes_of values.now))) (valid_rows other_valid.now (map int (wholes_of others.now)))) }
 {
-    match holds_between(alloc, operator, values, others)? {
-        Some(bits) => {
-            let valid = both_valid(alloc, valid, other_valid, values.len())?;
-            Ok(Truths::new(bits, valid))
-        }
+    let found = holds_between(alloc, operator, values, others)?;
+    match found {
+        Some(bits) => with_both_valid(alloc, bits, valid, other_valid),
         None => {
             let (left, right) = (Lent::Ints(values, valid), Lent::Ints(others, other_valid));
             compared_cells(alloc, operator, left, right)
         }
     }
+}
+
+// Bits that are valid where the rows of both columns are.
+fn with_both_valid(
+    alloc: Global,
+    bits: Mask,
+    left: &Option<Mask>,
+    right: &Option<Mask>,
+) -> VortexResult<Truths>
+    requires left { validity_length left.now (length bits) ≡ true }
+    requires right { validity_length right.now (length bits) ≡ true }
+    ensures { Answers result (valid_rows (both_valid left.now right.now) (map truth bits)) }
+{
+    let valid = both_valid(alloc, left, right, bits.len())?;
+    Ok(Truths::new(bits, valid))
 }
 
 // Whether the operator holds between each integer and one other.

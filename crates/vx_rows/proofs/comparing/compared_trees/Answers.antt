@@ -10,8 +10,8 @@ use Rattle.vx_rows.proofs.AnswerLemmas.{comparable-flat, compared-fit, compared-
 use Rattle.vx_rows.proofs.ReadLemmas.{read-column}
 use Rattle.vx_rows.proofs.comparing.compared_trees.Goals as goal
 
-pub readable-left_read-requires : goal.readable-left_read-requires
-readable-left_read-requires c = (comparable-flat (tree_type c.args.left.now) (tree_type c.args.right.now) c.requires.types).0
+pub readable-requires : goal.readable-requires
+readable-requires c = (comparable-flat (tree_type c.args.left.now) (tree_type c.args.right.now) c.requires.types).0
 
 pub rows_of-lefts-requires-clause-flat : goal.rows_of-lefts-requires-clause-flat
 rows_of-lefts-requires-clause-flat c = ap is_flat c.in_ok-left_read.ensures.dtype ∙ (comparable-flat (tree_type c.args.left.now) (tree_type c.args.right.now) c.requires.types).0
@@ -19,8 +19,8 @@ rows_of-lefts-requires-clause-flat c = ap is_flat c.in_ok-left_read.ensures.dtyp
 pub rows_of-lefts-requires-clause-readable : goal.rows_of-lefts-requires-clause-readable
 rows_of-lefts-requires-clause-readable c = c.in_ok-left_read.ensures.readable
 
-pub readable-right_read-requires : goal.readable-right_read-requires
-readable-right_read-requires c = (comparable-flat (tree_type c.args.left.now) (tree_type c.args.right.now) c.requires.types).1
+pub readable-requires-2 : goal.readable-requires-2
+readable-requires-2 c = (comparable-flat (tree_type c.args.left.now) (tree_type c.args.right.now) c.requires.types).1
 
 pub rows_of-rights-requires-clause-flat : goal.rows_of-rights-requires-clause-flat
 rows_of-rights-requires-clause-flat c = ap is_flat c.in_ok-right_read.ensures.dtype ∙ (comparable-flat (tree_type c.args.left.now) (tree_type c.args.right.now) c.requires.types).1
@@ -28,8 +28,8 @@ rows_of-rights-requires-clause-flat c = ap is_flat c.in_ok-right_read.ensures.dt
 pub rows_of-rights-requires-clause-readable : goal.rows_of-rights-requires-clause-readable
 rows_of-rights-requires-clause-readable c = c.in_ok-right_read.ensures.readable
 
-pub compared_rows-truths-requires-clause-lengths : goal.compared_rows-truths-requires-clause-lengths
-compared_rows-truths-requires-clause-lengths c = ap length (c.rows_of-lefts.ensures.rows ∙ c.in_ok-left_read.ensures.rows) ∙ c.requires.lengths ∙ sym (ap length (c.rows_of-rights.ensures.rows ∙ c.in_ok-right_read.ensures.rows))
+pub compared_rows-requires-clause-lengths : goal.compared_rows-requires-clause-lengths
+compared_rows-requires-clause-lengths c = ap length (c.rows_of-lefts.ensures.rows ∙ c.in_ok-left_read.ensures.rows) ∙ c.requires.lengths ∙ sym (ap length (c.rows_of-rights.ensures.rows ∙ c.in_ok-right_read.ensures.rows))
 
 pub into_tree-requires : goal.into_tree-requires
 into_tree-requires c = 

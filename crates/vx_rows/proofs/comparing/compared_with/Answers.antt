@@ -13,8 +13,8 @@ use Rattle.vx_rows.proofs.AnswerLemmas.{comparable-flat, compared-fit, compared-
 use Rattle.vx_rows.proofs.ReadLemmas.{read-column}
 use Rattle.vx_rows.proofs.comparing.compared_with.Goals as goal
 
-pub readable-read-requires : goal.readable-read-requires
-readable-read-requires c = (comparable-flat (tree_type c.args.array.now) c.args.value.now.dtype c.requires).0
+pub readable-requires : goal.readable-requires
+readable-requires c = (comparable-flat (tree_type c.args.array.now) c.args.value.now.dtype c.requires).0
 
 pub rows_of-rows-requires-clause-flat : goal.rows_of-rows-requires-clause-flat
 rows_of-rows-requires-clause-flat c = ap is_flat c.in_ok-read.ensures.dtype ∙ (comparable-flat (tree_type c.args.array.now) c.args.value.now.dtype c.requires).0
@@ -25,8 +25,8 @@ rows_of-rows-requires-clause-readable c = c.in_ok-read.ensures.readable
 pub same_rows-others-requires : goal.same_rows-others-requires
 same_rows-others-requires c = (comparable-flat (tree_type c.args.array.now) c.args.value.now.dtype c.requires).1
 
-pub compared_rows-truths-requires-clause-lengths : goal.compared_rows-truths-requires-clause-lengths
-compared_rows-truths-requires-clause-lengths c = ap length (c.rows_of-rows.ensures.rows ∙ c.in_ok-read.ensures.rows) ∙ sym (ap length c.same_rows-others.ensures.rows ∙ length-replicate c.len.result c.args.value.now.value ∙ c.len.ensures)
+pub compared_rows-requires-clause-lengths : goal.compared_rows-requires-clause-lengths
+compared_rows-requires-clause-lengths c = ap length (c.rows_of-rows.ensures.rows ∙ c.in_ok-read.ensures.rows) ∙ sym (ap length c.same_rows-others.ensures.rows ∙ length-replicate c.len.result c.args.value.now.value ∙ c.len.ensures)
 
 pub into_tree-requires : goal.into_tree-requires
 into_tree-requires c = 

@@ -14,8 +14,8 @@ use Rattle.vx_rows.proofs.ReadLemmas.{read-column}
 use Rattle.vx_rows.proofs.TextLemmas.{text-flat, texts-fit}
 use Rattle.vx_rows.proofs.matching.tree_liked.Goals as goal
 
-pub readable-read-requires : goal.readable-read-requires
-readable-read-requires c = text-flat (tree_type c.args.array.now) c.requires.texts
+pub readable-requires : goal.readable-requires
+readable-requires c = text-flat (tree_type c.args.array.now) c.requires.texts
 
 pub rows_of-texts-requires-clause-flat : goal.rows_of-texts-requires-clause-flat
 rows_of-texts-requires-clause-flat c = ap is_flat c.in_ok-read.ensures.dtype ∙ text-flat (tree_type c.args.array.now) c.requires.texts
@@ -26,14 +26,14 @@ rows_of-texts-requires-clause-readable c = c.in_ok-read.ensures.readable
 pub same_rows-pattern_rows-requires : goal.same_rows-pattern_rows-requires
 same_rows-pattern_rows-requires c = text-flat c.args.pattern.now.dtype c.requires.pattern
 
-pub liked_rows-truths-requires-clause-lengths : goal.liked_rows-truths-requires-clause-lengths
-liked_rows-truths-requires-clause-lengths c = ap length (c.rows_of-texts.ensures.rows ∙ c.in_ok-read.ensures.rows) ∙ sym (ap length c.same_rows-pattern_rows.ensures.rows ∙ length-replicate c.len.result c.args.pattern.now.value ∙ c.len.ensures)
+pub liked_rows-requires-clause-lengths : goal.liked_rows-requires-clause-lengths
+liked_rows-requires-clause-lengths c = ap length (c.rows_of-texts.ensures.rows ∙ c.in_ok-read.ensures.rows) ∙ sym (ap length c.same_rows-pattern_rows.ensures.rows ∙ length-replicate c.len.result c.args.pattern.now.value ∙ c.len.ensures)
 
-pub liked_rows-truths-requires-clause-utf8 : goal.liked_rows-truths-requires-clause-utf8
-liked_rows-truths-requires-clause-utf8 c = texts-fit (tree_type (held c.in_ok-read.read)) (lent_rows c.rows_of-texts.result) (ap is_text c.in_ok-read.ensures.dtype ∙ c.requires.texts) c.rows_of-texts.ensures.fit
+pub liked_rows-requires-clause-utf8 : goal.liked_rows-requires-clause-utf8
+liked_rows-requires-clause-utf8 c = texts-fit (tree_type (held c.in_ok-read.read)) (lent_rows c.rows_of-texts.result) (ap is_text c.in_ok-read.ensures.dtype ∙ c.requires.texts) c.rows_of-texts.ensures.fit
 
-pub liked_rows-truths-requires-clause-utf8_patterns : goal.liked_rows-truths-requires-clause-utf8_patterns
-liked_rows-truths-requires-clause-utf8_patterns c = texts-fit c.args.pattern.now.dtype (lent_rows c.same_rows-pattern_rows.result) c.requires.pattern c.same_rows-pattern_rows.ensures.fit
+pub liked_rows-requires-clause-utf8_patterns : goal.liked_rows-requires-clause-utf8_patterns
+liked_rows-requires-clause-utf8_patterns c = texts-fit c.args.pattern.now.dtype (lent_rows c.same_rows-pattern_rows.result) c.requires.pattern c.same_rows-pattern_rows.ensures.fit
 
 pub into_tree-requires : goal.into_tree-requires
 into_tree-requires c = 

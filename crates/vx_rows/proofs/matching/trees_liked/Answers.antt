@@ -11,8 +11,8 @@ use Rattle.vx_rows.proofs.ReadLemmas.{read-column}
 use Rattle.vx_rows.proofs.TextLemmas.{text-flat, texts-fit}
 use Rattle.vx_rows.proofs.matching.trees_liked.Goals as goal
 
-pub readable-read-requires : goal.readable-read-requires
-readable-read-requires c = text-flat (tree_type c.args.array.now) c.requires.texts
+pub readable-requires : goal.readable-requires
+readable-requires c = text-flat (tree_type c.args.array.now) c.requires.texts
 
 pub rows_of-texts-requires-clause-flat : goal.rows_of-texts-requires-clause-flat
 rows_of-texts-requires-clause-flat c = ap is_flat c.in_ok-read.ensures.dtype ∙ text-flat (tree_type c.args.array.now) c.requires.texts
@@ -20,8 +20,8 @@ rows_of-texts-requires-clause-flat c = ap is_flat c.in_ok-read.ensures.dtype ∙
 pub rows_of-texts-requires-clause-readable : goal.rows_of-texts-requires-clause-readable
 rows_of-texts-requires-clause-readable c = c.in_ok-read.ensures.readable
 
-pub readable-pattern_read-requires : goal.readable-pattern_read-requires
-readable-pattern_read-requires c = text-flat (tree_type c.args.patterns.now) c.requires.patterns
+pub readable-requires-2 : goal.readable-requires-2
+readable-requires-2 c = text-flat (tree_type c.args.patterns.now) c.requires.patterns
 
 pub rows_of-pattern_rows-requires-clause-flat : goal.rows_of-pattern_rows-requires-clause-flat
 rows_of-pattern_rows-requires-clause-flat c = ap is_flat c.in_ok-pattern_read.ensures.dtype ∙ text-flat (tree_type c.args.patterns.now) c.requires.patterns
@@ -29,14 +29,14 @@ rows_of-pattern_rows-requires-clause-flat c = ap is_flat c.in_ok-pattern_read.en
 pub rows_of-pattern_rows-requires-clause-readable : goal.rows_of-pattern_rows-requires-clause-readable
 rows_of-pattern_rows-requires-clause-readable c = c.in_ok-pattern_read.ensures.readable
 
-pub liked_rows-truths-requires-clause-lengths : goal.liked_rows-truths-requires-clause-lengths
-liked_rows-truths-requires-clause-lengths c = ap length (c.rows_of-texts.ensures.rows ∙ c.in_ok-read.ensures.rows) ∙ c.requires.lengths ∙ sym (ap length (c.rows_of-pattern_rows.ensures.rows ∙ c.in_ok-pattern_read.ensures.rows))
+pub liked_rows-requires-clause-lengths : goal.liked_rows-requires-clause-lengths
+liked_rows-requires-clause-lengths c = ap length (c.rows_of-texts.ensures.rows ∙ c.in_ok-read.ensures.rows) ∙ c.requires.lengths ∙ sym (ap length (c.rows_of-pattern_rows.ensures.rows ∙ c.in_ok-pattern_read.ensures.rows))
 
-pub liked_rows-truths-requires-clause-utf8 : goal.liked_rows-truths-requires-clause-utf8
-liked_rows-truths-requires-clause-utf8 c = texts-fit (tree_type (held c.in_ok-read.read)) (lent_rows c.rows_of-texts.result) (ap is_text c.in_ok-read.ensures.dtype ∙ c.requires.texts) c.rows_of-texts.ensures.fit
+pub liked_rows-requires-clause-utf8 : goal.liked_rows-requires-clause-utf8
+liked_rows-requires-clause-utf8 c = texts-fit (tree_type (held c.in_ok-read.read)) (lent_rows c.rows_of-texts.result) (ap is_text c.in_ok-read.ensures.dtype ∙ c.requires.texts) c.rows_of-texts.ensures.fit
 
-pub liked_rows-truths-requires-clause-utf8_patterns : goal.liked_rows-truths-requires-clause-utf8_patterns
-liked_rows-truths-requires-clause-utf8_patterns c = texts-fit (tree_type (held c.in_ok-pattern_read.pattern_read)) (lent_rows c.rows_of-pattern_rows.result) (ap is_text c.in_ok-pattern_read.ensures.dtype ∙ c.requires.patterns) c.rows_of-pattern_rows.ensures.fit
+pub liked_rows-requires-clause-utf8_patterns : goal.liked_rows-requires-clause-utf8_patterns
+liked_rows-requires-clause-utf8_patterns c = texts-fit (tree_type (held c.in_ok-pattern_read.pattern_read)) (lent_rows c.rows_of-pattern_rows.result) (ap is_text c.in_ok-pattern_read.ensures.dtype ∙ c.requires.patterns) c.rows_of-pattern_rows.ensures.fit
 
 pub into_tree-requires : goal.into_tree-requires
 into_tree-requires c = 

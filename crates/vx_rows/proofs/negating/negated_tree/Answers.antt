@@ -10,8 +10,8 @@ use Rattle.vx_rules.specs.Comparisons.{negated}
 use Rattle.vx_rows.proofs.AnswerLemmas.{boolean-is, negated-fit}
 use Rattle.vx_rows.proofs.negating.negated_tree.Goals as goal
 
-pub readable-read-requires : goal.readable-read-requires
-readable-read-requires c = ap is_flat (sym (boolean-is (tree_type c.args.array.now) c.requires))
+pub readable-requires : goal.readable-requires
+readable-requires c = ap is_flat (sym (boolean-is (tree_type c.args.array.now) c.requires))
 
 pub rows_of-rows-requires-clause-flat : goal.rows_of-rows-requires-clause-flat
 rows_of-rows-requires-clause-flat c = ap is_flat c.in_ok-read.ensures.dtype ∙ ap is_flat (sym (boolean-is (tree_type c.args.array.now) c.requires))

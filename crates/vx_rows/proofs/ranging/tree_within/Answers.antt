@@ -13,8 +13,8 @@ use Rattle.vx_rows.proofs.AnswerLemmas.{comparable-flat, within-fit, within-made
 use Rattle.vx_rows.proofs.ReadLemmas.{read-column}
 use Rattle.vx_rows.proofs.ranging.tree_within.Goals as goal
 
-pub readable-read-requires : goal.readable-read-requires
-readable-read-requires c = (comparable-flat (tree_type c.args.array.now) c.args.low.now.dtype c.requires.low).0
+pub readable-requires : goal.readable-requires
+readable-requires c = (comparable-flat (tree_type c.args.array.now) c.args.low.now.dtype c.requires.low).0
 
 pub rows_of-rows-requires-clause-flat : goal.rows_of-rows-requires-clause-flat
 rows_of-rows-requires-clause-flat c = ap is_flat c.in_ok-read.ensures.dtype ∙ (comparable-flat (tree_type c.args.array.now) c.args.low.now.dtype c.requires.low).0
@@ -28,11 +28,11 @@ same_rows-lows-requires c = (comparable-flat (tree_type c.args.array.now) c.args
 pub same_rows-highs-requires : goal.same_rows-highs-requires
 same_rows-highs-requires c = (comparable-flat (tree_type c.args.array.now) c.args.high.now.dtype c.requires.high).1
 
-pub rows_within-truths-requires-clause-lows : goal.rows_within-truths-requires-clause-lows
-rows_within-truths-requires-clause-lows c = ap length (c.rows_of-rows.ensures.rows ∙ c.in_ok-read.ensures.rows) ∙ sym (ap length c.same_rows-lows.ensures.rows ∙ length-replicate c.len.result c.args.low.now.value ∙ c.len.ensures)
+pub rows_within-requires-clause-lows : goal.rows_within-requires-clause-lows
+rows_within-requires-clause-lows c = ap length (c.rows_of-rows.ensures.rows ∙ c.in_ok-read.ensures.rows) ∙ sym (ap length c.same_rows-lows.ensures.rows ∙ length-replicate c.len.result c.args.low.now.value ∙ c.len.ensures)
 
-pub rows_within-truths-requires-clause-highs : goal.rows_within-truths-requires-clause-highs
-rows_within-truths-requires-clause-highs c = ap length (c.rows_of-rows.ensures.rows ∙ c.in_ok-read.ensures.rows) ∙ sym (ap length c.same_rows-highs.ensures.rows ∙ length-replicate c.len-2.result c.args.high.now.value ∙ c.len-2.ensures)
+pub rows_within-requires-clause-highs : goal.rows_within-requires-clause-highs
+rows_within-requires-clause-highs c = ap length (c.rows_of-rows.ensures.rows ∙ c.in_ok-read.ensures.rows) ∙ sym (ap length c.same_rows-highs.ensures.rows ∙ length-replicate c.len-2.result c.args.high.now.value ∙ c.len-2.ensures)
 
 pub into_tree-requires : goal.into_tree-requires
 into_tree-requires c = 

@@ -10,8 +10,8 @@ use Rattle.vx_rows.proofs.AnswerLemmas.{comparable-flat, within-fit, within-made
 use Rattle.vx_rows.proofs.ReadLemmas.{read-column}
 use Rattle.vx_rows.proofs.ranging.trees_within.Goals as goal
 
-pub readable-read-requires : goal.readable-read-requires
-readable-read-requires c = (comparable-flat (tree_type c.args.array.now) (tree_type c.args.low.now) c.requires.low).0
+pub readable-requires : goal.readable-requires
+readable-requires c = (comparable-flat (tree_type c.args.array.now) (tree_type c.args.low.now) c.requires.low).0
 
 pub rows_of-rows-requires-clause-flat : goal.rows_of-rows-requires-clause-flat
 rows_of-rows-requires-clause-flat c = ap is_flat c.in_ok-read.ensures.dtype ∙ (comparable-flat (tree_type c.args.array.now) (tree_type c.args.low.now) c.requires.low).0
@@ -19,8 +19,8 @@ rows_of-rows-requires-clause-flat c = ap is_flat c.in_ok-read.ensures.dtype ∙ 
 pub rows_of-rows-requires-clause-readable : goal.rows_of-rows-requires-clause-readable
 rows_of-rows-requires-clause-readable c = c.in_ok-read.ensures.readable
 
-pub readable-low_read-requires : goal.readable-low_read-requires
-readable-low_read-requires c = (comparable-flat (tree_type c.args.array.now) (tree_type c.args.low.now) c.requires.low).1
+pub readable-requires-2 : goal.readable-requires-2
+readable-requires-2 c = (comparable-flat (tree_type c.args.array.now) (tree_type c.args.low.now) c.requires.low).1
 
 pub rows_of-lows-requires-clause-flat : goal.rows_of-lows-requires-clause-flat
 rows_of-lows-requires-clause-flat c = ap is_flat c.in_ok-low_read.ensures.dtype ∙ (comparable-flat (tree_type c.args.array.now) (tree_type c.args.low.now) c.requires.low).1
@@ -28,8 +28,8 @@ rows_of-lows-requires-clause-flat c = ap is_flat c.in_ok-low_read.ensures.dtype 
 pub rows_of-lows-requires-clause-readable : goal.rows_of-lows-requires-clause-readable
 rows_of-lows-requires-clause-readable c = c.in_ok-low_read.ensures.readable
 
-pub readable-high_read-requires : goal.readable-high_read-requires
-readable-high_read-requires c = (comparable-flat (tree_type c.args.array.now) (tree_type c.args.high.now) c.requires.high).1
+pub readable-requires-3 : goal.readable-requires-3
+readable-requires-3 c = (comparable-flat (tree_type c.args.array.now) (tree_type c.args.high.now) c.requires.high).1
 
 pub rows_of-highs-requires-clause-flat : goal.rows_of-highs-requires-clause-flat
 rows_of-highs-requires-clause-flat c = ap is_flat c.in_ok-high_read.ensures.dtype ∙ (comparable-flat (tree_type c.args.array.now) (tree_type c.args.high.now) c.requires.high).1
@@ -37,11 +37,11 @@ rows_of-highs-requires-clause-flat c = ap is_flat c.in_ok-high_read.ensures.dtyp
 pub rows_of-highs-requires-clause-readable : goal.rows_of-highs-requires-clause-readable
 rows_of-highs-requires-clause-readable c = c.in_ok-high_read.ensures.readable
 
-pub rows_within-truths-requires-clause-lows : goal.rows_within-truths-requires-clause-lows
-rows_within-truths-requires-clause-lows c = ap length (c.rows_of-rows.ensures.rows ∙ c.in_ok-read.ensures.rows) ∙ c.requires.lows ∙ sym (ap length (c.rows_of-lows.ensures.rows ∙ c.in_ok-low_read.ensures.rows))
+pub rows_within-requires-clause-lows : goal.rows_within-requires-clause-lows
+rows_within-requires-clause-lows c = ap length (c.rows_of-rows.ensures.rows ∙ c.in_ok-read.ensures.rows) ∙ c.requires.lows ∙ sym (ap length (c.rows_of-lows.ensures.rows ∙ c.in_ok-low_read.ensures.rows))
 
-pub rows_within-truths-requires-clause-highs : goal.rows_within-truths-requires-clause-highs
-rows_within-truths-requires-clause-highs c = ap length (c.rows_of-rows.ensures.rows ∙ c.in_ok-read.ensures.rows) ∙ c.requires.highs ∙ sym (ap length (c.rows_of-highs.ensures.rows ∙ c.in_ok-high_read.ensures.rows))
+pub rows_within-requires-clause-highs : goal.rows_within-requires-clause-highs
+rows_within-requires-clause-highs c = ap length (c.rows_of-rows.ensures.rows ∙ c.in_ok-read.ensures.rows) ∙ c.requires.highs ∙ sym (ap length (c.rows_of-highs.ensures.rows ∙ c.in_ok-high_read.ensures.rows))
 
 pub into_tree-requires : goal.into_tree-requires
 into_tree-requires c = 
