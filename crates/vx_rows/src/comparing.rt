@@ -12,11 +12,10 @@ ghost use Rattle.vx_rules.specs.Operations.{repeated};
 
 mod columns;
 
-pub(crate) use columns::compared_rows;
-
 use crate::held::readable;
 use crate::lent::{rows_of, same_rows};
 use crate::truths::either_nullability;
+pub(crate) use columns::compared_rows;
 use std::alloc::Global;
 use vx_array::ArrayRef;
 use vx_base::{DType, ExecutionCtx, Scalar, VortexError, VortexResult};

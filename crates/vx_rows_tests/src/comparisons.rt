@@ -81,7 +81,12 @@ fn texts_are_ordered_by_bytes_and_truth_values_false_first(rt: HostRuntime) -> R
 fn encoded_rows_are_compared(rt: HostRuntime) -> Result<(), Fail> {
     let alloc = rt.alloc();
     let mut ctx = context(alloc)?;
-    let out = compare_scalar(&by_codes(alloc)?, &whole(5, I32, NonNullable)?, Gt, &mut ctx)?;
+    let out = compare_scalar(
+        &by_codes(alloc)?,
+        &whole(5, I32, NonNullable)?,
+        Gt,
+        &mut ctx,
+    )?;
     assert!(rt; has_truths(&out, &[Some(false), None, Some(false), Some(true), None]));
     Ok(())
 }

@@ -14,12 +14,7 @@ const LIKE: LikeOptions = LikeOptions { negated: false };
 // Whether a text matches a pattern.
 fn is_like(alloc: Global, value: &str, pattern: &str) -> VortexResult<bool> {
     let column = texts(alloc, &[value])?;
-    let out = like_scalar(
-        &column,
-        &text(alloc, pattern)?,
-        LIKE,
-        &mut context(alloc)?,
-    )?;
+    let out = like_scalar(&column, &text(alloc, pattern)?, LIKE, &mut context(alloc)?)?;
     Ok(has_truths(&out, &[Some(true)]))
 }
 

@@ -56,7 +56,13 @@ fn columns_are_bounds_of_each_row(rt: HostRuntime) -> Result<(), Fail> {
         &[5, 0, 9, 9, 9],
         &[true, true, true, false, true],
     )?;
-    let out = between(&by_codes(alloc)?, &low, &high, strict(false, false), &mut ctx)?;
+    let out = between(
+        &by_codes(alloc)?,
+        &low,
+        &high,
+        strict(false, false),
+        &mut ctx,
+    )?;
     assert!(rt; has_truths(&out, &[Some(true), None, Some(false), None, None]));
     Ok(())
 }

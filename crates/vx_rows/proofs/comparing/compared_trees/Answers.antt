@@ -32,7 +32,7 @@ pub compared_rows-requires-clause-lengths : goal.compared_rows-requires-clause-l
 compared_rows-requires-clause-lengths c = ap length (c.rows_of-lefts.ensures.rows ∙ c.in_ok-left_read.ensures.rows) ∙ c.requires.lengths ∙ sym (ap length (c.rows_of-rights.ensures.rows ∙ c.in_ok-right_read.ensures.rows))
 
 pub into_tree-requires : goal.into_tree-requires
-into_tree-requires c = 
+into_tree-requires c =
     let n = c.either_nullability-nullability.result in
     let e = c.either_nullability-nullability.ensures ∙ (λ i. or_nullable (nullability_of (c.dtype.ensures i)) (nullability_of (c.dtype-2.ensures i))) in
     let l = c.rows_of-lefts.ensures.rows ∙ c.in_ok-left_read.ensures.rows in
@@ -41,7 +41,7 @@ into_tree-requires c =
     ∙ compared-fit (column_of c.args.left.now) (column_of c.args.right.now) n _ _ e l r c.args.operator (read-column c.args.left.now (held c.in_ok-left_read.left_read) (lent_rows c.rows_of-lefts.result) c.in_ok-left_read.ensures c.rows_of-lefts.ensures.rows c.rows_of-lefts.ensures.fit) (read-column c.args.right.now (held c.in_ok-right_read.right_read) (lent_rows c.rows_of-rights.result) c.in_ok-right_read.ensures c.rows_of-rights.ensures.rows c.rows_of-rights.ensures.fit)
 
 pub returns : goal.returns
-returns c = 
+returns c =
     let n = c.either_nullability-nullability.result in
     let e = c.either_nullability-nullability.ensures ∙ (λ i. or_nullable (nullability_of (c.dtype.ensures i)) (nullability_of (c.dtype-2.ensures i))) in
     let l = c.rows_of-lefts.ensures.rows ∙ c.in_ok-left_read.ensures.rows in

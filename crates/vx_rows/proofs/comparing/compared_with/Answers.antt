@@ -29,7 +29,7 @@ pub compared_rows-requires-clause-lengths : goal.compared_rows-requires-clause-l
 compared_rows-requires-clause-lengths c = ap length (c.rows_of-rows.ensures.rows ∙ c.in_ok-read.ensures.rows) ∙ sym (ap length c.same_rows-others.ensures.rows ∙ length-replicate c.len.result c.args.value.now.value ∙ c.len.ensures)
 
 pub into_tree-requires : goal.into_tree-requires
-into_tree-requires c = 
+into_tree-requires c =
     let n = c.either_nullability-nullability.result in
     let e = c.either_nullability-nullability.ensures ∙ (λ i. or_nullable (nullability_of (c.dtype.ensures i)) (nullability_of (c.dtype-2.ensures i))) in
     let l = c.rows_of-rows.ensures.rows ∙ c.in_ok-read.ensures.rows in
@@ -38,7 +38,7 @@ into_tree-requires c =
     ∙ compared-fit (column_of c.args.array.now) (repeated c.args.value.now (column_of c.args.array.now)) n _ _ e l r c.args.operator (read-column c.args.array.now (held c.in_ok-read.read) (lent_rows c.rows_of-rows.result) c.in_ok-read.ensures c.rows_of-rows.ensures.rows c.rows_of-rows.ensures.fit) (sym (ap (list_all (fits c.args.value.now.dtype)) (c.same_rows-others.ensures.rows ∙ ap (λ k. replicate k c.args.value.now.value) c.len.ensures)) ∙ c.same_rows-others.ensures.fit)
 
 pub returns : goal.returns
-returns c = 
+returns c =
     let n = c.either_nullability-nullability.result in
     let e = c.either_nullability-nullability.ensures ∙ (λ i. or_nullable (nullability_of (c.dtype.ensures i)) (nullability_of (c.dtype-2.ensures i))) in
     let l = c.rows_of-rows.ensures.rows ∙ c.in_ok-read.ensures.rows in

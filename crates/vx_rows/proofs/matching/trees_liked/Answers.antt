@@ -39,7 +39,7 @@ pub liked_rows-requires-clause-utf8_patterns : goal.liked_rows-requires-clause-u
 liked_rows-requires-clause-utf8_patterns c = texts-fit (tree_type (held c.in_ok-pattern_read.pattern_read)) (lent_rows c.rows_of-pattern_rows.result) (ap is_text c.in_ok-pattern_read.ensures.dtype ∙ c.requires.patterns) c.rows_of-pattern_rows.ensures.fit
 
 pub into_tree-requires : goal.into_tree-requires
-into_tree-requires c = 
+into_tree-requires c =
     let n = c.either_nullability-nullability.result in
     let e = c.either_nullability-nullability.ensures ∙ (λ i. or_nullable (nullability_of (c.dtype.ensures i)) (nullability_of (c.dtype-2.ensures i))) in
     let l = c.rows_of-texts.ensures.rows ∙ c.in_ok-read.ensures.rows in
@@ -48,7 +48,7 @@ into_tree-requires c =
     ∙ liked-fit (column_of c.args.array.now) (column_of c.args.patterns.now) n _ _ e l r c.args.options (read-column c.args.array.now (held c.in_ok-read.read) (lent_rows c.rows_of-texts.result) c.in_ok-read.ensures c.rows_of-texts.ensures.rows c.rows_of-texts.ensures.fit) (read-column c.args.patterns.now (held c.in_ok-pattern_read.pattern_read) (lent_rows c.rows_of-pattern_rows.result) c.in_ok-pattern_read.ensures c.rows_of-pattern_rows.ensures.rows c.rows_of-pattern_rows.ensures.fit)
 
 pub returns : goal.returns
-returns c = 
+returns c =
     let n = c.either_nullability-nullability.result in
     let e = c.either_nullability-nullability.ensures ∙ (λ i. or_nullable (nullability_of (c.dtype.ensures i)) (nullability_of (c.dtype-2.ensures i))) in
     let l = c.rows_of-texts.ensures.rows ∙ c.in_ok-read.ensures.rows in

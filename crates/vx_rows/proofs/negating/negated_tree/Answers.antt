@@ -20,7 +20,7 @@ pub rows_of-rows-requires-clause-readable : goal.rows_of-rows-requires-clause-re
 rows_of-rows-requires-clause-readable c = c.in_ok-read.ensures.readable
 
 pub into_tree-requires : goal.into_tree-requires
-into_tree-requires c = 
+into_tree-requires c =
     let n = c.nullability-nullability.ensures ∙ ap nullability_of c.dtype.ensures in
     let t = ap types.boolean n ∙ boolean-is (tree_type c.args.array.now) c.requires in
     let rows = lent_rows c.rows_of-rows.result in
@@ -28,7 +28,7 @@ into_tree-requires c =
     ∙ negated-fit c.nullability-nullability.result rows (ap (λ s. list_all (fits s) rows) (t ∙ sym c.in_ok-read.ensures.dtype) ∙ c.rows_of-rows.ensures.fit)
 
 pub returns : goal.returns
-returns c = 
+returns c =
     let n = c.nullability-nullability.ensures ∙ ap nullability_of c.dtype.ensures in
     let t = ap types.boolean n ∙ boolean-is (tree_type c.args.array.now) c.requires in
     let r = c.rows_of-rows.ensures.rows ∙ c.in_ok-read.ensures.rows in

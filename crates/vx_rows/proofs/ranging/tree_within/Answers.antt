@@ -35,7 +35,7 @@ pub rows_within-requires-clause-highs : goal.rows_within-requires-clause-highs
 rows_within-requires-clause-highs c = ap length (c.rows_of-rows.ensures.rows ∙ c.in_ok-read.ensures.rows) ∙ sym (ap length c.same_rows-highs.ensures.rows ∙ length-replicate c.len-2.result c.args.high.now.value ∙ c.len-2.ensures)
 
 pub into_tree-requires : goal.into_tree-requires
-into_tree-requires c = 
+into_tree-requires c =
     let n = c.nullability_within-nullability.result in
     let e = c.nullability_within-nullability.ensures ∙ (λ i. or_nullable (nullability_of (c.dtype.ensures i)) (or_nullable (nullability_of (c.dtype-2.ensures i)) (nullability_of (c.dtype-3.ensures i)))) in
     let r = c.rows_of-rows.ensures.rows ∙ c.in_ok-read.ensures.rows in
@@ -46,7 +46,7 @@ into_tree-requires c =
     (sym (ap (list_all (fits c.args.low.now.dtype)) (c.same_rows-lows.ensures.rows ∙ ap (λ k. replicate k c.args.low.now.value) c.len.ensures)) ∙ c.same_rows-lows.ensures.fit) (sym (ap (list_all (fits c.args.high.now.dtype)) (c.same_rows-highs.ensures.rows ∙ ap (λ k. replicate k c.args.high.now.value) c.len-2.ensures)) ∙ c.same_rows-highs.ensures.fit)
 
 pub returns : goal.returns
-returns c = 
+returns c =
     let n = c.nullability_within-nullability.result in
     let e = c.nullability_within-nullability.ensures ∙ (λ i. or_nullable (nullability_of (c.dtype.ensures i)) (or_nullable (nullability_of (c.dtype-2.ensures i)) (nullability_of (c.dtype-3.ensures i)))) in
     let r = c.rows_of-rows.ensures.rows ∙ c.in_ok-read.ensures.rows in

@@ -44,7 +44,7 @@ pub rows_within-requires-clause-highs : goal.rows_within-requires-clause-highs
 rows_within-requires-clause-highs c = ap length (c.rows_of-rows.ensures.rows ∙ c.in_ok-read.ensures.rows) ∙ c.requires.highs ∙ sym (ap length (c.rows_of-highs.ensures.rows ∙ c.in_ok-high_read.ensures.rows))
 
 pub into_tree-requires : goal.into_tree-requires
-into_tree-requires c = 
+into_tree-requires c =
     let n = c.nullability_within-nullability.result in
     let e = c.nullability_within-nullability.ensures ∙ (λ i. or_nullable (nullability_of (c.dtype.ensures i)) (or_nullable (nullability_of (c.dtype-2.ensures i)) (nullability_of (c.dtype-3.ensures i)))) in
     let r = c.rows_of-rows.ensures.rows ∙ c.in_ok-read.ensures.rows in
@@ -55,7 +55,7 @@ into_tree-requires c =
     (read-column c.args.low.now (held c.in_ok-low_read.low_read) (lent_rows c.rows_of-lows.result) c.in_ok-low_read.ensures c.rows_of-lows.ensures.rows c.rows_of-lows.ensures.fit) (read-column c.args.high.now (held c.in_ok-high_read.high_read) (lent_rows c.rows_of-highs.result) c.in_ok-high_read.ensures c.rows_of-highs.ensures.rows c.rows_of-highs.ensures.fit)
 
 pub returns : goal.returns
-returns c = 
+returns c =
     let n = c.nullability_within-nullability.result in
     let e = c.nullability_within-nullability.ensures ∙ (λ i. or_nullable (nullability_of (c.dtype.ensures i)) (or_nullable (nullability_of (c.dtype-2.ensures i)) (nullability_of (c.dtype-3.ensures i)))) in
     let r = c.rows_of-rows.ensures.rows ∙ c.in_ok-read.ensures.rows in
