@@ -4,7 +4,7 @@ use Rattle.std.specs.Prelude.{◌&&◌, ◌||◌, IfSome, replicate, Result, Ok,
 use Rattle.std.specs.declared.cmp.Ordering.{Ordering}
 use Rattle.std.specs.declared.cmp.Ordering.TheVariants.{Less, Equal, Greater}
 use Rattle.std.specs.Ordering.{int_cmp, ordering_reverse}
-use Rattle.std.proofs.lemmas.Cmp.{int_cmp_total}
+use Rattle.std.proofs.lemmas.Cmp.{int_cmp_total, nat_list_cmp_total}
 use Rattle.std.specs.List.{list_all}
 use Rattle.std.proofs.lemmas.Bool.{and_parts}
 use Rattle.vx_base.specs.declared.dtype.Nullability.{Nullability}
@@ -14,7 +14,8 @@ use Rattle.vx_base.specs.Answers.{OrMemory}
 use Rattle.vx_base.specs.PlainScalar.{fits}
 use Rattle.vx_base.specs.PlainType.{PlainType, is_flat, nullability_of, or_nullable, same_base, stored_type, with_nullability}
 use Rattle.vx_base.specs.PlainType as types
-use Rattle.vx_base.specs.PlainValue.{PlainValue, int, is_null, null, truth}
+use Rattle.vx_base.specs.IntegersIn.{integer_in}
+use Rattle.vx_base.specs.PlainValue.{PlainValue, bytes, int, is_null, items, null, truth}
 use Rattle.vx_model.specs.Column.{Column, column, column_of, IsColumn}
 use Rattle.vx_rules.specs.declared.options.BetweenOptions.{BetweenOptions}
 use Rattle.vx_rules.specs.declared.options.CompareOperator.{CompareOperator}
@@ -30,7 +31,7 @@ use Rattle.vx_rules.proofs.FitLaws.{answers_are_columns}
 use Rattle.vx_base.specs.Storable.{same_path}
 use Rattle.vx_rows.specs.Pairs.{are_comparable, both_true, both_valid, compared_rows, each_pair, rows_within, turned, whole_holds, whole_within}
 use Rattle.vx_rows.specs.Texts.{liked_rows}
-use Rattle.vx_rows.proofs.ValidLemmas.{map-valid, pair-replicate, pair-valid, replicate-pair, triple-replicate}
+use Rattle.vx_rows.proofs.ValidLemmas.{map-valid, pair-replicate, pair-valid, triple-replicate}
 
 module _ (c d : Column) (n : Nullability) (ls rs : List PlainValue) (e : n ≡ or_nullable (nullability_of c.dtype) (nullability_of d.dtype)) (l : ls ≡ c.values) (r : rs ≡ d.values) where
   pub compared-fit : (op : CompareOperator) → IsColumn c → IsColumn d → list_all (fits (types.boolean n)) (compared_rows op ls rs) ≡ true
@@ -83,14 +84,58 @@ turned-is ops.Lte Less = refl
 turned-is ops.Lte Equal = refl
 turned-is ops.Lte Greater = refl
 
-turned-holds : (op : CompareOperator) (w z : ℤ) → holds op (int_cmp w z) ≡ whole_holds (turned op) w z
-turned-holds op w z = ap (holds op) (int_cmp_total.antisymm w z) ∙ turned-is op (int_cmp z w)
+value-turned : (v w : PlainValue) → value_cmp v w ≡ ordering_reverse (value_cmp w v)
+value-turned null null = refl
+value-turned null (truth b) = refl
+value-turned null (int z) = refl
+value-turned null (bytes cs) = refl
+value-turned null (items vs) = refl
+value-turned (truth a) null = refl
+value-turned (truth true) (truth true) = refl
+value-turned (truth true) (truth false) = refl
+value-turned (truth false) (truth true) = refl
+value-turned (truth false) (truth false) = refl
+value-turned (truth a) (int z) = refl
+value-turned (truth a) (bytes cs) = refl
+value-turned (truth a) (items vs) = refl
+value-turned (int y) null = refl
+value-turned (int y) (truth b) = refl
+value-turned (int y) (int z) = int_cmp_total.antisymm y z
+value-turned (int y) (bytes cs) = refl
+value-turned (int y) (items vs) = refl
+value-turned (bytes bs) null = refl
+value-turned (bytes bs) (truth b) = refl
+value-turned (bytes bs) (int z) = refl
+value-turned (bytes bs) (bytes cs) = nat_list_cmp_total.antisymm bs cs
+value-turned (bytes bs) (items vs) = refl
+value-turned (items us) null = refl
+value-turned (items us) (truth b) = refl
+value-turned (items us) (int z) = refl
+value-turned (items us) (bytes cs) = refl
+value-turned (items us) (items vs) = refl
 
-pub whole-with-rows : (op : CompareOperator) (w : ℤ) (valid : Validity) (zs : List ℤ) (n : ℕ) → length (valid_rows valid (map int zs)) ≡ n
-    → compared_rows op (replicate n (int w)) (valid_rows valid (map int zs)) ≡ valid_rows valid (map truth (map (whole_holds (turned op) w) zs))
-whole-with-rows op w valid zs n e =
-    replicate-pair (compared op) (int w) (valid_rows valid (map int zs)) n e
-    ∙ map-valid (λ v. compared op (int w) v) int (whole_holds (turned op) w) truth refl (λ z. ap truth (turned-holds op w z)) valid zs
+compared-turned : (op : CompareOperator) (v w : PlainValue) → compared op v w ≡ compared (turned op) w v
+compared-turned op v w = (λ i. cond (or-turned (is_null v) (is_null w) i) null (truth ((ap (holds op) (value-turned v w) ∙ turned-is op (value_cmp w v)) i)))
+  where
+    or-turned : (a b : Bool) → (a || b) ≡ (b || a)
+    or-turned true true = refl
+    or-turned true false = refl
+    or-turned false true = refl
+    or-turned false false = refl
+
+pub rows-turned : (op : CompareOperator) (vs ws : List PlainValue) → compared_rows op vs ws ≡ compared_rows (turned op) ws vs
+rows-turned op [] [] = refl
+rows-turned op [] (w ∷ ws) = refl
+rows-turned op (v ∷ vs) [] = refl
+rows-turned op (v ∷ vs) (w ∷ ws) = λ i. compared-turned op v w i ∷ rows-turned op vs ws i
+
+-- the value of a cell that is an integer
+pub integer-is : (v : PlainValue) (w : ℤ) → Some w ≡ integer_in v → v ≡ int w
+integer-is null w e = absurd cc
+integer-is (truth b) w e = absurd cc
+integer-is (int z) w e = ap (λ o. int (unwrap_or o z)) (sym e)
+integer-is (bytes bs) w e = absurd cc
+integer-is (items vs) w e = absurd cc
 
 pub rows-of-pairs : (op : CompareOperator) (valid others : Validity) (zs ws : List ℤ)
     → compared_rows op (valid_rows valid (map int zs)) (valid_rows others (map int ws)) ≡ valid_rows (both_valid valid others) (map truth (each_pair (λ z w. holds op (int_cmp z w)) zs ws))

@@ -31,12 +31,6 @@ pair-replicate f [] y (suc n) e = absurd (omega arith)
 pair-replicate f (x ∷ xs) y zero e = absurd (omega arith)
 pair-replicate f (x ∷ xs) y (suc n) e = ap (λ zs. f x y ∷ zs) (pair-replicate f xs y n (omega arith))
 
-pub replicate-pair : {A B C : Type 0} (f : A → B → C) (x : A) (ys : List B) (n : ℕ) → length ys ≡ n → each_pair f (replicate n x) ys ≡ map (λ y. f x y) ys
-replicate-pair f x [] zero e = refl
-replicate-pair f x [] (suc n) e = absurd (omega arith)
-replicate-pair f x (y ∷ ys) zero e = absurd (omega arith)
-replicate-pair f x (y ∷ ys) (suc n) e = ap (λ zs. f x y ∷ zs) (replicate-pair f x ys n (omega arith))
-
 pub triple-replicate : {A B C D : Type 0} (f : A → B → C → D) (xs : List A) (y : B) (z : C) (n : ℕ) → length xs ≡ n
     → map (λ p. f p.0 p.1.0 p.1.1) (zip xs (zip (replicate n y) (replicate n z))) ≡ map (λ x. f x y z) xs
 triple-replicate f [] y z zero e = refl

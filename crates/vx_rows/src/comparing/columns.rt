@@ -1,6 +1,6 @@
 //! Comparisons of rows that are read where they stand: integers in their own type by a kernel, others value by value.
 
-ghost use Rattle.std.specs.Prelude.{◌≡◌, IsTrue, length, map, true};
+ghost use Rattle.std.specs.Prelude.{◌≡◌, IsTrue, length, map, replicate, true};
 ghost use Rattle.vx_base.specs.Answers.{Answers};
 ghost use Rattle.vx_base.specs.CellValue.{cell_value};
 ghost use Rattle.vx_base.specs.PlainValue.{int, truth};
@@ -37,11 +37,11 @@ pub(crate) fn compared_rows(
         (Lent::Ints(values, valid), Lent::Ints(others, other_valid)) => {
             compared_pairs(alloc, operator, values, valid, others, other_valid)
         }
-        (Lent::Ints(values, valid), Lent::Same(Cell::Int(whole), _)) => {
-            compared_with_whole(alloc, operator, values, valid, whole)
+        (Lent::Ints(values, valid), Lent::Same(value, len)) => {
+            compared_with_same(alloc, operator, values, valid, value, len)
         }
-        (Lent::Same(Cell::Int(whole), _), Lent::Ints(values, valid)) => {
-            compared_with_whole(alloc, turned(operator), values, valid, whole)
+        (Lent::Same(value, len), Lent::Ints(values, valid)) => {
+            compared_with_same(alloc, turned(operator), values, valid, value, len)
         }
         _ => compared_cells(alloc, operator, left, right),
     }
@@ -97,6 +97,29 @@ fn with_both_valid(
 {
     let valid = both_valid(alloc, left, right, bits.len())?;
     Ok(Truths::new(bits, valid))
+}
+
+// `compared_rows` of a column of integers and one value in every row.
+fn compared_with_same(
+    alloc: Global,
+    operator: CompareOperator,
+    values: &Ints,
+    valid: &Option<Mask>,
+    value: Cell<'_>,
+    len: u64,
+) -> VortexResult<Truths>
+    requires whole { validity_length valid.now (length (wholes_of values.now)) ≡ true }
+    requires lengths { length (valid_rows valid.now (map int (wholes_of values.now))) ≡ len }
+    ensures { Answers result (compared_rows operator (valid_rows valid.now (map int (wholes_of values.now))) (replicate len (cell_value value.entry))) }
+{
+    let found = value.integer();
+    match found {
+        Some(whole) => compared_with_whole(alloc, operator, values, valid, whole),
+        None => {
+            let (left, right) = (Lent::Ints(values, valid), Lent::Same(value, len));
+            compared_cells(alloc, operator, left, right)
+        }
+    }
 }
 
 // Whether the operator holds between each integer and one other.

@@ -1,9 +1,10 @@
 //! Rows that are read where they stand and their bounds: integers between two constants in one pass, others by a comparison with each
 //! bound.
 
-ghost use Rattle.std.specs.Prelude.{◌≡◌, IsTrue, length, map, true};
+ghost use Rattle.std.specs.Prelude.{◌≡◌, IsTrue, length, map, replicate, true};
 ghost use Rattle.vx_base.specs.Answers.{Answers};
-ghost use Rattle.vx_base.specs.PlainValue.{truth};
+ghost use Rattle.vx_base.specs.CellValue.{cell_value};
+ghost use Rattle.vx_base.specs.PlainValue.{int, truth};
 ghost use Rattle.vx_model.specs.Refusals.{validity_length};
 ghost use Rattle.vx_model.specs.Rows.{valid_rows};
 ghost use Rattle.vx_rows.specs.Pairs.{rows_within, whole_within};
@@ -35,12 +36,35 @@ pub(super) fn rows_within(
     ensures { Answers result (rows_within options (lent_rows rows.entry) (lent_rows low.entry) (lent_rows high.entry)) }
 {
     match (rows, low, high) {
-        (
-            Lent::Ints(values, valid),
-            Lent::Same(Cell::Int(low), _),
-            Lent::Same(Cell::Int(high), _),
-        ) => within_wholes(alloc, options, values, valid, low, high),
+        (Lent::Ints(values, valid), Lent::Same(least, _), Lent::Same(greatest, len)) => {
+            within_same(alloc, options, values, valid, least, greatest, len)
+        }
         _ => within_each(alloc, options, rows, low, high),
+    }
+}
+
+// `rows_within` of a column of integers and two values in every row.
+fn within_same(
+    alloc: Global,
+    options: BetweenOptions,
+    values: &Ints,
+    valid: &Option<Mask>,
+    low: Cell<'_>,
+    high: Cell<'_>,
+    len: u64,
+) -> VortexResult<Truths>
+    requires whole { validity_length valid.now (length (wholes_of values.now)) ≡ true }
+    requires lengths { length (valid_rows valid.now (map int (wholes_of values.now))) ≡ len }
+    ensures { Answers result (rows_within options (valid_rows valid.now (map int (wholes_of values.now))) (replicate len (cell_value low.entry)) (replicate len (cell_value high.entry))) }
+{
+    let least = low.integer();
+    let greatest = high.integer();
+    match (least, greatest) {
+        (Some(low), Some(high)) => within_wholes(alloc, options, values, valid, low, high),
+        _ => {
+            let (lows, highs) = (Lent::Same(low, len), Lent::Same(high, len));
+            within_each(alloc, options, Lent::Ints(values, valid), lows, highs)
+        }
     }
 }
 
