@@ -14,16 +14,16 @@ use Rattle.vx_rows.proofs.ReadLemmas.{read-column}
 use Rattle.vx_rows.proofs.comparing.compared_with.Goals as goal
 
 pub readable-requires : goal.readable-requires
-readable-requires c = (comparable-flat (tree_type c.args.array.now) c.args.value.now.dtype c.requires).0
+readable-requires c = (comparable-flat (tree_type c.args.array.now) c.args.value.now.dtype c.requires.types).0
 
 pub rows_of-rows-requires-clause-flat : goal.rows_of-rows-requires-clause-flat
-rows_of-rows-requires-clause-flat c = ap is_flat c.in_ok-read.ensures.dtype ∙ (comparable-flat (tree_type c.args.array.now) c.args.value.now.dtype c.requires).0
+rows_of-rows-requires-clause-flat c = ap is_flat c.in_ok-read.ensures.dtype ∙ (comparable-flat (tree_type c.args.array.now) c.args.value.now.dtype c.requires.types).0
 
 pub rows_of-rows-requires-clause-readable : goal.rows_of-rows-requires-clause-readable
 rows_of-rows-requires-clause-readable c = c.in_ok-read.ensures.readable
 
 pub same_rows-others-requires : goal.same_rows-others-requires
-same_rows-others-requires c = (comparable-flat (tree_type c.args.array.now) c.args.value.now.dtype c.requires).1
+same_rows-others-requires c = (comparable-flat (tree_type c.args.array.now) c.args.value.now.dtype c.requires.types).1
 
 pub compared_rows-requires-clause-lengths : goal.compared_rows-requires-clause-lengths
 compared_rows-requires-clause-lengths c = ap length (c.rows_of-rows.ensures.rows ∙ c.in_ok-read.ensures.rows) ∙ sym (ap length c.same_rows-others.ensures.rows ∙ length-replicate c.len.result c.args.value.now.value ∙ c.len.ensures)

@@ -28,8 +28,8 @@ returns-in-Ints-Same c =
     let op = c.args.operator in
     or-map c.compared_with_same.result _ _ (λ truths e. e ∙ sym (λ i. compared_rows op (lent_rows (p.is-0 i)) (lent_rows (p.is-1 i)))) c.compared_with_same.ensures
 
-pub compared_with_same-requires-clause-lengths-in-Same-Ints : goal.compared_with_same-requires-clause-lengths-in-Same-Ints
-compared_with_same-requires-clause-lengths-in-Same-Ints c =
+pub compared_with_same-requires-in-Same-Ints-clause-lengths : goal.compared_with_same-requires-in-Same-Ints-clause-lengths
+compared_with_same-requires-in-Same-Ints-clause-lengths c =
     let p = c.in-Same-Ints in
     sym (ap (λ r. length (lent_rows r)) p.is-1) ∙ sym c.requires.lengths ∙ ap (λ r. length (lent_rows r)) p.is-0 ∙ length-replicate p.len (cell_value p.value)
 
