@@ -29,7 +29,7 @@ use Rattle.vx_rules.specs.Patterns as patterns
 use Rattle.vx_rules.specs.ValueOrder.{value_cmp}
 use Rattle.vx_rules.proofs.FitLaws.{answers_are_columns}
 use Rattle.vx_base.specs.Storable.{same_path}
-use Rattle.vx_rows.specs.Pairs.{are_comparable, both_true, both_valid, compared_rows, each_pair, rows_within, turned, whole_holds, whole_within}
+use Rattle.vx_rows.specs.Pairs.{are_comparable, are_within_types, both_true, both_valid, compared_rows, each_pair, rows_within, turned, whole_holds, whole_within}
 use Rattle.vx_rows.specs.Texts.{liked_rows}
 use Rattle.vx_rows.proofs.ValidLemmas.{map-valid, pair-replicate, pair-valid, triple-replicate}
 
@@ -202,6 +202,17 @@ comparable-flat s t h =
     let b = and_parts (is_flat s) (same_base s t) h in
     let same = same_path stored_type (with_nullability s NonNullable) (with_nullability t NonNullable) b.1 in
     (b.0, sym (flat-with t NonNullable) ∙ ap is_flat (sym same) ∙ flat-with s NonNullable ∙ b.0)
+
+pub within-types : (s t u : PlainType) → (are_comparable s t && are_comparable s u) ≡ are_within_types s t u
+within-types s t u = by (is_flat s) (same_base s t) (same_base s u)
+  where
+    by : (a b c : Bool) → ((a && b) && (a && c)) ≡ (a && (b && c))
+    by true true c = refl
+    by true false c = refl
+    by false b c = refl
+
+pub within-comparable : (s t u : PlainType) → are_within_types s t u ≡ true → (are_comparable s t ≡ true) × (are_comparable s u ≡ true)
+within-comparable s t u h = and_parts (are_comparable s t) (are_comparable s u) (within-types s t u ∙ h)
 
 pub boolean-is : (t : PlainType) → is_boolean t ≡ true → types.boolean (nullability_of t) ≡ t
 boolean-is (types.boolean n) h = refl

@@ -13,6 +13,10 @@ use Rattle.vx_rules.specs.Comparisons.{bound_operator, compared, holds, within_b
 abbrev pub are_comparable : PlainType → PlainType → Bool
 are_comparable s t = is_flat s && same_base s t
 
+-- whether values of a type are compared with those of two others
+abbrev pub are_within_types : PlainType → PlainType → PlainType → Bool
+are_within_types s t u = is_flat s && (same_base s t && same_base s u)
+
 -- an answer for each row of two lists
 abbrev pub each_pair : {A B C : Type 0} → (A → B → C) → List A → List B → List C
 each_pair f xs ys = map (λ p. f p.0 p.1) (zip xs ys)

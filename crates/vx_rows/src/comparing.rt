@@ -2,6 +2,7 @@
 
 ghost use Rattle.std.specs.Prelude.{◌≡◌, IsTrue, length};
 ghost use Rattle.vx_base.specs.Answers.{Decided, OrMemory};
+ghost use Rattle.vx_base.specs.PlainType.{same_base};
 ghost use Rattle.vx_base.specs.TypeOf.{type_of};
 ghost use Rattle.vx_model.specs.Column.{column_of};
 ghost use Rattle.vx_model.specs.Rows.{rows};
@@ -64,7 +65,14 @@ pub fn compare_scalar(
 pub(crate) fn are_comparable(left: &DType, right: &DType) -> bool
     ensures { result ≡ are_comparable (type_of left.now) (type_of right.now) }
 {
-    left.is_flat() && left.same_base(right)
+    left.is_flat() && have_one_base(left, right)
+}
+
+// Whether two types are equal up to nullability.
+fn have_one_base(left: &DType, right: &DType) -> bool
+    ensures { result ≡ same_base (type_of left.now) (type_of right.now) }
+{
+    left.same_base(right)
 }
 
 // `compare` of columns that it admits.

@@ -1,13 +1,13 @@
 //! Whether rows lie between the rows of two other columns, or between two scalars.
 
-ghost use Rattle.std.specs.Prelude.{◌≡◌, ◌&&◌, IsTrue, length};
+ghost use Rattle.std.specs.Prelude.{◌≡◌, ◌&&◌, ◌==◌, IsTrue, length};
 ghost use Rattle.vx_base.specs.Answers.{Decided, OrMemory};
 ghost use Rattle.vx_base.specs.PlainType.{nullability_of, or_nullable};
 ghost use Rattle.vx_base.specs.TypeOf.{type_of};
 ghost use Rattle.vx_model.specs.Column.{column_of};
 ghost use Rattle.vx_model.specs.Rows.{rows};
 ghost use Rattle.vx_model.specs.TreeType.{tree_type};
-ghost use Rattle.vx_rows.specs.Pairs.{are_comparable};
+ghost use Rattle.vx_rows.specs.Pairs.{are_within_types};
 ghost use Rattle.vx_rules.specs.Comparisons.{between, between_refusal};
 ghost use Rattle.vx_rules.specs.Operations.{repeated};
 
@@ -41,7 +41,7 @@ pub fn between(
     if !are_within_types(array.dtype(), lower.dtype(), upper.dtype()) {
         return Err(VortexError::MismatchedTypes);
     }
-    if array.len() != lower.len() || array.len() != upper.len() {
+    if !are_as_many(array.len(), lower.len(), upper.len()) {
         return Err(VortexError::LengthMismatch);
     }
     trees_within(ctx.alloc(), options, array, lower, upper)
@@ -67,9 +67,18 @@ pub fn between_scalars(
 
 // Whether values of the first type are compared with those of the two others.
 fn are_within_types(dtype: &DType, lower: &DType, upper: &DType) -> bool
-    ensures { result ≡ (are_comparable (type_of dtype.now) (type_of lower.now) && are_comparable (type_of dtype.now) (type_of upper.now)) }
+    ensures { result ≡ are_within_types (type_of dtype.now) (type_of lower.now) (type_of upper.now) }
 {
-    are_comparable(dtype, lower) && are_comparable(dtype, upper)
+    let below = are_comparable(dtype, lower);
+    let above = are_comparable(dtype, upper);
+    below & above
+}
+
+// Whether there are as many rows as bounds.
+fn are_as_many(rows: u64, lower: u64, upper: u64) -> bool
+    ensures { result ≡ (rows == lower && rows == upper) }
+{
+    (rows == lower) & (rows == upper)
 }
 
 // `between` of columns that it admits.
@@ -80,10 +89,8 @@ fn trees_within(
     low: &ArrayRef,
     high: &ArrayRef,
 ) -> VortexResult<ArrayRef>
-    requires low { IsTrue (are_comparable (tree_type array.now) (tree_type low.now)) }
-    requires high { IsTrue (are_comparable (tree_type array.now) (tree_type high.now)) }
-    requires lows { length (rows array.now) ≡ length (rows low.now) }
-    requires highs { length (rows array.now) ≡ length (rows high.now) }
+    requires types { IsTrue (are_within_types (tree_type array.now) (tree_type low.now) (tree_type high.now)) }
+    requires lengths { IsTrue (length (rows array.now) == length (rows low.now) && length (rows array.now) == length (rows high.now)) }
     ensures { OrMemory result (λ out. column_of out ≡ between options (column_of array.now) (column_of low.now) (column_of high.now)) }
 {
     let read = readable(alloc, array)?;
@@ -105,8 +112,7 @@ fn tree_within(
     low: &Scalar,
     high: &Scalar,
 ) -> VortexResult<ArrayRef>
-    requires low { IsTrue (are_comparable (tree_type array.now) low.now.dtype) }
-    requires high { IsTrue (are_comparable (tree_type array.now) high.now.dtype) }
+    requires types { IsTrue (are_within_types (tree_type array.now) low.now.dtype high.now.dtype) }
     ensures { OrMemory result (λ out. column_of out ≡ between options (column_of array.now) (repeated low.now (column_of array.now)) (repeated high.now (column_of array.now))) }
 {
     let read = readable(alloc, array)?;

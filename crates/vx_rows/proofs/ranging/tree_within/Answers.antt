@@ -9,24 +9,24 @@ use Rattle.vx_model.specs.Column.{column, column_of, IsColumn}
 use Rattle.vx_model.specs.TreeType.{tree_type}
 use Rattle.vx_rules.specs.Operations.{repeated}
 use Rattle.vx_rows.specs.Readable.{held, lent_rows}
-use Rattle.vx_rows.proofs.AnswerLemmas.{comparable-flat, within-fit, within-made}
+use Rattle.vx_rows.proofs.AnswerLemmas.{comparable-flat, within-comparable, within-fit, within-made}
 use Rattle.vx_rows.proofs.ReadLemmas.{read-column}
 use Rattle.vx_rows.proofs.ranging.tree_within.Goals as goal
 
 pub readable-requires : goal.readable-requires
-readable-requires c = (comparable-flat (tree_type c.args.array.now) c.args.low.now.dtype c.requires.low).0
+readable-requires c = (comparable-flat (tree_type c.args.array.now) c.args.low.now.dtype (within-comparable (tree_type c.args.array.now) c.args.low.now.dtype c.args.high.now.dtype c.requires.types).0).0
 
 pub rows_of-rows-requires-clause-flat : goal.rows_of-rows-requires-clause-flat
-rows_of-rows-requires-clause-flat c = ap is_flat c.in_ok-read.ensures.dtype ∙ (comparable-flat (tree_type c.args.array.now) c.args.low.now.dtype c.requires.low).0
+rows_of-rows-requires-clause-flat c = ap is_flat c.in_ok-read.ensures.dtype ∙ (comparable-flat (tree_type c.args.array.now) c.args.low.now.dtype (within-comparable (tree_type c.args.array.now) c.args.low.now.dtype c.args.high.now.dtype c.requires.types).0).0
 
 pub rows_of-rows-requires-clause-readable : goal.rows_of-rows-requires-clause-readable
 rows_of-rows-requires-clause-readable c = c.in_ok-read.ensures.readable
 
 pub same_rows-lows-requires : goal.same_rows-lows-requires
-same_rows-lows-requires c = (comparable-flat (tree_type c.args.array.now) c.args.low.now.dtype c.requires.low).1
+same_rows-lows-requires c = (comparable-flat (tree_type c.args.array.now) c.args.low.now.dtype (within-comparable (tree_type c.args.array.now) c.args.low.now.dtype c.args.high.now.dtype c.requires.types).0).1
 
 pub same_rows-highs-requires : goal.same_rows-highs-requires
-same_rows-highs-requires c = (comparable-flat (tree_type c.args.array.now) c.args.high.now.dtype c.requires.high).1
+same_rows-highs-requires c = (comparable-flat (tree_type c.args.array.now) c.args.high.now.dtype (within-comparable (tree_type c.args.array.now) c.args.low.now.dtype c.args.high.now.dtype c.requires.types).1).1
 
 pub rows_within-requires-clause-lows : goal.rows_within-requires-clause-lows
 rows_within-requires-clause-lows c = ap length (c.rows_of-rows.ensures.rows ∙ c.in_ok-read.ensures.rows) ∙ sym (ap length c.same_rows-lows.ensures.rows ∙ length-replicate c.len.result c.args.low.now.value ∙ c.len.ensures)

@@ -1,47 +1,48 @@
 use Rattle.std.proofs.Common.{◌≡◌, ◌∙◌, ap, length, sym}
 use Rattle.std.specs.List.{list_all}
+use Rattle.std.proofs.lemmas.Bool.{and_parts, eqb-true}
 use Rattle.vx_base.specs.PlainScalar.{fits}
 use Rattle.vx_base.specs.PlainType as types
 use Rattle.vx_base.specs.PlainType.{is_flat, nullability_of, or_nullable}
 use Rattle.vx_model.specs.Column.{column, column_of, IsColumn}
 use Rattle.vx_model.specs.TreeType.{tree_type}
 use Rattle.vx_rows.specs.Readable.{held, lent_rows}
-use Rattle.vx_rows.proofs.AnswerLemmas.{comparable-flat, within-fit, within-made}
+use Rattle.vx_rows.proofs.AnswerLemmas.{comparable-flat, within-comparable, within-fit, within-made}
 use Rattle.vx_rows.proofs.ReadLemmas.{read-column}
 use Rattle.vx_rows.proofs.ranging.trees_within.Goals as goal
 
 pub readable-requires : goal.readable-requires
-readable-requires c = (comparable-flat (tree_type c.args.array.now) (tree_type c.args.low.now) c.requires.low).0
+readable-requires c = (comparable-flat (tree_type c.args.array.now) (tree_type c.args.low.now) (within-comparable (tree_type c.args.array.now) (tree_type c.args.low.now) (tree_type c.args.high.now) c.requires.types).0).0
 
 pub rows_of-rows-requires-clause-flat : goal.rows_of-rows-requires-clause-flat
-rows_of-rows-requires-clause-flat c = ap is_flat c.in_ok-read.ensures.dtype ∙ (comparable-flat (tree_type c.args.array.now) (tree_type c.args.low.now) c.requires.low).0
+rows_of-rows-requires-clause-flat c = ap is_flat c.in_ok-read.ensures.dtype ∙ (comparable-flat (tree_type c.args.array.now) (tree_type c.args.low.now) (within-comparable (tree_type c.args.array.now) (tree_type c.args.low.now) (tree_type c.args.high.now) c.requires.types).0).0
 
 pub rows_of-rows-requires-clause-readable : goal.rows_of-rows-requires-clause-readable
 rows_of-rows-requires-clause-readable c = c.in_ok-read.ensures.readable
 
 pub readable-requires-2 : goal.readable-requires-2
-readable-requires-2 c = (comparable-flat (tree_type c.args.array.now) (tree_type c.args.low.now) c.requires.low).1
+readable-requires-2 c = (comparable-flat (tree_type c.args.array.now) (tree_type c.args.low.now) (within-comparable (tree_type c.args.array.now) (tree_type c.args.low.now) (tree_type c.args.high.now) c.requires.types).0).1
 
 pub rows_of-lows-requires-clause-flat : goal.rows_of-lows-requires-clause-flat
-rows_of-lows-requires-clause-flat c = ap is_flat c.in_ok-low_read.ensures.dtype ∙ (comparable-flat (tree_type c.args.array.now) (tree_type c.args.low.now) c.requires.low).1
+rows_of-lows-requires-clause-flat c = ap is_flat c.in_ok-low_read.ensures.dtype ∙ (comparable-flat (tree_type c.args.array.now) (tree_type c.args.low.now) (within-comparable (tree_type c.args.array.now) (tree_type c.args.low.now) (tree_type c.args.high.now) c.requires.types).0).1
 
 pub rows_of-lows-requires-clause-readable : goal.rows_of-lows-requires-clause-readable
 rows_of-lows-requires-clause-readable c = c.in_ok-low_read.ensures.readable
 
 pub readable-requires-3 : goal.readable-requires-3
-readable-requires-3 c = (comparable-flat (tree_type c.args.array.now) (tree_type c.args.high.now) c.requires.high).1
+readable-requires-3 c = (comparable-flat (tree_type c.args.array.now) (tree_type c.args.high.now) (within-comparable (tree_type c.args.array.now) (tree_type c.args.low.now) (tree_type c.args.high.now) c.requires.types).1).1
 
 pub rows_of-highs-requires-clause-flat : goal.rows_of-highs-requires-clause-flat
-rows_of-highs-requires-clause-flat c = ap is_flat c.in_ok-high_read.ensures.dtype ∙ (comparable-flat (tree_type c.args.array.now) (tree_type c.args.high.now) c.requires.high).1
+rows_of-highs-requires-clause-flat c = ap is_flat c.in_ok-high_read.ensures.dtype ∙ (comparable-flat (tree_type c.args.array.now) (tree_type c.args.high.now) (within-comparable (tree_type c.args.array.now) (tree_type c.args.low.now) (tree_type c.args.high.now) c.requires.types).1).1
 
 pub rows_of-highs-requires-clause-readable : goal.rows_of-highs-requires-clause-readable
 rows_of-highs-requires-clause-readable c = c.in_ok-high_read.ensures.readable
 
 pub rows_within-requires-clause-lows : goal.rows_within-requires-clause-lows
-rows_within-requires-clause-lows c = ap length (c.rows_of-rows.ensures.rows ∙ c.in_ok-read.ensures.rows) ∙ c.requires.lows ∙ sym (ap length (c.rows_of-lows.ensures.rows ∙ c.in_ok-low_read.ensures.rows))
+rows_within-requires-clause-lows c = ap length (c.rows_of-rows.ensures.rows ∙ c.in_ok-read.ensures.rows) ∙ eqb-true _ _ (and_parts _ _ c.requires.lengths).0 ∙ sym (ap length (c.rows_of-lows.ensures.rows ∙ c.in_ok-low_read.ensures.rows))
 
 pub rows_within-requires-clause-highs : goal.rows_within-requires-clause-highs
-rows_within-requires-clause-highs c = ap length (c.rows_of-rows.ensures.rows ∙ c.in_ok-read.ensures.rows) ∙ c.requires.highs ∙ sym (ap length (c.rows_of-highs.ensures.rows ∙ c.in_ok-high_read.ensures.rows))
+rows_within-requires-clause-highs c = ap length (c.rows_of-rows.ensures.rows ∙ c.in_ok-read.ensures.rows) ∙ eqb-true _ _ (and_parts _ _ c.requires.lengths).1 ∙ sym (ap length (c.rows_of-highs.ensures.rows ∙ c.in_ok-high_read.ensures.rows))
 
 pub into_tree-requires : goal.into_tree-requires
 into_tree-requires c =

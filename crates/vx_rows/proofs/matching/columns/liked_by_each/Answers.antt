@@ -11,11 +11,11 @@ use Rattle.vx_rows.proofs.matching.columns.liked_by_each.Goals as goal
 pub loop-row-init : goal.loop-row-init
 loop-row-init c = record { long = ap length c.in_ok-truths.ensures ∙ length-replicate c.len.result null ∙ c.len.ensures; done = refl }
 
-pub row_liked-answer-requires-clause-text : goal.row_liked-answer-requires-clause-text
-row_liked-answer-requires-clause-text c = ap has_text c.cell.ensures ∙ row_passes has_text (lent_rows c.args.texts) c.loop-row.row (omega (arith, c.len-row-end.ensures)) c.requires.utf8
+pub row_liked-requires-clause-text : goal.row_liked-requires-clause-text
+row_liked-requires-clause-text c = ap has_text c.cell.ensures ∙ row_passes has_text (lent_rows c.args.texts) c.loop-row.row (omega (arith, c.len-row-end.ensures)) c.requires.utf8
 
-pub row_liked-answer-requires-clause-pattern : goal.row_liked-answer-requires-clause-pattern
-row_liked-answer-requires-clause-pattern c = ap has_text c.cell-in-loop-row.ensures ∙ row_passes has_text (lent_rows c.args.patterns) c.loop-row.row (omega (arith, c.len-row-end.ensures, c.requires.lengths)) c.requires.utf8_patterns
+pub row_liked-requires-clause-pattern : goal.row_liked-requires-clause-pattern
+row_liked-requires-clause-pattern c = ap has_text c.cell-in-loop-row.ensures ∙ row_passes has_text (lent_rows c.args.patterns) c.loop-row.row (omega (arith, c.len-row-end.ensures, c.requires.lengths)) c.requires.utf8_patterns
 
 pub loop-row-preserved : goal.loop-row-preserved
 loop-row-preserved c =

@@ -13,8 +13,8 @@ use Rattle.vx_rows.proofs.matching.columns.liked_by_one.Goals as goal
 pub loop-row-init : goal.loop-row-init
 loop-row-init c = record { long = ap length c.in_ok-truths.ensures ∙ length-replicate c.len.result null ∙ c.len.ensures; done = refl }
 
-pub cell_liked-answer-requires : goal.cell_liked-answer-requires
-cell_liked-answer-requires c = ap has_text c.cell.ensures ∙ row_passes has_text (lent_rows c.args.texts) c.loop-row.row (omega (arith, c.len-row-end.ensures)) c.requires.utf8
+pub cell_liked-requires : goal.cell_liked-requires
+cell_liked-requires c = ap has_text c.cell.ensures ∙ row_passes has_text (lent_rows c.args.texts) c.loop-row.row (omega (arith, c.len-row-end.ensures)) c.requires.utf8
 
 pub loop-row-preserved : goal.loop-row-preserved
 loop-row-preserved c =
