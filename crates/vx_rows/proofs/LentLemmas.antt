@@ -1,7 +1,7 @@
 -- Rows by their items and validity: their number, and one of them.
-use Rattle.std.proofs.Common.{◌≡◌, ◌<◌, ◌∙◌, ℕ, ℤ, pos, Bool, true, false, cond, List, [], map, length, sym, ap, arith}
-use Rattle.std.specs.Prelude.{slice_index_or, replicate}
-use Rattle.vx_base.specs.PlainValue.{PlainValue, truth, int, bytes, null}
+use Rattle.std.proofs.Common.{◌≡◌, ◌<◌, ℕ, ℤ, pos, Bool, true, false, cond, List, [], map, length, arith}
+use Rattle.std.specs.Prelude.{slice_index_or}
+use Rattle.vx_base.specs.PlainValue.{truth, int, bytes, null}
 use Rattle.vx_model.specs.Refusals.{validity_length}
 use Rattle.vx_model.specs.Rows.{is_valid_at, row_at, valid_rows}
 use Rattle.vx_model.specs.Tree.{Validity}

@@ -1,8 +1,8 @@
 -- Whether the rest of a text matches the rest of a pattern: no items, and one item more in front.
-use Rattle.std.proofs.Common.{◌≡◌, ◌<◌, ◌∙◌, ℕ, zero, suc, ◌+◌, Bool, true, false, cond, List, [], ◌∷◌, ◌++◌, map, take, drop, length, get_or, set, refl, sym, ap, arith, append_assoc}
+use Rattle.std.proofs.Common.{◌≡◌, ◌<◌, ◌∙◌, ℕ, zero, suc, ◌+◌, Bool, true, false, cond, List, [], ◌∷◌, ◌++◌, map, take, drop, length, get_or, set, refl, sym, ap, arith}
 use Rattle.std.specs.Prelude.{◌&&◌, ◌||◌, ◌==◌, replicate}
 use Rattle.std.specs.List.{list_any}
-use Rattle.vx_rules.specs.Patterns.{PatternItem, any_run, any_char, exactly, item_of, matches, pattern_items, suffixes}
+use Rattle.vx_rules.specs.Patterns.{PatternItem, any_run, exactly, item_of, matches, pattern_items, suffixes}
 use Rattle.vx_rows.specs.Suffixes.{any_from, ends_of, first_of, shifted}
 
 pub none-ends : (cs : List ℕ) → replicate (length cs) false ++ true ∷ [] ≡ ends_of [] cs

@@ -1,5 +1,5 @@
 -- A function of each row, over rows with their validity: null stays null, and a valid row goes by its item.
-use Rattle.std.proofs.Common.{◌≡◌, ◌∙◌, ℕ, zero, suc, Bool, true, false, cond, List, [], ◌∷◌, map, length, Some, None, refl, sym, ap, arith}
+use Rattle.std.proofs.Common.{◌≡◌, ℕ, zero, suc, Bool, true, false, cond, List, [], ◌∷◌, map, length, Some, None, refl, ap, arith}
 use Rattle.std.specs.Prelude.{◌&&◌, replicate, zip}
 use Rattle.vx_base.specs.PlainValue.{PlainValue, null}
 use Rattle.vx_model.specs.Tree.{Validity}

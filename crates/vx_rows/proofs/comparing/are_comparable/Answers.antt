@@ -1,4 +1,4 @@
-use Rattle.std.proofs.Common.{◌≡◌, ◌∙◌, ap, sym}
+use Rattle.std.proofs.Common.{◌∙◌, ap, sym}
 use Rattle.std.specs.Prelude.{◌&&◌}
 use Rattle.vx_base.specs.PlainType.{same_base}
 use Rattle.vx_base.specs.TypeOf.{type_of}

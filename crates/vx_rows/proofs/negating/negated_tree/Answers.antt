@@ -1,11 +1,11 @@
-use Rattle.std.proofs.Common.{◌≡◌, ◌∙◌, ap, map, sym}
+use Rattle.std.proofs.Common.{◌∙◌, ap, map, sym}
 use Rattle.std.specs.List.{list_all}
 use Rattle.vx_base.specs.PlainScalar.{fits}
 use Rattle.vx_base.specs.PlainType as types
 use Rattle.vx_base.specs.PlainType.{is_flat, nullability_of}
 use Rattle.vx_model.specs.Column.{column}
 use Rattle.vx_model.specs.TreeType.{tree_type}
-use Rattle.vx_rows.specs.Readable.{held, lent_rows}
+use Rattle.vx_rows.specs.Readable.{lent_rows}
 use Rattle.vx_rules.specs.Comparisons.{negated}
 use Rattle.vx_rows.proofs.AnswerLemmas.{boolean-is, negated-fit}
 use Rattle.vx_rows.proofs.negating.negated_tree.Goals as goal

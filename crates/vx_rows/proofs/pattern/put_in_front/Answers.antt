@@ -1,5 +1,5 @@
-use Rattle.std.proofs.Common.{◌≡◌, ◌∙◌, ◌∷◌, Some, None, ap, refl, sym}
-use Rattle.vx_rules.specs.Patterns.{PatternItem, any_char, exactly}
+use Rattle.std.proofs.Common.{◌∙◌, ◌∷◌, Some, None, ap, refl, sym}
+use Rattle.vx_rules.specs.Patterns.{any_char, exactly}
 use Rattle.vx_rows.specs.Suffixes.{any_from, ends_of, fits_char, plain_item, shifted}
 use Rattle.vx_rows.proofs.SuffixLemmas.{ends-any_run, ends-one}
 use Rattle.vx_rows.proofs.pattern.put_in_front.Goals as goal

@@ -1,4 +1,4 @@
-use Rattle.std.proofs.Common.{◌≡◌, ◌∙◌, ◌+◌, ap, arith, refl}
+use Rattle.std.proofs.Common.{◌+◌, ap, arith, refl}
 use Rattle.std.specs.Prelude.{◌&&◌, slice_index_or, false}
 use Rattle.vx_rows.specs.Suffixes.{fits_char}
 use Rattle.vx_rows.proofs.SuffixLemmas.{shifted-done, shifted-more}

@@ -1,4 +1,4 @@
-use Rattle.std.proofs.Common.{◌≡◌, ◌∙◌}
+use Rattle.std.proofs.Common.{◌∙◌}
 use Rattle.std.specs.Prelude.{◌&&◌}
 use Rattle.vx_base.specs.TypeOf.{type_of}
 use Rattle.vx_rows.proofs.AnswerLemmas.{within-types}

@@ -1,11 +1,11 @@
-use Rattle.std.proofs.Common.{◌≡◌, ◌∙◌, ap, length, sym}
+use Rattle.std.proofs.Common.{◌∙◌, ap, length, sym}
 use Rattle.std.specs.List.{list_all}
 use Rattle.std.specs.Prelude.{replicate}
 use Rattle.std.proofs.lemmas.List.{length-replicate}
 use Rattle.vx_base.specs.PlainScalar.{fits}
 use Rattle.vx_base.specs.PlainType as types
 use Rattle.vx_base.specs.PlainType.{is_flat, nullability_of, or_nullable}
-use Rattle.vx_model.specs.Column.{column, column_of, IsColumn}
+use Rattle.vx_model.specs.Column.{column, column_of}
 use Rattle.vx_model.specs.TreeType.{tree_type}
 use Rattle.vx_rules.specs.Operations.{repeated}
 use Rattle.vx_rows.specs.Readable.{held, lent_rows}

@@ -1,10 +1,10 @@
-use Rattle.std.proofs.Common.{◌≡◌, ◌∙◌, ap, length, sym}
+use Rattle.std.proofs.Common.{◌∙◌, ap, length, sym}
 use Rattle.std.specs.List.{list_all}
 use Rattle.std.proofs.lemmas.Bool.{and_parts, eqb-true}
 use Rattle.vx_base.specs.PlainScalar.{fits}
 use Rattle.vx_base.specs.PlainType as types
 use Rattle.vx_base.specs.PlainType.{is_flat, nullability_of, or_nullable}
-use Rattle.vx_model.specs.Column.{column, column_of, IsColumn}
+use Rattle.vx_model.specs.Column.{column, column_of}
 use Rattle.vx_model.specs.TreeType.{tree_type}
 use Rattle.vx_rows.specs.Readable.{held, lent_rows}
 use Rattle.vx_rows.proofs.AnswerLemmas.{comparable-flat, within-comparable, within-fit, within-made}

@@ -1,4 +1,4 @@
-use Rattle.std.proofs.Common.{◌≡◌, ◌∙◌, ◌+◌, ap, arith, length, refl, take}
+use Rattle.std.proofs.Common.{◌∙◌, ◌+◌, ap, arith, length, refl, take}
 use Rattle.std.proofs.lemmas.List.{length-replicate, length-set}
 use Rattle.vx_base.specs.PlainValue.{null}
 use Rattle.vx_rules.specs.Comparisons.{compared}

@@ -1,11 +1,9 @@
-use Rattle.std.proofs.Common.{◌≡◌, ◌∙◌, ap, length, map, sym}
-use Rattle.std.specs.Ordering.{int_cmp}
+use Rattle.std.proofs.Common.{◌∙◌, ap, length, map, sym}
 use Rattle.vx_base.specs.PlainValue.{truth}
 use Rattle.vx_model.specs.Refusals.{validity_length}
 use Rattle.vx_model.specs.Rows.{valid_rows}
-use Rattle.vx_rules.specs.Comparisons.{holds}
 use Rattle.vx_values.specs.IntsOf.{wholes_of}
-use Rattle.vx_rows.specs.Pairs.{both_valid, each_pair}
+use Rattle.vx_rows.specs.Pairs.{both_valid}
 use Rattle.vx_rows.proofs.AnswerLemmas.{or-map, rows-of-pairs, some-equal}
 use Rattle.vx_rows.proofs.LentLemmas.{length-ints}
 use Rattle.vx_rows.proofs.PairLemmas.{length-each_pair}

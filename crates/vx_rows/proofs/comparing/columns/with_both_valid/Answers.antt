@@ -1,4 +1,4 @@
-use Rattle.std.proofs.Common.{◌≡◌, ◌∙◌, ap, length, map, refl}
+use Rattle.std.proofs.Common.{◌∙◌, ap, length, map, refl}
 use Rattle.vx_base.specs.PlainValue.{truth}
 use Rattle.vx_model.specs.Refusals.{validity_length}
 use Rattle.vx_model.specs.Rows.{valid_rows}

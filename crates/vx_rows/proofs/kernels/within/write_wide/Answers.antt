@@ -1,4 +1,4 @@
-use Rattle.std.proofs.Common.{◌≡◌, ◌∙◌, ℤ, Bool, arith, map, sym}
+use Rattle.std.proofs.Common.{◌∙◌, ℤ, Bool, arith, map, sym}
 use Rattle.std.specs.Int.{w128}
 use Rattle.std.specs.Prelude.{◌&&◌}
 use Rattle.std.specs.Ordering.{int_cmp}

@@ -1,4 +1,4 @@
-use Rattle.std.proofs.Common.{◌≡◌, ◌∙◌, ◌+◌, ap, arith, length, map, refl, take}
+use Rattle.std.proofs.Common.{◌∙◌, ◌+◌, ap, arith, length, map, refl, take}
 use Rattle.std.proofs.lemmas.List.{length-replicate, length-set}
 use Rattle.vx_base.specs.PlainValue.{bytes, null}
 use Rattle.vx_model.proofs.FrameOfReferenceLemmas.{row_passes}

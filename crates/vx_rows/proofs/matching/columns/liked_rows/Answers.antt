@@ -1,5 +1,4 @@
 use Rattle.std.proofs.Common.{◌≡◌, ◌∙◌, ap, arith, length, map, sym}
-use Rattle.std.specs.Prelude.{replicate}
 use Rattle.vx_base.specs.PlainValue.{bytes}
 use Rattle.vx_rules.specs.Patterns.{liked}
 use Rattle.vx_rows.specs.Readable.{lent_rows}

@@ -1,5 +1,4 @@
-use Rattle.std.proofs.Common.{◌≡◌, ◌∙◌, ap, length, sym}
-use Rattle.vx_rules.specs.Comparisons.{bound_operator}
+use Rattle.std.proofs.Common.{◌∙◌, ap, length, sym}
 use Rattle.vx_rows.specs.Pairs.{both_true, compared_rows, each_pair}
 use Rattle.vx_rows.specs.Readable.{lent_rows}
 use Rattle.vx_rows.proofs.AnswerLemmas.{or-map, rows-by-bounds}

@@ -1,4 +1,4 @@
-use Rattle.std.proofs.Common.{◌≡◌, ◌∙◌, ap, length, map, sym}
+use Rattle.std.proofs.Common.{◌∙◌, ap, length, map, sym}
 use Rattle.std.specs.Prelude.{◌&&◌}
 use Rattle.vx_base.specs.PlainValue.{truth}
 use Rattle.vx_model.specs.Refusals.{validity_length}
