@@ -1,10 +1,10 @@
 //! Columns that the tests share, and what they are compared with.
 
 use std::alloc::Global;
-use vx_array::{ArrayRef, Arrays};
+use vx_array::ArrayRef;
 use vx_base::Nullability::{NonNullable, Nullable};
 use vx_base::PType::{I32, U8};
-use vx_base::{DType, Names, Nullability, PType, Scalar, Text, VortexError, VortexResult};
+use vx_base::{DType, Nullability, PType, Scalar, Text, VortexResult};
 use vx_fixtures::{accepted, bits, byte_rows, flat, with_nulls};
 
 /// Texts without nulls.
@@ -75,42 +75,4 @@ pub fn by_codes(alloc: Global) -> VortexResult<ArrayRef> {
     )?;
     let values = flat(alloc, I32, NonNullable, &[5, 9])?;
     accepted(ArrayRef::dict(alloc, codes, values))
-}
-
-/// Structs of one i32 each: of 1, null over 8, and of 1.
-pub fn structs(alloc: Global) -> VortexResult<ArrayRef> {
-    let mut names = Names::new_in(alloc);
-    let name = Text::from_string(String::from_str(alloc, "a")?);
-    names.push(name).ok().ok_or(VortexError::NoMemory)?;
-    let mut fields = Arrays::new_in(alloc);
-    fields
-        .push(flat(alloc, I32, NonNullable, &[1, 8, 1])?)
-        .ok()
-        .ok_or(VortexError::NoMemory)?;
-    let valid = Some(bits(alloc, &[true, false, true])?);
-    accepted(ArrayRef::structure(alloc, names, fields, 3, valid, Nullable))
-}
-
-/// The bytes of a text or binary scalar are these.
-pub fn is_text(scalar: &Scalar, text: &str) -> bool {
-    if !scalar.dtype().is_flat() {
-        return false;
-    }
-    scalar.cell().bytes() == text.as_bytes()
-}
-
-/// The rows of a text column are these, None of null.
-pub fn has_texts(array: &ArrayRef, rows: &[Option<&str>]) -> bool {
-    if !array.dtype().is_flat() || array.len() != rows.len() as u64 {
-        return false;
-    }
-    for row in 0..rows.len() {
-        let cell = array.cell_at(row as u64);
-        match rows[row] {
-            Some(text) if cell.is_null() || cell.bytes() != text.as_bytes() => return false,
-            None if !cell.is_null() => return false,
-            _ => {}
-        }
-    }
-    true
 }
