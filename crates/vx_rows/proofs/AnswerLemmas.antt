@@ -1,10 +1,7 @@
 -- What the row functions answer, by the rows that they read: of the type and rows of their rules, and each row of its type.
 use Rattle.std.proofs.Common.{◌≡◌, ◌∙◌, ℕ, ℤ, Bool, true, false, List, [], ◌∷◌, map, length, refl, sym, ap, cond, Option, Some, None, unwrap_or}
 use Rattle.std.specs.Prelude.{◌&&◌, ◌||◌, IfSome, replicate, Result, Ok, Err}
-use Rattle.std.specs.declared.cmp.Ordering.{Ordering}
-use Rattle.std.specs.declared.cmp.Ordering.TheVariants.{Less, Equal, Greater}
-use Rattle.std.specs.Ordering.{int_cmp, ordering_reverse}
-use Rattle.std.proofs.lemmas.Cmp.{int_cmp_total, nat_list_cmp_total}
+use Rattle.std.specs.Ordering.{int_cmp}
 use Rattle.std.specs.List.{list_all}
 use Rattle.std.proofs.lemmas.Bool.{and_parts}
 use Rattle.vx_base.specs.declared.dtype.Nullability.{Nullability}
@@ -16,20 +13,19 @@ use Rattle.vx_base.specs.PlainType.{PlainType, is_flat, nullability_of, or_nulla
 use Rattle.vx_base.specs.PlainType as types
 use Rattle.vx_base.specs.IntegersIn.{integer_in}
 use Rattle.vx_base.specs.PlainValue.{PlainValue, bytes, int, is_null, items, null, truth}
-use Rattle.vx_model.specs.Column.{Column, column, column_of, IsColumn}
+use Rattle.vx_model.specs.Column.{Column, column, IsColumn}
 use Rattle.vx_rules.specs.declared.options.BetweenOptions.{BetweenOptions}
 use Rattle.vx_rules.specs.declared.options.CompareOperator.{CompareOperator}
-use Rattle.vx_rules.specs.declared.options.CompareOperator.TheVariants as ops
 use Rattle.vx_rules.specs.declared.options.LikeOptions.{LikeOptions}
 use Rattle.vx_model.specs.Rows.{valid_rows}
-use Rattle.vx_model.specs.Tree.{Tree, Validity}
+use Rattle.vx_model.specs.Tree.{Validity}
 use Rattle.vx_rules.specs.Comparisons.{bound_operator, compared, comparison, holds, is_boolean, negated, within_bounds}
 use Rattle.vx_rules.specs.Comparisons as comparisons
 use Rattle.vx_rules.specs.Patterns as patterns
 use Rattle.vx_rules.specs.ValueOrder.{value_cmp}
 use Rattle.vx_rules.proofs.FitLaws.{answers_are_columns}
 use Rattle.vx_base.specs.Storable.{same_path}
-use Rattle.vx_rows.specs.Pairs.{are_comparable, are_within_types, both_true, both_valid, compared_rows, each_pair, rows_within, turned, whole_holds, whole_within}
+use Rattle.vx_rows.specs.Pairs.{are_comparable, are_within_types, both_true, both_valid, compared_rows, each_pair, rows_within, whole_holds, whole_within}
 use Rattle.vx_rows.specs.Texts.{liked_rows}
 use Rattle.vx_rows.proofs.ValidLemmas.{map-valid, pair-replicate, pair-valid, triple-replicate}
 
@@ -62,72 +58,6 @@ negated-fit n vs h = answers_are_columns.not (column (types.boolean n) vs) h ref
 pub rows-with-whole : (op : CompareOperator) (w : ℤ) (valid : Validity) (zs : List ℤ) (n : ℕ) → length (valid_rows valid (map int zs)) ≡ n
     → compared_rows op (valid_rows valid (map int zs)) (replicate n (int w)) ≡ valid_rows valid (map truth (map (whole_holds op w) zs))
 rows-with-whole op w valid zs n e = pair-replicate (compared op) (valid_rows valid (map int zs)) (int w) n e ∙ map-valid (λ v. compared op v (int w)) int (whole_holds op w) truth refl (λ z. refl) valid zs
-
--- an operator holds of two values where the turned one holds of them exchanged
-turned-is : (op : CompareOperator) (o : Ordering) → holds op (ordering_reverse o) ≡ holds (turned op) o
-turned-is ops.Eq Less = refl
-turned-is ops.Eq Equal = refl
-turned-is ops.Eq Greater = refl
-turned-is ops.NotEq Less = refl
-turned-is ops.NotEq Equal = refl
-turned-is ops.NotEq Greater = refl
-turned-is ops.Gt Less = refl
-turned-is ops.Gt Equal = refl
-turned-is ops.Gt Greater = refl
-turned-is ops.Gte Less = refl
-turned-is ops.Gte Equal = refl
-turned-is ops.Gte Greater = refl
-turned-is ops.Lt Less = refl
-turned-is ops.Lt Equal = refl
-turned-is ops.Lt Greater = refl
-turned-is ops.Lte Less = refl
-turned-is ops.Lte Equal = refl
-turned-is ops.Lte Greater = refl
-
-value-turned : (v w : PlainValue) → value_cmp v w ≡ ordering_reverse (value_cmp w v)
-value-turned null null = refl
-value-turned null (truth b) = refl
-value-turned null (int z) = refl
-value-turned null (bytes cs) = refl
-value-turned null (items vs) = refl
-value-turned (truth a) null = refl
-value-turned (truth true) (truth true) = refl
-value-turned (truth true) (truth false) = refl
-value-turned (truth false) (truth true) = refl
-value-turned (truth false) (truth false) = refl
-value-turned (truth a) (int z) = refl
-value-turned (truth a) (bytes cs) = refl
-value-turned (truth a) (items vs) = refl
-value-turned (int y) null = refl
-value-turned (int y) (truth b) = refl
-value-turned (int y) (int z) = int_cmp_total.antisymm y z
-value-turned (int y) (bytes cs) = refl
-value-turned (int y) (items vs) = refl
-value-turned (bytes bs) null = refl
-value-turned (bytes bs) (truth b) = refl
-value-turned (bytes bs) (int z) = refl
-value-turned (bytes bs) (bytes cs) = nat_list_cmp_total.antisymm bs cs
-value-turned (bytes bs) (items vs) = refl
-value-turned (items us) null = refl
-value-turned (items us) (truth b) = refl
-value-turned (items us) (int z) = refl
-value-turned (items us) (bytes cs) = refl
-value-turned (items us) (items vs) = refl
-
-compared-turned : (op : CompareOperator) (v w : PlainValue) → compared op v w ≡ compared (turned op) w v
-compared-turned op v w = (λ i. cond (or-turned (is_null v) (is_null w) i) null (truth ((ap (holds op) (value-turned v w) ∙ turned-is op (value_cmp w v)) i)))
-  where
-    or-turned : (a b : Bool) → (a || b) ≡ (b || a)
-    or-turned true true = refl
-    or-turned true false = refl
-    or-turned false true = refl
-    or-turned false false = refl
-
-pub rows-turned : (op : CompareOperator) (vs ws : List PlainValue) → compared_rows op vs ws ≡ compared_rows (turned op) ws vs
-rows-turned op [] [] = refl
-rows-turned op [] (w ∷ ws) = refl
-rows-turned op (v ∷ vs) [] = refl
-rows-turned op (v ∷ vs) (w ∷ ws) = λ i. compared-turned op v w i ∷ rows-turned op vs ws i
 
 -- the value of a cell that is an integer
 pub integer-is : (v : PlainValue) (w : ℤ) → Some w ≡ integer_in v → v ≡ int w
@@ -177,11 +107,6 @@ or-map (Err e) P Q f h = h
 pub some-equal : {A : Type 0} (found : Option A) (x z : A) → found ≡ Some x → IfSome found (λ y. y ≡ z) → x ≡ z
 some-equal None x z e h = absurd cc
 some-equal (Some y) x z e h = sym (ap (λ o. unwrap_or o x) e) ∙ h
-
--- the column of an answer, by an equation
-pub answer-along : (r : Result Tree VortexError) (c d : Column) → c ≡ d → OrMemory r (λ out. column_of out ≡ c) → OrMemory r (λ out. column_of out ≡ d)
-answer-along (Ok t) c d e h = h ∙ e
-answer-along (Err x) c d e h = h
 
 -- ---- types of one base
 

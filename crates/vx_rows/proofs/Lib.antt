@@ -5,5 +5,6 @@ pub mod ReadLemmas
 pub mod SuffixLemmas
 pub mod TextLemmas
 pub mod TruthLemmas
+pub mod TurnLemmas
 pub mod ValidLemmas
 pub mod WholeLemmas

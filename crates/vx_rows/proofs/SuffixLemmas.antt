@@ -1,8 +1,8 @@
 -- Whether the rest of a text matches the rest of a pattern: no items, and one item more in front.
-use Rattle.std.proofs.Common.{◌≡◌, ◌<◌, ◌∙◌, ℕ, zero, suc, ◌+◌, Bool, true, false, cond, List, [], ◌∷◌, ◌++◌, map, take, drop, length, get_or, set, refl, sym, ap, arith}
-use Rattle.std.specs.Prelude.{◌&&◌, ◌||◌, ◌==◌, replicate}
+use Rattle.std.proofs.Common.{◌≡◌, ◌<◌, ◌∙◌, ℕ, zero, suc, ◌+◌, Bool, true, false, List, [], ◌∷◌, ◌++◌, map, take, drop, length, get_or, set, refl, sym, ap, arith}
+use Rattle.std.specs.Prelude.{◌&&◌, ◌||◌, replicate}
 use Rattle.std.specs.List.{list_any}
-use Rattle.vx_rules.specs.Patterns.{PatternItem, any_run, exactly, item_of, matches, pattern_items, suffixes}
+use Rattle.vx_rules.specs.Patterns.{PatternItem, any_run, matches, suffixes}
 use Rattle.vx_rows.specs.Suffixes.{any_from, ends_of, first_of, shifted}
 
 pub none-ends : (cs : List ℕ) → replicate (length cs) false ++ true ∷ [] ≡ ends_of [] cs
@@ -129,9 +129,3 @@ module _ (passes : ℕ → Bool) where
 
   pub shifted-done : (cs : List ℕ) (bs ends : List Bool) (i : ℕ) → i ≡ length cs → length bs ≡ length cs + 1 → ends ≡ take i (shifted passes cs bs) ++ drop i bs → set ends (length cs) false ≡ shifted passes cs bs
   shifted-done cs bs ends i f e s = ap (λ es. set es (length cs) false) (s ∙ ap (λ m. take m (shifted passes cs bs) ++ drop m bs) f) ∙ shifted-end cs bs (omega arith)
-
--- ---- the items of a pattern
-
-pub items-other : (c : ℕ) (cs : List ℕ) → (c == 92) ≡ false → pattern_items (c ∷ cs) ≡ item_of c ∷ pattern_items cs
-items-other c [] e = refl
-items-other c (d ∷ cs) e = ap (λ b. cond b (exactly d ∷ pattern_items cs) (item_of c ∷ pattern_items (d ∷ cs))) e

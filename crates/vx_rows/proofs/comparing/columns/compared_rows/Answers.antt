@@ -7,8 +7,9 @@ use Rattle.vx_model.specs.Rows.{valid_rows}
 use Rattle.vx_values.specs.IntsOf.{wholes_of}
 use Rattle.vx_rows.specs.Pairs.{compared_rows}
 use Rattle.vx_rows.specs.Readable.{is_whole, lent_rows}
-use Rattle.vx_rows.proofs.AnswerLemmas.{or-map, rows-turned}
+use Rattle.vx_rows.proofs.AnswerLemmas.{or-map}
 use Rattle.vx_rows.proofs.LentLemmas.{length-ints}
+use Rattle.vx_rows.proofs.TurnLemmas.{rows-turned}
 use Rattle.vx_rows.proofs.comparing.columns.compared_rows.Goals as goal
 
 pub compared_pairs-requires-clause-lengths : goal.compared_pairs-requires-clause-lengths
