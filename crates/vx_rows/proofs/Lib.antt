@@ -1,3 +1,4 @@
+pub mod AnswerLemmas
 pub mod BaseLemmas
 pub mod CastLemmas
 pub mod ConstantLemmas
@@ -7,7 +8,14 @@ pub mod ExtremeLemmas
 pub mod FillLemmas
 pub mod HeldLemmas
 pub mod LentLemmas
+pub mod PairLemmas
 pub mod ReadLemmas
 pub mod RetypeLemmas
+pub mod SuffixLemmas
 pub mod SummedLemmas
+pub mod TextLemmas
 pub mod TotalLemmas
+pub mod TruthLemmas
+pub mod TurnLemmas
+pub mod ValidLemmas
+pub mod WholeLemmas

@@ -1,9 +1,11 @@
 -- Trees whose rows are read where they stand.
-use Rattle.std.proofs.Common.{◌≡◌, ◌∙◌, true, List, refl, ap}
+use Rattle.std.proofs.Common.{◌≡◌, ◌∙◌, true, List, refl, ap, sym}
+use Rattle.std.specs.List.{list_all}
+use Rattle.vx_base.specs.PlainScalar.{fits}
 use Rattle.vx_base.specs.PlainType.{PlainType, is_flat}
 use Rattle.vx_base.specs.PlainType as types
 use Rattle.vx_base.specs.PlainValue.{PlainValue}
-use Rattle.vx_model.specs.Column.{column_of}
+use Rattle.vx_model.specs.Column.{column_of, IsColumn}
 use Rattle.vx_model.specs.Plain.{plain, plain_of}
 use Rattle.vx_model.specs.Rows.{rows}
 use Rattle.vx_model.specs.Tree.{Tree}
@@ -31,5 +33,9 @@ reads_plain t read h e c = record {
   rows = ap (λ k. k.values) c;
   readable = ap is_readable e ∙ readable-plain_of (tree_type t) (rows t) h;
 }
+
+-- the column of a tree, by the rows that are read
+pub read-column : (tree read : Tree) (vs : List PlainValue) → Reads tree read → vs ≡ rows read → list_all (fits (tree_type read)) vs ≡ true → IsColumn (column_of tree)
+read-column tree read vs r e h = (λ i. list_all (fits (sym r.dtype i)) ((sym r.rows ∙ sym e) i)) ∙ h
 
 pub ruleset reading = (reads_same, reads_plain)

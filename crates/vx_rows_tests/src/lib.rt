@@ -10,4 +10,10 @@ mod casts;
 #[cfg(test)]
 mod columns;
 #[cfg(test)]
+mod comparisons;
+#[cfg(test)]
 mod fills;
+#[cfg(test)]
+mod patterns;
+#[cfg(test)]
+mod ranges;

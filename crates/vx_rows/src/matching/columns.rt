@@ -1,0 +1,84 @@
+//! Texts that are read where they stand and their patterns, row by row.
+
+ghost use Rattle.std.specs.List.{list_all};
+ghost use Rattle.std.specs.Prelude.{◌≡◌, IsTrue, length, map};
+ghost use Rattle.std.specs.Str.{is_utf8};
+ghost use Rattle.vx_base.specs.Answers.{Answers};
+ghost use Rattle.vx_base.specs.PlainValue.{bytes};
+ghost use Rattle.vx_rows.specs.Readable.{is_whole, lent_rows};
+ghost use Rattle.vx_rows.specs.Texts.{has_text, liked_rows};
+ghost use Rattle.vx_rules.specs.Patterns.{liked};
+
+use super::cells::{cell_liked, items_of, row_liked};
+use crate::lent::{Lent, same_bytes};
+use crate::truths::{Truths, TruthsBuilder};
+use std::alloc::Global;
+use vx_base::VortexResult;
+use vx_rules::LikeOptions;
+
+/// Whether each text matches the pattern of its row. One pattern for all rows is read once.
+pub(super) fn liked_rows(
+    alloc: Global,
+    texts: Lent<'_>,
+    patterns: Lent<'_>,
+    options: LikeOptions,
+) -> VortexResult<Truths>
+    requires texts { IsTrue (is_whole texts) }
+    requires patterns { IsTrue (is_whole patterns) }
+    requires lengths { length (lent_rows texts) ≡ length (lent_rows patterns) }
+    requires utf8 { IsTrue (list_all has_text (lent_rows texts)) }
+    requires utf8_patterns { IsTrue (list_all has_text (lent_rows patterns)) }
+    ensures { Answers result (liked_rows options (lent_rows texts.entry) (lent_rows patterns.entry)) }
+{
+    // Without rows nothing says that the bytes of a constant are a text.
+    if texts.len() == 0 {
+        return Ok(TruthsBuilder::nulls(alloc, 0)?.finish());
+    }
+    match same_bytes(patterns) {
+        Some(pattern) => liked_by_one(alloc, texts, pattern, options),
+        None => liked_by_each(alloc, texts, patterns, options),
+    }
+}
+
+// Whether each text matches one pattern.
+fn liked_by_one(
+    alloc: Global,
+    texts: Lent<'_>,
+    pattern: &[u8],
+    options: LikeOptions,
+) -> VortexResult<Truths>
+    requires texts { IsTrue (is_whole texts) }
+    requires utf8 { IsTrue (list_all has_text (lent_rows texts)) }
+    requires utf8_pattern { IsTrue (is_utf8 pattern.now) }
+    ensures { Answers result (map (λ v. liked options v (bytes pattern.now)) (lent_rows texts.entry)) }
+{
+    let items = items_of(alloc, pattern)?;
+    let mut truths = TruthsBuilder::nulls(alloc, texts.len())?;
+    for row in 0..texts.len() {
+        let answer = cell_liked(alloc, texts.cell(row), items.as_slice(), options)?;
+        truths.set(row, answer);
+    }
+    Ok(truths.finish())
+}
+
+// Whether each text matches the pattern of its row.
+fn liked_by_each(
+    alloc: Global,
+    texts: Lent<'_>,
+    patterns: Lent<'_>,
+    options: LikeOptions,
+) -> VortexResult<Truths>
+    requires texts { IsTrue (is_whole texts) }
+    requires patterns { IsTrue (is_whole patterns) }
+    requires lengths { length (lent_rows texts) ≡ length (lent_rows patterns) }
+    requires utf8 { IsTrue (list_all has_text (lent_rows texts)) }
+    requires utf8_patterns { IsTrue (list_all has_text (lent_rows patterns)) }
+    ensures { Answers result (liked_rows options (lent_rows texts.entry) (lent_rows patterns.entry)) }
+{
+    let mut truths = TruthsBuilder::nulls(alloc, texts.len())?;
+    for row in 0..texts.len() {
+        let answer = row_liked(alloc, texts.cell(row), patterns.cell(row), options)?;
+        truths.set(row, answer);
+    }
+    Ok(truths.finish())
+}
