@@ -2,6 +2,7 @@ pub mod ByPieces
 pub mod ChosenLeaves
 pub mod Compacting
 pub mod Deciding
+pub mod EncodedRows
 pub mod IndexPieces
 pub mod KeptItems
 pub mod Leaves
@@ -10,6 +11,7 @@ pub mod Narrowing
 pub mod Parts
 pub mod Places
 pub mod Restricting
+pub mod SequenceRows
 pub mod StampColumns
 pub mod TakenColumns
 pub mod Taking

@@ -9,11 +9,13 @@ ghost use Rattle.vx_model.specs.WellFormed.{WellFormed};
 ghost use Rattle.vx_rules.specs.Selections.{filtered, mask_refusal};
 
 mod compacting;
+mod encoded;
 mod kernels;
 mod stored;
 
 use crate::by_pieces::pieced;
 use crate::stamps::stamped;
+use encoded::{kept_constant, kept_dict};
 use std::alloc::Global;
 use stored::{kept_bool, kept_primitive, kept_view};
 use vx_array::{ArrayRef, Node};
@@ -40,13 +42,26 @@ fn kept_rows(alloc: Global, tree: &ArrayRef, keep: &[bool]) -> VortexResult<Arra
     match tree.node() {
         Node::Bool(_, _, _) | Node::Primitive(_, _, _) => kept_stored(alloc, tree, keep),
         Node::VarBinView(_, _, _) | Node::Timestamp(_, _) => kept_stored(alloc, tree, keep),
-        _ if tree.dtype().is_flat() => kept_encoded(alloc, tree, keep),
+        _ => kept_encoded(alloc, tree, keep),
+    }
+}
+
+// `filter` of columns that aren't stored as they are. A constant or a dictionary isn't decoded.
+#[tactic(auto, using(crate::proofs::EncodedRows::lengths))]
+fn kept_encoded(alloc: Global, tree: &ArrayRef, keep: &[bool]) -> VortexResult<ArrayRef>
+    requires { length keep.now ≡ length (rows tree.now) }
+    ensures { OrMemory result (λ out. column_of out ≡ filtered (column_of tree.now) keep.now) }
+{
+    match tree.node() {
+        Node::Constant(value, len) => kept_constant(alloc, value, *len, keep),
+        Node::Dict(codes, values) => kept_dict(alloc, &codes.array, &values.array, keep),
+        _ if tree.dtype().is_flat() => kept_decoded(alloc, tree, keep),
         _ => kept_by_pieces(alloc, tree, keep),
     }
 }
 
 // `filter` of a flat column, decoded.
-fn kept_encoded(alloc: Global, tree: &ArrayRef, keep: &[bool]) -> VortexResult<ArrayRef>
+fn kept_decoded(alloc: Global, tree: &ArrayRef, keep: &[bool]) -> VortexResult<ArrayRef>
     requires { length keep.now ≡ length (rows tree.now) }
     ensures { OrMemory result (λ out. column_of out ≡ filtered (column_of tree.now) keep.now) }
 {
@@ -84,13 +99,13 @@ fn kept_stamps(
     requires bits { length keep.now ≡ length (rows storage.now) }
     ensures { OrMemory result (λ out. column_of out ≡ filtered (column_of (timestamp storage.now kind.now)) keep.now) }
 {
-    let chosen = kept_storage(alloc, storage, keep)?;
+    let chosen = kept_integers(alloc, storage, keep)?;
     stamped(alloc, chosen, kind)
 }
 
-// `filter` of the storage of timestamps.
+// `filter` of integers: the storage of timestamps, or the codes of a dictionary.
 #[tactic(auto, using(crate::proofs::ChosenLeaves::lengths))]
-fn kept_storage(alloc: Global, tree: &ArrayRef, keep: &[bool]) -> VortexResult<ArrayRef>
+fn kept_integers(alloc: Global, tree: &ArrayRef, keep: &[bool]) -> VortexResult<ArrayRef>
     requires { length keep.now ≡ length (rows tree.now) }
     ensures { OrMemory result (λ out. column_of out ≡ filtered (column_of tree.now) keep.now) }
 {

@@ -9,10 +9,12 @@ ghost use Rattle.vx_model.specs.Tree.{timestamp};
 ghost use Rattle.vx_model.specs.WellFormed.{WellFormed};
 ghost use Rattle.vx_rules.specs.Selections.{slice_refusal, sliced};
 
+mod encoded;
 mod stored;
 
 use crate::by_pieces::pieced;
 use crate::stamps::stamped;
+use encoded::{part_constant, part_dict, part_sequence};
 use std::alloc::Global;
 use stored::{part_bool, part_primitive, part_view};
 use vx_array::{ArrayRef, Node};
@@ -52,6 +54,22 @@ fn part(alloc: Global, tree: &ArrayRef, start: u64, end: u64) -> VortexResult<Ar
             part_view(alloc, values, valid, dtype, start, end)
         }
         Node::Timestamp(storage, kind) => part_stamps(alloc, &storage.array, kind, start, end),
+        _ => part_encoded(alloc, tree, start, end),
+    }
+}
+
+// `slice` of columns that aren't stored as they are.
+#[tactic(auto, using(crate::proofs::EncodedRows::lengths))]
+fn part_encoded(alloc: Global, tree: &ArrayRef, start: u64, end: u64) -> VortexResult<ArrayRef>
+    requires { IsTrue (is_part (length (rows tree.now)) start end) }
+    ensures { OrMemory result (λ out. column_of out ≡ sliced (column_of tree.now) start end) }
+{
+    match tree.node() {
+        Node::Constant(value, len) => part_constant(alloc, value, *len, start, end),
+        Node::Dict(codes, values) => part_dict(alloc, &codes.array, &values.array, start, end),
+        Node::Sequence(ptype, nullability, first, step, len) => {
+            part_sequence(*ptype, *nullability, *first, *step, *len, start, end)
+        }
         _ => part_by_pieces(alloc, tree, start, end),
     }
 }
@@ -68,13 +86,13 @@ fn part_stamps(
     requires part { IsTrue (is_part (length (rows storage.now)) start end) }
     ensures { OrMemory result (λ out. column_of out ≡ sliced (column_of (timestamp storage.now kind.now)) start end) }
 {
-    let chosen = part_storage(alloc, storage, start, end)?;
+    let chosen = part_integers(alloc, storage, start, end)?;
     stamped(alloc, chosen, kind)
 }
 
-// `slice` of the storage of timestamps.
+// `slice` of integers: the storage of timestamps, or the codes of a dictionary.
 #[tactic(auto, using(crate::proofs::ChosenLeaves::lengths))]
-fn part_storage(alloc: Global, tree: &ArrayRef, start: u64, end: u64) -> VortexResult<ArrayRef>
+fn part_integers(alloc: Global, tree: &ArrayRef, start: u64, end: u64) -> VortexResult<ArrayRef>
     requires { IsTrue (is_part (length (rows tree.now)) start end) }
     ensures { OrMemory result (λ out. column_of out ≡ sliced (column_of tree.now) start end) }
 {

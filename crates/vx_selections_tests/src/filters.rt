@@ -2,13 +2,13 @@
 
 use crate::printed::{filtered, is_refused, prints};
 use crate::trees::{
-    equal_lists, holes, lists, moments, pairs, sparse, structs, texts, truths, wholes,
+    dictionary, equal_lists, holes, lists, moments, pairs, sparse, structs, texts, truths, wholes,
 };
 use std::alloc::Global;
 use std::test::Fail;
 use vx_array::ArrayRef;
 use vx_base::Nullability::{NonNullable, Nullable};
-use vx_base::{Nullability, VortexError, VortexResult};
+use vx_base::{ArrayId, Nullability, VortexError, VortexResult};
 use vx_fixtures::{bits, has_stamps};
 
 // Whether the rows 1 and 3 of four print as these.
@@ -116,5 +116,17 @@ fn no_rows(rt: HostRuntime) -> Result<(), Fail> {
             &[]
         )?
     );
+    Ok(())
+}
+
+#[test]
+fn rows_that_are_not_decoded(rt: HostRuntime) -> Result<(), Fail> {
+    let alloc = rt.alloc();
+    let keep = bits(alloc, &[true, true, false, true])?;
+    let lists = filtered(alloc, &equal_lists(alloc)?, &keep)?;
+    assert!(rt; lists.encoding_id() == ArrayId::Constant);
+    let coded = filtered(alloc, &dictionary(alloc)?, &keep)?;
+    assert!(rt; coded.encoding_id() == ArrayId::Dict);
+    assert!(rt; prints(alloc, &coded, Nullable, &["7", "null", "8"])?);
     Ok(())
 }

@@ -2,13 +2,14 @@
 
 use crate::printed::{is_refused, prints, row_at, sliced};
 use crate::trees::{
-    equal_lists, holes, lists, moments, pairs, sparse, structs, texts, truths, wholes,
+    dictionary, equal_lists, holes, lists, moments, pairs, sparse, structs, texts, truths, wholes,
 };
 use std::alloc::Global;
 use std::test::Fail;
 use vx_array::ArrayRef;
 use vx_base::Nullability::{NonNullable, Nullable};
-use vx_base::{Nullability, VortexError, VortexResult};
+use vx_base::PType::I32;
+use vx_base::{ArrayId, Nullability, VortexError, VortexResult};
 use vx_fixtures::has_stamps;
 
 // Whether the rows 1 and 2 of four print as these.
@@ -97,5 +98,21 @@ fn rows_of_timestamps(rt: HostRuntime) -> Result<(), Fail> {
     let alloc = rt.alloc();
     let part = sliced(alloc, &moments(alloc)?, 1, 4)?;
     assert!(rt; has_stamps(&part, &[None, Some(5), Some(86_400)]));
+    Ok(())
+}
+
+#[test]
+fn rows_that_are_not_decoded(rt: HostRuntime) -> Result<(), Fail> {
+    let alloc = rt.alloc();
+    let lists = sliced(alloc, &equal_lists(alloc)?, 1, 3)?;
+    assert!(rt; lists.encoding_id() == ArrayId::Constant);
+    let coded = sliced(alloc, &dictionary(alloc)?, 1, 4)?;
+    assert!(rt; coded.encoding_id() == ArrayId::Dict);
+    assert!(rt; prints(alloc, &coded, Nullable, &["null", "7", "8"])?);
+    let steps = ArrayRef::sequence(I32, NonNullable, 5, -2, 4)?;
+    let part = sliced(alloc, &steps, 1, 3)?;
+    assert!(rt; part.encoding_id() == ArrayId::Sequence);
+    assert!(rt; prints(alloc, &part, NonNullable, &["3", "1"])?);
+    assert!(rt; prints(alloc, &sliced(alloc, &steps, 4, 4)?, NonNullable, &[])?);
     Ok(())
 }

@@ -9,7 +9,7 @@ use std::test::Fail;
 use vx_array::ArrayRef;
 use vx_base::Nullability::{NonNullable, Nullable};
 use vx_base::PType::{I32, U8};
-use vx_base::{Nullability, VortexError, VortexResult};
+use vx_base::{ArrayId, Nullability, VortexError, VortexResult};
 use vx_fixtures::{accepted, flat, has_stamps, with_nulls};
 
 // Whether the rows 3, 0 and 0 print as these.
@@ -96,6 +96,16 @@ fn rows_of_an_encoded_tree(rt: HostRuntime) -> Result<(), Fail> {
     let column = taken(alloc, &sparse(alloc)?, &indices)?;
     assert!(rt; prints(alloc, &column, Nullable, &["55", "null", "44"])?);
     assert!(rt; takes_three(alloc, &dictionary(alloc)?, Nullable, &["8", "7", "7"])?);
+    Ok(())
+}
+
+#[test]
+fn rows_that_are_not_decoded(rt: HostRuntime) -> Result<(), Fail> {
+    let alloc = rt.alloc();
+    let indices = flat(alloc, U8, NonNullable, &[2, 1])?;
+    let column = taken(alloc, &dictionary(alloc)?, &indices)?;
+    assert!(rt; column.encoding_id() == ArrayId::Dict);
+    assert!(rt; prints(alloc, &column, Nullable, &["7", "null"])?);
     Ok(())
 }
 

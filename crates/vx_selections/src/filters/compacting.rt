@@ -31,8 +31,8 @@ pub(super) fn kept_copies<T: Copy>(
     Ok(out)
 }
 
-// The number of true bits, as a sum: no branch per row.
-fn true_bits(bits: &[bool]) -> usize
+/// The number of true bits, as a sum: no branch per row.
+pub(super) fn true_bits(bits: &[bool]) -> usize
     ensures { result ≡ true_count bits.now }
 {
     let mut count = 0;

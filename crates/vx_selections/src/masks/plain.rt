@@ -43,13 +43,8 @@ pub(crate) fn restricted(
             restricted_view(alloc, values, own, dtype, valid, nullability)
         }
         Node::Timestamp(storage, kind) => {
-            restricted_stamps(
-                alloc,
-                Box::into_inner(storage.array),
-                &kind,
-                valid,
-                nullability,
-            )
+            let storage = Box::into_inner(storage.array);
+            restricted_stamps(alloc, storage, &kind, valid, nullability)
         }
         Node::Struct(names, fields, len, own, nulls) => {
             restricted_struct(alloc, names, fields, len, own, nulls, valid, nullability)

@@ -5,20 +5,22 @@ ghost use Rattle.std.specs.Prelude.{◌≡◌, IsTrue, length};
 ghost use Rattle.vx_base.specs.Answers.{OrMemory};
 ghost use Rattle.vx_model.specs.Column.{column_of};
 ghost use Rattle.vx_model.specs.Rows.{rows};
-ghost use Rattle.vx_model.specs.Tree.{primitive, timestamp};
+ghost use Rattle.vx_model.specs.Tree.{dict, primitive, timestamp};
 ghost use Rattle.vx_model.specs.WellFormed.{WellFormed, is_place};
 ghost use Rattle.vx_rules.specs.Selections.{taken};
 ghost use Rattle.vx_values.specs.IntsOf.{ptype_of, wholes_of};
 
 use super::pieces::taken_by_pieces;
 use super::stored::{taken_bool, taken_primitive, taken_view};
+use crate::over_values::over_values;
 use crate::stamps::stamped;
 use std::alloc::Global;
 use vx_array::{ArrayRef, Node};
 use vx_base::{Mask, Nullability, TimestampType, VortexResult};
 use vx_values::Ints;
 
-/// `take` by indices in bounds. A flat column that isn't stored as it is is decoded first.
+/// `take` by indices in bounds. A flat column that isn't stored as it is is decoded first, unless it is a dictionary.
+#[tactic(auto, using(crate::proofs::EncodedRows::lengths))]
 pub(super) fn taken_rows(
     alloc: Global,
     tree: &ArrayRef,
@@ -37,9 +39,30 @@ pub(super) fn taken_rows(
         Node::VarBinView(_, _, _) | Node::Timestamp(_, _) => {
             taken_stored(alloc, tree, codes, valid, nulls)
         }
+        Node::Dict(own, values) => {
+            taken_dict(alloc, &own.array, &values.array, codes, valid, nulls)
+        }
         _ if tree.dtype().is_flat() => taken_encoded(alloc, tree, codes, valid, nulls),
         _ => taken_by_pieces(alloc, tree, codes, valid, nulls),
     }
+}
+
+// `take` by indices in bounds, of a dictionary: the codes that are taken, over a copy of the values.
+fn taken_dict(
+    alloc: Global,
+    own: &ArrayRef,
+    values: &ArrayRef,
+    codes: &Ints,
+    valid: &Option<Mask>,
+    nulls: Nullability,
+) -> VortexResult<ArrayRef>
+    requires dictionary { WellFormed (dict own.now values.now) }
+    requires well { WellFormed (primitive (ptype_of codes.now) (wholes_of codes.now) valid.now nulls) }
+    requires places { IsTrue (list_all (is_place (length (rows own.now))) (rows (primitive (ptype_of codes.now) (wholes_of codes.now) valid.now nulls))) }
+    ensures { OrMemory result (λ out. column_of out ≡ taken (column_of (dict own.now values.now)) (column_of (primitive (ptype_of codes.now) (wholes_of codes.now) valid.now nulls))) }
+{
+    let chosen = taken_integers(alloc, own, codes, valid, nulls)?;
+    over_values(alloc, chosen, values)
 }
 
 // `take` by indices in bounds, of a flat column, decoded.
@@ -102,13 +125,13 @@ fn taken_stamps(
     requires places { IsTrue (list_all (is_place (length (rows storage.now))) (rows (primitive (ptype_of codes.now) (wholes_of codes.now) valid.now nulls))) }
     ensures { OrMemory result (λ out. column_of out ≡ taken (column_of (timestamp storage.now kind.now)) (column_of (primitive (ptype_of codes.now) (wholes_of codes.now) valid.now nulls))) }
 {
-    let chosen = taken_storage(alloc, storage, codes, valid, nulls)?;
+    let chosen = taken_integers(alloc, storage, codes, valid, nulls)?;
     stamped(alloc, chosen, kind)
 }
 
-// `take` by indices in bounds, of the storage of timestamps.
+// `take` by indices in bounds, of integers: the storage of timestamps, or the codes of a dictionary.
 #[tactic(auto, using(crate::proofs::ChosenLeaves::lengths))]
-fn taken_storage(
+fn taken_integers(
     alloc: Global,
     tree: &ArrayRef,
     codes: &Ints,
