@@ -1,0 +1,4 @@
+pub mod Following
+pub mod ReadScalars
+pub mod RowTexts
+pub mod StandardFacts

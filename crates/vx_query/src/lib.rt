@@ -1,0 +1,14 @@
+//! Runs the commands of a document on a tree: operations replace it, and each query prints a line of JSON.
+#![tactic(auto)]
+
+mod applying;
+mod asking;
+mod lines;
+mod reading;
+mod running;
+mod steps;
+
+pub use applying::apply;
+pub use asking::ask;
+pub use running::query_lines;
+pub use steps::{RowAnswer, RowOp, RowQuery};

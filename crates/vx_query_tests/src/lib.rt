@@ -1,0 +1,11 @@
+//! Tests of the commands of documents, run: each operation and each query, and each refusal.
+#![tactic(auto)]
+
+#[cfg(test)]
+mod answers;
+#[cfg(test)]
+mod operations;
+#[cfg(test)]
+mod queries;
+#[cfg(test)]
+mod refusals;
