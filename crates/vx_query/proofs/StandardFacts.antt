@@ -62,7 +62,7 @@ with_null = refl
 -- texts by a pattern, and negated
 pub patterns :
     query_lines (column (types.utf8 NonNullable) (bytes (codes "ab") ∷ bytes (codes "b") ∷ []))
-      (like (string (codes "a%")) (record { negated = false }) ∷ like (string (codes "a%")) (record { negated = true }) ∷ []) ≡ Ok (codes "[true,false]\n[false,true]\n")
+    (like (string (codes "a%")) (record { negated = false }) ∷ like (string (codes "a%")) (record { negated = true }) ∷ []) ≡ Ok (codes "[true,false]\n[false,true]\n")
 unfolding row_of
 patterns = refl
 

@@ -23,12 +23,7 @@ fn push_scalar(alloc: Global, text: &mut String, scalar: &Scalar) -> Result<(), 
 }
 
 // Appends a row.
-fn push_row(
-    alloc: Global,
-    text: &mut String,
-    tree: &ArrayRef,
-    row: u64,
-) -> Result<(), AllocError>
+fn push_row(alloc: Global, text: &mut String, tree: &ArrayRef, row: u64) -> Result<(), AllocError>
     requires { row < length (rows tree.now) }
     ensures { OnOk result (string_bytes text.new ≡ string_bytes text.old ++ value_text (tree_type tree.now) (row_at (rows tree.now) row)) }
 {

@@ -31,7 +31,8 @@ fn other_types_and_no_nulls(rt: HostRuntime) -> Result<(), Fail> {
 #[test]
 fn one_after_another(rt: HostRuntime) -> Result<(), Fail> {
     let alloc = rt.alloc();
-    let commands = "[[\"rows\"],[\"slice\",1,3],[\"null_count\"],[\"fill_null\",0],[\"rows\"],[\"row\",1]]";
+    let commands =
+        "[[\"rows\"],[\"slice\",1,3],[\"null_count\"],[\"fill_null\",0],[\"rows\"],[\"row\",1]]";
     let lines = "[5,null,7]\n1\n[0,7]\n7\n";
     assert!(rt; prints(alloc, "\"i32?\"", "[5,null,7]", commands, lines)?);
     assert!(rt; prints(alloc, "\"i32?\"", "[5,null,7]", "[]", "")?);

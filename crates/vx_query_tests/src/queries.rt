@@ -13,7 +13,15 @@ fn numbers(rt: HostRuntime) -> Result<(), Fail> {
     assert!(rt; prints(alloc, "\"i32?\"", "[5,null,7]", commands, "1\n12\n[0,7]\n")?);
     let commands = "[[\"min_max\"],[\"is_constant\"],[\"sum\"]]";
     assert!(rt; prints(alloc, "\"u8\"", "[]", commands, "null\nfalse\n0\n")?);
-    assert!(rt; prints(alloc, "\"u8\"", "[4,4]", "[[\"is_constant\"],[\"row\",1]]", "true\n4\n")?);
+    assert!(rt;
+        prints(
+            alloc,
+            "\"u8\"",
+            "[4,4]",
+            "[[\"is_constant\"],[\"row\",1]]",
+            "true\n4\n"
+        )?
+    );
     Ok(())
 }
 
@@ -38,7 +46,8 @@ fn truths(rt: HostRuntime) -> Result<(), Fail> {
 #[test]
 fn timestamps(rt: HostRuntime) -> Result<(), Fail> {
     let alloc = rt.alloc();
-    let commands = "[[\"compare\",\"<\",0],[\"between\",-1,0,false,false],[\"compare\",\">\",-9223372036854775808],[\"rows\"]]";
+    let commands =
+        "[[\"compare\",\"<\",0],[\"between\",-1,0,false,false],[\"compare\",\">\",-9223372036854775808],[\"rows\"]]";
     let lines = "[true,false]\n[true,false]\n[true,true]\n[-1,86400]\n";
     assert!(rt; prints(alloc, "\"timestamp s\"", "[-1,86400]", commands, lines)?);
     Ok(())
@@ -47,8 +56,17 @@ fn timestamps(rt: HostRuntime) -> Result<(), Fail> {
 #[test]
 fn lists(rt: HostRuntime) -> Result<(), Fail> {
     let alloc = rt.alloc();
-    let commands = "[[\"null_count\"],[\"fill_null\",[9]],[\"rows\"],[\"row\",0],[\"is_constant\"]]";
+    let commands =
+        "[[\"null_count\"],[\"fill_null\",[9]],[\"rows\"],[\"row\",0],[\"is_constant\"]]";
     let lines = "1\n[[1,2],[9]]\n[1,2]\nfalse\n";
-    assert!(rt; prints(alloc, "{\"list\":\"u8\",\"nullable\":true}", "[[1,2],null]", commands, lines)?);
+    assert!(rt;
+        prints(
+            alloc,
+            "{\"list\":\"u8\",\"nullable\":true}",
+            "[[1,2],null]",
+            commands,
+            lines
+        )?
+    );
     Ok(())
 }

@@ -25,7 +25,13 @@ fn positions(rt: HostRuntime) -> Result<(), Fail> {
 fn types(rt: HostRuntime) -> Result<(), Fail> {
     let alloc = rt.alloc();
     assert!(rt; refuses(alloc, "[[\"compare\",\"==\",256]]", "MismatchedTypes")?);
-    assert!(rt; refuses(alloc, "[[\"between\",0,\"3\",false,false]]", "MismatchedTypes")?);
+    assert!(rt;
+        refuses(
+            alloc,
+            "[[\"between\",0,\"3\",false,false]]",
+            "MismatchedTypes"
+        )?
+    );
     assert!(rt; refuses(alloc, "[[\"like\",\"3\"]]", "MismatchedTypes")?);
     assert!(rt; refuses(alloc, "[[\"not\"]]", "MismatchedTypes")?);
     assert!(rt; refuses(alloc, "[[\"fill_null\",null]]", "MismatchedTypes")?);
@@ -36,7 +42,13 @@ fn types(rt: HostRuntime) -> Result<(), Fail> {
 #[test]
 fn the_first_of_two(rt: HostRuntime) -> Result<(), Fail> {
     let alloc = rt.alloc();
-    assert!(rt; refuses(alloc, "[[\"sum\"],[\"filter\",[]],[\"not\"]]", "LengthMismatch")?);
+    assert!(rt;
+        refuses(
+            alloc,
+            "[[\"sum\"],[\"filter\",[]],[\"not\"]]",
+            "LengthMismatch"
+        )?
+    );
     assert!(rt; refuses(alloc, "[[\"not\"],[\"filter\",[]]]", "MismatchedTypes")?);
     assert!(rt; refuses(alloc, "[[\"cast\",\"i8\"],[\"row\",7]]", "OutOfBounds")?);
     Ok(())
