@@ -1,4 +1,3 @@
 pub mod Following
 pub mod ReadScalars
-pub mod RowTexts
 pub mod StandardFacts

@@ -1,15 +1,20 @@
 //! Reads commands by the type of the column that they find.
 
-ghost use Rattle.std.specs.Prelude.{◌≡◌, IfOk, map};
+ghost use Rattle.std.specs.List.{list_all};
+ghost use Rattle.std.specs.Prelude.{◌≡◌, IfOk, IsTrue, map};
 ghost use Rattle.serde_json.specs.View.{view};
+ghost use Rattle.vx_base.specs.Answers.{OrMemory};
+ghost use Rattle.vx_base.specs.PlainScalar.{fits};
+ghost use Rattle.vx_base.specs.PlainType.{primitive};
 ghost use Rattle.vx_base.specs.TypeOf.{type_of, value_of};
+ghost use Rattle.vx_base.specs.declared.dtype.Nullability.TheVariants.{Nullable};
+ghost use Rattle.vx_base.specs.declared.ptype.PType.TheVariants.{U64};
 ghost use Rattle.vx_document.specs.CommandView.{command_view};
 ghost use Rattle.vx_document.specs.Commands as commands;
 ghost use Rattle.vx_document.specs.Reading.{Gives};
 ghost use Rattle.vx_model.specs.Column.{column_of};
 ghost use Rattle.vx_query.specs.Queries.{index_column, index_row, scalar_read, step_of};
 ghost use Rattle.vx_query.specs.Steps.{step_view};
-ghost use Rattle.vx_base.specs.Answers.{OrMemory};
 
 use crate::steps::{RowOp, RowQuery, Step};
 use serde_json::Value as Json;
@@ -41,7 +46,8 @@ fn read_scalar(
 
 // Indices as values.
 fn index_values(alloc: Global, indices: Vec<Option<u64>>) -> Result<Vec<Value>, AllocError>
-    ensures { IfOk result (λ values. map value_of values.items ≡ map index_row indices.items) }
+    ensures values { IfOk result (λ values. map value_of values.items ≡ map index_row indices.items) }
+    ensures fit { IfOk result (λ values. IsTrue (list_all (fits (primitive U64 Nullable)) (map value_of values.items))) }
 {
     let mut values = Vec::with_capacity(alloc, indices.len())?;
     for index in indices {
@@ -52,7 +58,8 @@ fn index_values(alloc: Global, indices: Vec<Option<u64>>) -> Result<Vec<Value>, 
 
 // An index as a value.
 fn index_value(index: Option<u64>) -> Value
-    ensures { value_of result ≡ index_row index }
+    ensures value { value_of result ≡ index_row index }
+    ensures fits { IsTrue (fits (primitive U64 Nullable) (value_of result)) }
 {
     match index {
         Some(index) => Value::Int(i128::from(index)),
