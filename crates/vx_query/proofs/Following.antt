@@ -8,11 +8,12 @@ use Rattle.vx_base.specs.declared.error.VortexError.TheVariants.{NoMemory, Misma
 use Rattle.vx_document.specs.Commands.{PlainCommand}
 use Rattle.vx_model.specs.Column.{Column, column_of}
 use Rattle.vx_model.specs.Tree.{Tree}
-use Rattle.vx_rules.specs.Operations.{PlainAnswer}
+use Rattle.vx_rules.specs.Operations.{PlainAnswer, of_column}
 use Rattle.vx_rules.specs.Outcomes.{Follows, and_then, outcome}
 use Rattle.vx_query.specs.Queries.{PlainStep, line_of, mapped, or_mismatched, query_lines, stepped}
 use Rattle.vx_query.specs.Steps.{answer_of}
 use Rattle.vx_query.specs.declared.steps.RowAnswer.{RowAnswer}
+use Rattle.vx_query.specs.declared.steps.RowAnswer.TheVariants as answers
 
 -- ---- one call
 
@@ -29,13 +30,13 @@ pub following : (refusal : Option VortexError) (c : Column) (result : Result Tre
     → Follows (outcome refusal c) (λ out column. column_of out ≡ column) result
 following refusal c result h = followed refusal c (λ out column. column_of out ≡ column) result h
 
--- the same of what a function makes of an outcome
-pub followed-mapped : {A B C : Type 0} (f : A → B) (Is : B → C → Type 0) (refusal : Option VortexError) (answer : C) (result : Result A VortexError)
-    → Decided refusal (λ out. Is (f out) answer) result → Follows (outcome refusal answer) Is (mapped f result)
-followed-mapped f Is None answer (Ok a) h = h
-followed-mapped f Is None answer (Err e) h = h
-followed-mapped f Is (Some r) answer (Ok a) h = h
-followed-mapped f Is (Some r) answer (Err e) h = inr h
+-- a column as an answer
+pub column-answered : (refusal : Option VortexError) (c : Column) (result : Result Tree VortexError) → Decided refusal (λ out. column_of out ≡ c) result
+    → Follows (outcome refusal (of_column c)) (λ out answer. answer_of out ≡ answer) (mapped answers.Column result)
+column-answered None c (Ok tree) h = ap of_column h
+column-answered None c (Err e) h = h
+column-answered (Some f) c (Ok tree) h = h
+column-answered (Some f) c (Err e) h = inr h
 
 -- want of memory may come in place of anything
 pub no_memory : {A B : Type 0} (rule : Result B VortexError) (Is : A → B → Type 0) (e : VortexError) → e ≡ NoMemory → Follows rule Is (Err e)
