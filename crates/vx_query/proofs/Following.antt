@@ -1,6 +1,6 @@
 -- What calls answer, as the rules of a step, of a command and of a list of commands do.
 use Rattle.std.proofs.Common.{◌≡◌, ◌∙◌, ◌++◌, ◌∷◌, [], ℕ, List, Option, Some, None, Result, Ok, Err, refl, sym, ap, subst, inl, inr, append_assoc}
-use Rattle.std.specs.Prelude.{◌⊎◌}
+use Rattle.std.specs.Prelude.{◌⊎◌, IsErrAnd}
 use Rattle.std.proofs.lemmas.List.{append-nil}
 use Rattle.vx_base.specs.Answers.{Decided, OrMemory}
 use Rattle.vx_base.specs.declared.error.VortexError.{VortexError}
@@ -8,7 +8,7 @@ use Rattle.vx_base.specs.declared.error.VortexError.TheVariants.{NoMemory, Misma
 use Rattle.vx_document.specs.Commands.{PlainCommand}
 use Rattle.vx_model.specs.Column.{Column, column_of}
 use Rattle.vx_model.specs.Tree.{Tree}
-use Rattle.vx_rules.specs.Operations.{PlainAnswer, of_column}
+use Rattle.vx_rules.specs.Operations.{PlainAnswer, PlainOp, PlainQuery, all_answered, all_applied, answered, of_column}
 use Rattle.vx_rules.specs.Outcomes.{Follows, and_then, outcome}
 use Rattle.vx_query.specs.Queries.{PlainStep, line_of, mapped, or_mismatched, query_lines, stepped}
 use Rattle.vx_query.specs.Steps.{answer_of}
@@ -42,6 +42,11 @@ column-answered (Some f) c (Err e) h = inr h
 pub no_memory : {A B : Type 0} (rule : Result B VortexError) (Is : A → B → Type 0) (e : VortexError) → e ≡ NoMemory → Follows rule Is (Err e)
 no_memory (Ok answer) Is e h = h
 no_memory (Err f) Is e h = inl h
+
+-- an error that is handed on
+pub handed-on : {A B : Type 0} (rule : Result B VortexError) (Is : A → B → Type 0) (result : Result A VortexError) (e : VortexError) → IsErrAnd result (λ f. f ≡ e) → Follows {A = A} rule Is (Err e) → Follows rule Is result
+handed-on rule Is (Ok a) e h f = absurd h
+handed-on rule Is (Err g) e h f = rw h f
 
 -- ---- a step
 
@@ -107,3 +112,17 @@ lines-refused (Err f) others old new all e Is p h = rw (← p) h
 -- all lines, where no command is left
 pub lines-end : (text : List ℕ) → mapped (λ lines. text ++ lines) (Ok []) ≡ Ok text
 lines-end text = ap Ok (append-nil text)
+
+-- ---- operations one after another, and a query
+
+-- an operation is answered, and those behind it go on from its answer
+pub chain-next : (rule : Result Column VortexError) (ops : List PlainOp) (query : PlainQuery) (tree : Tree) → Follows rule (λ out column. column_of out ≡ column) (Ok tree)
+    → and_then (answered query) (and_then (all_applied ops) rule) ≡ all_answered ops query (column_of tree)
+chain-next (Ok c) ops query tree h = ap (all_answered ops query) (sym h)
+chain-next (Err e) ops query tree h = absurd h
+
+-- the first refusal is that of all
+pub chain-refused : {A : Type 0} (rule : Result Column VortexError) (ops : List PlainOp) (query : PlainQuery) (Is : A → PlainAnswer → Type 0) (e : VortexError) → Follows {A = Tree} rule (λ out column. column_of out ≡ column) (Err e)
+    → Follows (and_then (answered query) (and_then (all_applied ops) rule)) Is (Err e)
+chain-refused (Ok c) ops query Is e h = no_memory (and_then (answered query) (all_applied ops c)) Is e h
+chain-refused (Err f) ops query Is e h = h

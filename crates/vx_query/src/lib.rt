@@ -3,6 +3,7 @@
 
 mod applying;
 mod asking;
+mod chains;
 mod lines;
 mod reading;
 mod running;
@@ -10,5 +11,6 @@ mod steps;
 
 pub use applying::apply;
 pub use asking::ask;
+pub use chains::apply_all;
 pub use running::query_lines;
 pub use steps::{RowAnswer, RowOp, RowQuery};
