@@ -1,19 +1,20 @@
 -- What calls answer, as the rules of a step, of a command and of a list of commands do.
-use Rattle.std.proofs.Common.{◌≡◌, ◌∙◌, ◌++◌, ◌∷◌, [], ℕ, List, Option, Some, None, Result, Ok, Err, refl, sym, ap, subst, inl, inr, append_assoc}
+use Rattle.std.proofs.Common.{◌≡◌, ◌∙◌, ◌<◌, ◌+◌, ◌++◌, ◌∷◌, [], ℕ, List, Option, Some, None, Result, Ok, Err, drop, get_or, length, map, refl, sym, ap, subst, inl, inr, append_assoc}
 use Rattle.std.specs.Prelude.{◌⊎◌, IsErrAnd}
-use Rattle.std.proofs.lemmas.List.{append-nil}
+use Rattle.std.proofs.lemmas.List.{append-nil, at_drop_more}
 use Rattle.vx_base.specs.Answers.{Decided, OrMemory}
 use Rattle.vx_base.specs.declared.error.VortexError.{VortexError}
 use Rattle.vx_base.specs.declared.error.VortexError.TheVariants.{NoMemory, MismatchedTypes}
 use Rattle.vx_document.specs.Commands.{PlainCommand}
 use Rattle.vx_model.specs.Column.{Column, column_of}
 use Rattle.vx_model.specs.Tree.{Tree}
-use Rattle.vx_rules.specs.Operations.{PlainAnswer, PlainOp, PlainQuery, all_answered, all_applied, answered, of_column}
+use Rattle.vx_rules.specs.Operations.{PlainAnswer, PlainOp, PlainQuery, all_answered, all_applied, answered, applied, of_column}
 use Rattle.vx_rules.specs.Outcomes.{Follows, and_then, outcome}
 use Rattle.vx_query.specs.Queries.{PlainStep, line_of, mapped, or_mismatched, query_lines, stepped}
-use Rattle.vx_query.specs.Steps.{answer_of}
+use Rattle.vx_query.specs.Steps.{answer_of, op_of}
 use Rattle.vx_query.specs.declared.steps.RowAnswer.{RowAnswer}
 use Rattle.vx_query.specs.declared.steps.RowAnswer.TheVariants as answers
+use Rattle.vx_query.specs.declared.steps.RowOp.{RowOp}
 
 -- ---- one call
 
@@ -126,3 +127,19 @@ pub chain-refused : {A : Type 0} (rule : Result Column VortexError) (ops : List 
     → Follows (and_then (answered query) (and_then (all_applied ops) rule)) Is (Err e)
 chain-refused (Ok c) ops query Is e h = no_memory (and_then (answered query) (all_applied ops c)) Is e h
 chain-refused (Err f) ops query Is e h = h
+
+ops-more : (ops : List RowOp) (i : ℕ) (op : RowOp) → i < length ops → op ≡ get_or ops i op → map op_of (drop i ops) ≡ op_of op ∷ map op_of (drop (i + 1) ops)
+ops-more ops i op l e = at_drop_more (map op_of) ops i op l ∙ ap (λ o. op_of o ∷ map op_of (drop (i + 1) ops)) (sym e)
+
+module _ (ops : List RowOp) (i : ℕ) (op : RowOp) (query : PlainQuery) (tree : Tree) (l : i < length ops) (is : op ≡ get_or ops i op) where
+  -- those behind the first one that is left
+  pub ops-next : (next : Tree) → Follows (applied (op_of op) (column_of tree)) (λ out column. column_of out ≡ column) (Ok next)
+      → all_answered (map op_of (drop (i + 1) ops)) query (column_of next) ≡ all_answered (map op_of (drop i ops)) query (column_of tree)
+  ops-next next h =
+      sym (ap (λ left. all_answered left query (column_of tree)) (ops-more ops i op l is) ∙ chain-next (applied (op_of op) (column_of tree)) (map op_of (drop (i + 1) ops)) query next h)
+
+  -- the first one that is left is refused
+  pub ops-refused : {A : Type 0} (Is : A → PlainAnswer → Type 0) (e : VortexError) → Follows {A = Tree} (applied (op_of op) (column_of tree)) (λ out column. column_of out ≡ column) (Err e)
+      → Follows (all_answered (map op_of (drop i ops)) query (column_of tree)) Is (Err e)
+  ops-refused Is e h =
+      subst (λ left. Follows (all_answered left query (column_of tree)) Is (Err e)) (sym (ops-more ops i op l is)) (chain-refused (applied (op_of op) (column_of tree)) (map op_of (drop (i + 1) ops)) query Is e h)

@@ -31,5 +31,5 @@ returns-in_err-tree-clause-answer c =
     let left =
     ap (λ commands. mapped (λ lines. string_bytes l.text ++ lines) (query_lines (column_of l.tree) (map command_view commands))) (sym c.in-Some.ensures.steps.0)
     ∙ l.invariant.lines in
-    handed-on all (λ text lines. string_bytes text ≡ lines) c.from_residual.result e c.from_residual.ensures
+    handed-on all (λ text lines. string_bytes text ≡ lines) c.from_residual.result e c.from_residual.ensures.1
     (lines-refused step others (string_bytes l.text) (string_bytes c.run_command.new.text) all e (λ text lines. string_bytes text ≡ lines) left c.in_err-tree.ensures.answer)
