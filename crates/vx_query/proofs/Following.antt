@@ -1,8 +1,8 @@
 -- What calls answer, as the rules of a step, of a command and of a list of commands do.
 use Rattle.std.proofs.Common.{◌≡◌, ◌∙◌, ◌<◌, ◌+◌, ◌++◌, ◌∷◌, [], ℕ, List, Option, Some, None, Result, Ok, Err, drop, get_or, length, map, refl, sym, ap, subst, inl, inr, append_assoc}
-use Rattle.std.specs.Prelude.{◌⊎◌, IsErrAnd}
+use Rattle.std.specs.Prelude.{IsErrAnd}
 use Rattle.std.proofs.lemmas.List.{append-nil, at_drop_more}
-use Rattle.vx_base.specs.Answers.{Decided, OrMemory}
+use Rattle.vx_base.specs.Answers.{Decided}
 use Rattle.vx_base.specs.declared.error.VortexError.{VortexError}
 use Rattle.vx_base.specs.declared.error.VortexError.TheVariants.{NoMemory, MismatchedTypes}
 use Rattle.vx_document.specs.Commands.{PlainCommand}

@@ -1,6 +1,6 @@
 -- What the commands of a document print: each is read against the type of the column that it finds, an operation replaces the column,
 -- and a query prints a line.
-use Rattle.std.specs.Prelude.{◌≡◌, ℕ, pos, List, [], ◌∷◌, ◌++◌, map, if◌then◌else◌, Option, Some, None, option_map, Result, Ok, Err, codes, decimal}
+use Rattle.std.specs.Prelude.{ℕ, pos, List, [], ◌∷◌, ◌++◌, map, if◌then◌else◌, Option, Some, None, option_map, Result, Ok, Err, codes, decimal}
 use Rattle.serde_json.specs.Data.{Data}
 use Rattle.vx_base.specs.declared.dtype.Nullability.{Nullability}
 use Rattle.vx_base.specs.declared.dtype.Nullability.TheVariants.{NonNullable, Nullable}

@@ -1,10 +1,6 @@
-use Rattle.std.proofs.Common.{◌≡◌, ◌∙◌, ap}
 use Rattle.vx_model.specs.Column.{column_of}
-use Rattle.vx_query.specs.Steps.{answer_of, query_of}
-use Rattle.vx_query.specs.declared.steps.RowAnswer.TheVariants.{Column}
 use Rattle.vx_rules.specs.Comparisons.{between, between_refusal, compare_refusal, comparison}
-use Rattle.vx_rules.specs.Operations.{answered, of_column, repeated}
-use Rattle.vx_rules.specs.Outcomes.{Follows}
+use Rattle.vx_rules.specs.Operations.{repeated}
 use Rattle.vx_rules.specs.Patterns.{like, like_refusal}
 use Rattle.vx_query.proofs.Following.{column-answered}
 use Rattle.vx_query.proofs.asking.ask.Goals as goal

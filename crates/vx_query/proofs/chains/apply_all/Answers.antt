@@ -1,5 +1,4 @@
-use Rattle.std.proofs.Common.{◌≡◌, ◌<◌, ◌∙◌, length, map, rules, subst}
-use Rattle.vx_base.specs.declared.error.VortexError.{VortexError}
+use Rattle.std.proofs.Common.{◌≡◌, ◌<◌, length, map, rules, subst}
 use Rattle.std.specs.Prelude.{Err}
 use Rattle.vx_model.specs.Column.{column_of}
 use Rattle.vx_query.specs.Steps.{answer_of, op_of, query_of}
