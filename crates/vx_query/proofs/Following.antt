@@ -93,7 +93,7 @@ abbrev pub lines_behind : List PlainCommand → Column × List ℕ → Result (L
 lines_behind others s = mapped (λ lines. s.1 ++ lines) (query_lines s.0 others)
 
 -- two pieces before the others
-pub mapped-pieces : (old piece : List ℕ) (rule : Result (List ℕ) VortexError) → mapped (λ lines. old ++ lines) (mapped (λ lines. piece ++ lines) rule) ≡ mapped (λ lines. (old ++ piece) ++ lines) rule
+mapped-pieces : (old piece : List ℕ) (rule : Result (List ℕ) VortexError) → mapped (λ lines. old ++ lines) (mapped (λ lines. piece ++ lines) rule) ≡ mapped (λ lines. (old ++ piece) ++ lines) rule
 mapped-pieces old piece (Ok lines) = ap Ok (sym (append_assoc old piece lines))
 mapped-pieces old piece (Err e) = refl
 
@@ -110,20 +110,16 @@ pub lines-refused : (step : Result (Column × List ℕ) VortexError) (others : L
 lines-refused (Ok s) others old new all e Is p h = no_memory all Is e h
 lines-refused (Err f) others old new all e Is p h = rw (← p) h
 
--- all lines, where no command is left
-pub lines-end : (text : List ℕ) → mapped (λ lines. text ++ lines) (Ok []) ≡ Ok text
-lines-end text = ap Ok (append-nil text)
-
 -- ---- operations one after another, and a query
 
 -- an operation is answered, and those behind it go on from its answer
-pub chain-next : (rule : Result Column VortexError) (ops : List PlainOp) (query : PlainQuery) (tree : Tree) → Follows rule (λ out column. column_of out ≡ column) (Ok tree)
+chain-next : (rule : Result Column VortexError) (ops : List PlainOp) (query : PlainQuery) (tree : Tree) → Follows rule (λ out column. column_of out ≡ column) (Ok tree)
     → and_then (answered query) (and_then (all_applied ops) rule) ≡ all_answered ops query (column_of tree)
 chain-next (Ok c) ops query tree h = ap (all_answered ops query) (sym h)
 chain-next (Err e) ops query tree h = absurd h
 
 -- the first refusal is that of all
-pub chain-refused : {A : Type 0} (rule : Result Column VortexError) (ops : List PlainOp) (query : PlainQuery) (Is : A → PlainAnswer → Type 0) (e : VortexError) → Follows {A = Tree} rule (λ out column. column_of out ≡ column) (Err e)
+chain-refused : {A : Type 0} (rule : Result Column VortexError) (ops : List PlainOp) (query : PlainQuery) (Is : A → PlainAnswer → Type 0) (e : VortexError) → Follows {A = Tree} rule (λ out column. column_of out ≡ column) (Err e)
     → Follows (and_then (answered query) (and_then (all_applied ops) rule)) Is (Err e)
 chain-refused (Ok c) ops query Is e h = no_memory (and_then (answered query) (all_applied ops c)) Is e h
 chain-refused (Err f) ops query Is e h = h
