@@ -3,25 +3,44 @@
 use std::alloc::Global;
 use std::test::Fail;
 use vx_base::{ExecutionCtx, VortexError, Words};
-use vx_document::read_document;
+use vx_document::{Document, read_document};
 use vx_query::query_lines;
 
-// What the commands of a document print, or the name of what is refused.
+// A document with a type, rows and commands.
+pub(crate) fn document(
+    alloc: Global,
+    dtype: &str,
+    rows: &str,
+    commands: &str,
+) -> Result<Document, Fail> {
+    let text = format!(in alloc;
+        "{{\"type\":{dtype},\"rows\":{rows},\"words\":[0],\"commands\":{commands}}}"
+    )?;
+    let bytes = Vec::from_slice(alloc, text.as_str().as_bytes())?;
+    Ok(read_document(alloc, bytes)?)
+}
+
+// A context with one sample word.
+pub(crate) fn context(alloc: Global) -> Result<ExecutionCtx, Fail> {
+    let words = Vec::from_slice(alloc, [0].as_slice())?;
+    Ok(ExecutionCtx::new(alloc, Words::from_vec(words)))
+}
+
+// What the commands of a document print, or why one is refused.
 fn answer(
     alloc: Global,
     dtype: &str,
     rows: &str,
     commands: &str,
 ) -> Result<Result<String, VortexError>, Fail> {
-    let text = format!(in alloc;
-        "{{\"type\":{dtype},\"rows\":{rows},\"words\":[0],\"commands\":{commands}}}"
-    )?;
-    let bytes = Vec::from_slice(alloc, text.as_str().as_bytes())?;
-    let document = read_document(alloc, bytes)?;
-    let tree = document.column.into_plain(alloc)?;
-    let words = Vec::from_slice(alloc, [0].as_slice())?;
-    let mut ctx = ExecutionCtx::new(alloc, Words::from_vec(words));
-    Ok(query_lines(tree, document.commands, &mut ctx))
+    let Document {
+        column,
+        words: _,
+        commands,
+    } = document(alloc, dtype, rows, commands)?;
+    let tree = column.into_plain(alloc)?;
+    let mut ctx = context(alloc)?;
+    Ok(query_lines(tree, commands, &mut ctx))
 }
 
 // Whether the commands print these lines.
