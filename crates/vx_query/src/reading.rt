@@ -76,7 +76,7 @@ fn index_tree(alloc: Global, indices: Vec<Option<u64>>) -> VortexResult<ArrayRef
     ArrayRef::of_values(alloc, &dtype, values)
 }
 
-// A take.
+// A take, whose indices become a column.
 fn read_take(alloc: Global, dtype: &DType, indices: Vec<Option<u64>>) -> Result<Step, Unread>
     ensures { Gives step_view result (step_of (type_of dtype.now) (commands.take indices.items)) }
 {
@@ -86,7 +86,7 @@ fn read_take(alloc: Global, dtype: &DType, indices: Vec<Option<u64>>) -> Result<
     }
 }
 
-// A fill.
+// A fill, read in the type of the column without nulls.
 fn read_fill(alloc: Global, dtype: &DType, fill: Json) -> Result<Step, Unread>
     ensures { Gives step_view result (step_of (type_of dtype.now) (commands.fill_null (view fill))) }
 {
@@ -94,7 +94,7 @@ fn read_fill(alloc: Global, dtype: &DType, fill: Json) -> Result<Step, Unread>
     Ok(Step::Operation(RowOp::FillNull(fill)))
 }
 
-// A comparison.
+// A comparison with a value, which may be null.
 fn read_compare(
     alloc: Global,
     dtype: &DType,
@@ -107,7 +107,7 @@ fn read_compare(
     Ok(Step::Question(RowQuery::Compare(operator, value)))
 }
 
-// A range.
+// A range between two values, which may be null.
 fn read_between(
     alloc: Global,
     dtype: &DType,
