@@ -25,6 +25,7 @@ use crate::document::commands::read_commands;
 use crate::document::members::{has_only, take_member};
 use crate::document::types::read_type;
 use crate::document::words::words_in;
+pub use cells::read_row;
 pub use column::DocumentColumn;
 pub use commands::Command;
 use serde_json::Value;

@@ -5,6 +5,6 @@ mod document;
 mod listing;
 mod writing;
 
-pub use document::{Command, Document, DocumentColumn, Unread, read_document};
+pub use document::{Command, Document, DocumentColumn, Unread, read_document, read_row};
 pub use listing::{listing_text, listings_text, report_text};
 pub use writing::{MOST_BYTES, documents_text, extents_are_few};

@@ -1,5 +1,5 @@
-//! Tests of documents and listings: a small document of each type, the sample words of a seed, each command, lines with a scalar,
-//! and columns written as documents.
+//! Tests of documents and listings: a small document of each type, single rows, the sample words of a seed, each command, lines
+//! with a scalar, and columns written as documents.
 #![tactic(auto)]
 
 #[cfg(test)]
@@ -14,5 +14,7 @@ mod nested;
 mod other_commands;
 #[cfg(test)]
 mod reading;
+#[cfg(test)]
+mod single_rows;
 #[cfg(test)]
 mod writing;

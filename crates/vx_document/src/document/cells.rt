@@ -16,6 +16,14 @@ use serde_json::Value as Json;
 use std::alloc::Global;
 use vx_base::{DType, Fields, PType, Value, Values};
 
+/// A row of a type, of the value of JSON that stands for it in a document. Refuses BadDocument exactly where it is none, and
+/// NoMemory where memory runs out.
+pub fn read_row(alloc: Global, json: Json, dtype: &DType) -> Result<Value, Unread>
+    ensures { Gives value_of result (row_of (type_of dtype.now) (view json)) }
+{
+    read_cell(alloc, json, dtype)
+}
+
 // A row of the type.
 #[cycle(cell)]
 fn read_cell(alloc: Global, json: Json, dtype: &DType) -> Result<Value, Unread>
