@@ -1,5 +1,6 @@
 //! `vx compress` and `vx store` read a document, compress its column, and write the listing or the file of the tree. `vx show` and
-//! `vx rows` read a file, and write the listings of its trees or their columns as documents.
+//! `vx rows` read a file, and write the listings of its trees or their columns as documents. `vx query` runs a document's commands
+//! on its compressed column.
 #![tactic(auto)]
 
 use std::alloc::AllocError;

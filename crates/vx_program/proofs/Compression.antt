@@ -19,10 +19,12 @@ decided : {A : Type 0} (refusal : Option VortexError) (P : A → Type 0) (a : A)
 decided None P a h = h
 decided (Some e) P a h = absurd h
 
-pub is_compressed : (words : List ℕ) (t : Tree) (made : Compressed) → IsPlain t → made.plain ≡ nbytes t → Decided (compress_refusal t) (λ u. u ≡ shipped_tree words (column_of t)) (Ok made.tree) → IsCompressed words (column_of t) made
-is_compressed words t made e bytes answer = record {
+pub is_compressed : (words : List ℕ) (t : Tree) (made : Compressed) → IsPlain t → made.plain ≡ nbytes t → Decided (compress_refusal t) (λ u. u ≡ shipped_tree words (column_of t)) (Ok made.tree)
+    → column_of made.tree ≡ column_of t → IsCompressed words (column_of t) made
+is_compressed words t made e bytes answer kept = record {
   plain = bytes ∙ ap nbytes e;
   tree = decided (compress_refusal t) (λ u. u ≡ shipped_tree words (column_of t)) made.tree answer;
+  column = kept;
 }
 
 -- ---- the replies to a column, by whether it is within the row limit

@@ -1,21 +1,23 @@
 -- The status of a reply, and its cause.
-use Rattle.std.proofs.Common.{◌≡◌, ◌<◌, ℕ, List, length, Bool, true, false, leb, ltb, Option, Some, None, IfSome, codes, refl, ap, subst, sym, ◌∙◌, arith, inl, inr}
-use Rattle.std.specs.Prelude.{◌↔◌, ◌⊎◌, IsSomeAnd}
+use Rattle.std.proofs.Common.{◌≡◌, ◌<◌, ℕ, List, length, Bool, true, false, leb, ltb, Option, Some, None, Ok, Err, IfSome, codes, refl, ap, subst, sym, ◌∙◌, arith, inl, inr}
+use Rattle.std.specs.Prelude.{◌↔◌, ◌⊎◌, IsSomeAnd, Result}
 use Rattle.std.specs.List.{list_all}
 use Rattle.std.proofs.lemmas.Bool.{ltb-true, ltb-false}
 use Rattle.std.proofs.lemmas.Option.{IfSome_then}
+use Rattle.vx_base.specs.declared.error.VortexError.{VortexError}
 use Rattle.vx_model.specs.Tree.{Tree}
 use Rattle.vx_btrblocks.specs.Shipped.{shipped_tree}
 use Rattle.vx_document.specs.Document.{PlainDocument, document}
 use Rattle.vx_document.specs.Writing.{documents_text, extents_are_few}
+use Rattle.vx_query.specs.Queries.{query_lines}
 use Rattle.vx_spelling.specs.FileSpelling.{file_at}
-use Rattle.vx_program.specs.Answer.{Reply, IsReply, answer, refusal, read_fault, counts_fit, is_kept, of_column, stored, of_document, shown, written, of_file, of_input, of_bytes, of_form}
+use Rattle.vx_program.specs.Answer.{Reply, IsReply, answer, refusal, read_fault, counts_fit, is_kept, of_column, stored, of_document, queried, of_commands, shown, written, of_file, of_input, of_bytes, of_form}
 use Rattle.vx_program.specs.Causes.{Rose}
 use Rattle.vx_program.specs.Forms.{form_of, is_supported}
 use Rattle.vx_program.specs.Reading.{limit}
-use Rattle.vx_program.specs.Statuses.{IsWritten, IsAnswered, ComesExactly, IsUsage, IsRead, Has, IsBad, Refuses, Answers, IsBadInput, IsRefused, IsAnswerable, IsCompress, IsBadDocument, HasTooManyRows, IsCompressible, can_be_stored, can_be_written}
+use Rattle.vx_program.specs.Statuses.{IsWritten, IsAnswered, ComesExactly, IsUsage, IsRead, Has, IsBad, Refuses, Answers, IsBadInput, IsRefused, IsAnswerable, IsCompress, IsBadDocument, HasTooManyRows, IsCompressible, can_be_stored, can_be_asked, can_be_written}
 use Rattle.vx_program.specs.declared.forms.Form.{Form}
-use Rattle.vx_program.specs.declared.forms.Form.TheVariants.{Compress, Store, Show, Rows}
+use Rattle.vx_program.specs.declared.forms.Form.TheVariants.{Compress, Store, Show, Rows, Query}
 
 both : {A B : Type 0} → A → B → A ↔ B
 both a b = (λ _. b, λ _. a)
@@ -91,6 +93,23 @@ module _ (bytes : List ℕ) where
   store_causes None e = is_bad Store bytes e (λ r. rw e at r) (λ a. rw e at a)
   store_causes (Some d) e = store_tests d e (counts_fit d.column) (is_kept (shipped_tree d.words d.column)) refl refl
 
+  query_tests : (d : PlainDocument) → document bytes ≡ Some d → (fit : Bool) (lines : Result (List ℕ) VortexError) → counts_fit d.column ≡ fit → query_lines d.column d.commands ≡ lines
+      → FormCauses Query bytes (queried d.commands d.column).0
+  unfolding queried
+  query_tests d e true (Ok lines) f k =
+      let all : can_be_asked d ≡ true = rw (f, k) refl in
+      rw (f, k) (is_done Query bytes (λ b. cc) (λ r. let no : can_be_asked d ≡ false = rw e at r in cc) (rw e all))
+  query_tests d e true (Err error) f k =
+      let all : can_be_asked d ≡ false = rw (f, k) refl in
+      rw (f, k) (is_refused Query bytes (λ b. cc) (rw e all) (λ a. let yes : can_be_asked d ≡ true = rw e at a in cc))
+  query_tests d e false lines f k =
+      let all : can_be_asked d ≡ false = rw f refl in
+      rw f (is_refused Query bytes (λ b. cc) (rw e all) (λ a. let yes : can_be_asked d ≡ true = rw e at a in cc))
+
+  query_causes : (o : Option PlainDocument) → document bytes ≡ o → FormCauses Query bytes (of_commands o).0
+  query_causes None e = is_bad Query bytes e (λ r. rw e at r) (λ a. rw e at a)
+  query_causes (Some d) e = query_tests d e (counts_fit d.column) (query_lines d.column d.commands) refl refl
+
   show_causes : (o : Option (List Tree)) → file_at bytes ≡ o → FormCauses Show bytes (of_file shown o).0
   show_causes None e = is_bad Show bytes e (λ r. r) (λ a. rw e at a)
   show_causes (Some trees) e = is_done Show bytes (λ b. cc) (λ r. r) (rw e tt)
@@ -118,6 +137,7 @@ form_causes Compress bytes = compress_causes bytes (document bytes) refl
 form_causes Store bytes = store_causes bytes (document bytes) refl
 form_causes Show bytes = show_causes bytes (file_at bytes) refl
 form_causes Rows bytes = rows_causes bytes (file_at bytes) refl
+form_causes Query bytes = query_causes bytes (document bytes) refl
 
 -- the reply to bytes within the limit is never that of an input that is too long
 pub not_too_long : (form : Form) (bytes : List ℕ) (reply : Reply) → reply ≡ of_input form bytes → reply.0 ≡ 7 → ⊥

@@ -1,7 +1,8 @@
 -- The status and the output that the program answers its arguments and its input with.
-use Rattle.std.specs.Prelude.{◌≡◌, ◌⊎◌, ◌++◌, ℕ, List, [], ◌∷◌, length, map, Bool, true, nat_lt, nat_le, if◌then◌else◌, Option, Some, None, IfSome, codes, String, string_bytes}
+use Rattle.std.specs.Prelude.{◌≡◌, ◌⊎◌, ◌++◌, ℕ, List, [], ◌∷◌, length, map, Bool, true, nat_lt, nat_le, if◌then◌else◌, Option, Some, None, IfSome, Result, Ok, Err, codes, String, string_bytes}
 use Rattle.std.specs.declared.alloc.Global.{Global}
 use Rattle.std.specs.List.{concat, list_all}
+use Rattle.vx_base.specs.declared.error.VortexError.{VortexError}
 use Rattle.vx_base.specs.declared.error.VortexError.TheVariants.{TooManyRows}
 use Rattle.vx_base.specs.ErrorName.{error_name}
 use Rattle.vx_model.specs.Tree.{Tree, of_list}
@@ -10,16 +11,18 @@ use Rattle.vx_model.specs.Extents.{counts, row_limit}
 use Rattle.vx_model.specs.Plain.{plain}
 use Rattle.vx_model.specs.Size.{nbytes}
 use Rattle.vx_btrblocks.specs.Shipped.{shipped_tree}
+use Rattle.vx_document.specs.Commands.{PlainCommand}
 use Rattle.vx_document.specs.Document.{PlainDocument, document}
 use Rattle.vx_document.specs.Listing.{listing, listings, sizes_line}
 use Rattle.vx_document.specs.Writing.{documents_text, extents_are_few}
 use Rattle.vx_file.specs.Answers.{are_storable}
+use Rattle.vx_query.specs.Queries.{query_lines}
 use Rattle.vx_spelling.specs.FileSpelling.{file_at, file_text}
 use Rattle.vx_program.specs.Causes.{Rose}
 use Rattle.vx_program.specs.Forms.{form_of, is_supported}
 use Rattle.vx_program.specs.Reading.{limit}
 use Rattle.vx_program.specs.declared.forms.Form.{Form}
-use Rattle.vx_program.specs.declared.forms.Form.TheVariants.{Compress, Store, Show, Rows}
+use Rattle.vx_program.specs.declared.forms.Form.TheVariants.{Compress, Store, Show, Rows, Query}
 
 -- the arguments as lists of bytes
 abbrev pub texts_of : List (String Global) → List (List ℕ)
@@ -64,6 +67,22 @@ abbrev pub of_document : (List ℕ → Column → Reply) → Option PlainDocumen
 of_document reply None = refusal 3 (codes "BadDocument")
 of_document reply (Some d) = reply d.words d.column
 
+-- ---- of a document's commands
+
+-- the lines that commands print, or the first refusal
+abbrev pub lines_reply : Result (List ℕ) VortexError → Reply
+lines_reply (Ok lines) = (0, lines)
+lines_reply (Err error) = refusal 4 (error_name error)
+
+-- the reply of `query`: what the commands print of the column
+unfoldable pub queried : List PlainCommand → Column → Reply
+queried commands c = if counts_fit c then lines_reply (query_lines c commands) else refusal 4 (error_name TooManyRows)
+
+-- the same of a document, or of bytes that are none
+abbrev pub of_commands : Option PlainDocument → Reply
+of_commands None = refusal 3 (codes "BadDocument")
+of_commands (Some d) = queried d.commands d.column
+
 -- ---- of a file's trees
 
 -- the reply of `show`: the listings, one after the other
@@ -91,6 +110,7 @@ of_input Compress bytes = of_document of_column (document bytes)
 of_input Store bytes = of_document stored (document bytes)
 of_input Show bytes = of_file shown (file_at bytes)
 of_input Rows bytes = of_file written (file_at bytes)
+of_input Query bytes = of_commands (document bytes)
 
 -- the reply of a form to bytes
 unfoldable pub of_bytes : Form → List ℕ → Reply

@@ -2,7 +2,7 @@
 use Rattle.std.specs.Prelude.{ℕ, List, [], ◌∷◌, find, Bool, Option, None, is_some, codes}
 use Rattle.std.specs.Str.{bytes_eq}
 use Rattle.vx_program.specs.declared.forms.Form.{Form}
-use Rattle.vx_program.specs.declared.forms.Form.TheVariants.{Compress, Store, Show, Rows}
+use Rattle.vx_program.specs.declared.forms.Form.TheVariants.{Compress, Store, Show, Rows, Query}
 
 -- the word of a form
 abbrev pub form_text : Form → List ℕ
@@ -10,10 +10,11 @@ form_text Compress = codes "compress"
 form_text Store = codes "store"
 form_text Show = codes "show"
 form_text Rows = codes "rows"
+form_text Query = codes "query"
 
 -- the form with this word
 unfoldable pub form_named : List ℕ → Option Form
-form_named word = find (λ form. bytes_eq word (form_text form)) (Compress ∷ Store ∷ Show ∷ Rows ∷ [])
+form_named word = find (λ form. bytes_eq word (form_text form)) (Compress ∷ Store ∷ Show ∷ Rows ∷ Query ∷ [])
 
 -- the form of a command line: that of its only argument
 abbrev pub form_of : List (List ℕ) → Option Form

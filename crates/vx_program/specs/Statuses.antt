@@ -1,16 +1,17 @@
 -- The cause of each status.
-use Rattle.std.specs.Prelude.{◌≡◌, ◌≢◌, ◌↔◌, ◌⊎◌, ◌&&◌, ◌<◌, ◌≤◌, ◌+◌, ℕ, List, length, Bool, true, false, nat_le, Option, Some, None, IfSome, IsSomeAnd}
+use Rattle.std.specs.Prelude.{◌≡◌, ◌≢◌, ◌↔◌, ◌⊎◌, ◌&&◌, ◌<◌, ◌≤◌, ◌+◌, ℕ, List, length, Bool, true, false, nat_le, Option, Some, None, IfSome, IsSomeAnd, is_ok}
 use Rattle.std.specs.List.{list_all}
 use Rattle.vx_model.specs.Tree.{Tree}
 use Rattle.vx_btrblocks.specs.Shipped.{shipped_tree}
 use Rattle.vx_document.specs.Document.{PlainDocument, document}
 use Rattle.vx_document.specs.Writing.{documents_text, extents_are_few}
+use Rattle.vx_query.specs.Queries.{query_lines}
 use Rattle.vx_spelling.specs.FileSpelling.{file_at}
 use Rattle.vx_program.specs.Answer.{counts_fit, is_kept}
 use Rattle.vx_program.specs.Forms.{form_of, is_supported}
 use Rattle.vx_program.specs.Reading.{limit}
 use Rattle.vx_program.specs.declared.forms.Form.{Form}
-use Rattle.vx_program.specs.declared.forms.Form.TheVariants.{Compress, Store, Show, Rows}
+use Rattle.vx_program.specs.declared.forms.Form.TheVariants.{Compress, Store, Show, Rows, Query}
 
 -- The reply was written whole. Where it was not, the status is 1 or 6 instead of the reply's.
 abbrev pub IsWritten : ℕ → Type 0
@@ -52,6 +53,7 @@ IsBad Compress bytes = document bytes ≡ None
 IsBad Store bytes = document bytes ≡ None
 IsBad Show bytes = file_at bytes ≡ None
 IsBad Rows bytes = file_at bytes ≡ None
+IsBad Query bytes = document bytes ≡ None
 
 -- 3, of a supported command line and at most the limit of bytes
 abbrev pub IsBadInput : List (List ℕ) → List ℕ → Type 0
@@ -60,6 +62,10 @@ IsBadInput = Has IsBad
 -- whether a document's columns are within the row limit and its compressed tree can be stored
 abbrev pub can_be_stored : PlainDocument → Bool
 can_be_stored d = counts_fit d.column && is_kept (shipped_tree d.words d.column)
+
+-- whether a document's columns are within the row limit and none of its commands is refused
+abbrev pub can_be_asked : PlainDocument → Bool
+can_be_asked d = counts_fit d.column && is_ok (query_lines d.column d.commands)
 
 -- whether no extent of a tree and no more bytes of its columns as documents are above the limit of the input
 abbrev pub can_be_written : List Tree → Bool
@@ -71,6 +77,7 @@ Refuses Compress bytes = IsSomeAnd (document bytes) (λ d. counts_fit d.column �
 Refuses Store bytes = IsSomeAnd (document bytes) (λ d. can_be_stored d ≡ false)
 Refuses Show bytes = ⊥
 Refuses Rows bytes = IsSomeAnd (file_at bytes) (λ trees. can_be_written trees ≡ false)
+Refuses Query bytes = IsSomeAnd (document bytes) (λ d. can_be_asked d ≡ false)
 
 -- 4, of a supported command line and at most the limit of bytes
 abbrev pub IsRefused : List (List ℕ) → List ℕ → Type 0
@@ -82,6 +89,7 @@ Answers Compress bytes = IsSomeAnd (document bytes) (λ d. counts_fit d.column �
 Answers Store bytes = IsSomeAnd (document bytes) (λ d. can_be_stored d ≡ true)
 Answers Show bytes = IsSomeAnd (file_at bytes) (λ trees. Unit {0})
 Answers Rows bytes = IsSomeAnd (file_at bytes) (λ trees. can_be_written trees ≡ true)
+Answers Query bytes = IsSomeAnd (document bytes) (λ d. can_be_asked d ≡ true)
 
 -- 0, of a supported command line and at most the limit of bytes
 abbrev pub IsAnswerable : List (List ℕ) → List ℕ → Type 0

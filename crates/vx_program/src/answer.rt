@@ -11,6 +11,7 @@ ghost use Rattle.vx_program.specs.Statuses.{RestsOnAll, IsUsage, IsTooLong};
 mod compressed;
 mod documents;
 mod files;
+mod queries;
 
 use crate::forms::{Form, form_of};
 use crate::output::Output;
@@ -18,6 +19,7 @@ use crate::outside::Source;
 use crate::reading::{Input, read_all};
 use documents::{compress, store};
 use files::{rows, show};
+use queries::query;
 use std::alloc::{AllocError, Global};
 
 /// The whole output is written.
@@ -26,14 +28,15 @@ pub const DONE: u8 = 0;
 /// Memory ran out, and nothing is written.
 pub const NO_MEMORY: u8 = 1;
 
-/// The arguments are no supported command line: `compress`, `store`, `show` or `rows`.
+/// The arguments are no supported command line: `compress`, `store`, `show`, `rows` or `query`.
 pub const USAGE: u8 = 2;
 
 /// The bytes are not a document, or for `show` and `rows` not a file.
 pub const BAD_INPUT: u8 = 3;
 
-/// What was read is refused; the output has the error's name. For `compress` and `store` a column of the document is above the
-/// row limit, or the tree can't be stored; for `rows` a column or the text is above the limit of what can be read again.
+/// What was read is refused; the output has the error's name. For `compress`, `store` and `query` a column of the document is above
+/// the row limit, or the tree can't be stored, or a command is refused; for `rows` a column or the text is above the limit of what
+/// can be read again.
 pub const REFUSED: u8 = 4;
 
 /// A read failed.
@@ -75,6 +78,7 @@ fn reply_to_bytes(alloc: Global, form: Form, bytes: Vec<u8>) -> Result<Reply, Al
         Form::Store => store(alloc, bytes),
         Form::Show => show(alloc, bytes),
         Form::Rows => rows(alloc, bytes),
+        Form::Query => query(alloc, bytes),
     }
 }
 

@@ -15,6 +15,8 @@ pub enum Form {
     Show,
     /// `rows`: writes the columns of a file's trees as documents.
     Rows,
+    /// `query`: runs a document's commands on its compressed tree.
+    Query,
 }
 
 // The form with this word.
@@ -27,6 +29,7 @@ fn form_named(word: &str) -> Option<Form>
         "store" => Some(Form::Store),
         "show" => Some(Form::Show),
         "rows" => Some(Form::Rows),
+        "query" => Some(Form::Query),
         _ => None,
     }
 }

@@ -1,4 +1,4 @@
-//! The forms `store`, `show` and `rows`, from bytes to bytes. The bytes of files are worked out by hand.
+//! The forms `store`, `show`, `rows` and `query`, from bytes to bytes. The bytes of files are worked out by hand.
 
 use crate::whole::one_arg;
 use std::alloc::Global;
@@ -70,6 +70,31 @@ fn a_column_is_compressed_as_without_commands(rt: HostRuntime) -> Result<(), Fai
 #[test]
 fn a_column_is_stored_as_without_commands(rt: HostRuntime) -> Result<(), Fail> {
     assert!(rt; answers(rt.alloc(), "store", COMMANDED.as_bytes(), 0, &SEVENS)?);
+    Ok(())
+}
+
+// Three integers and commands.
+const ASKED: &str =
+    "{\"type\":\"u8\",\"rows\":[3,1,2],\"words\":[0],\"commands\":[[\"compare\",\">=\",2],[\"sum\"],[\"slice\",1,3],[\"rows\"]]}";
+
+// A query, and an operation out of bounds behind it.
+const REFUSED: &str =
+    "{\"type\":\"u8\",\"rows\":[3,1,2],\"words\":[0],\"commands\":[[\"sum\"],[\"slice\",0,9]]}";
+
+#[test]
+fn commands_are_run(rt: HostRuntime) -> Result<(), Fail> {
+    let lines = b"[true,false,true]\n6\n[1,2]\n".as_slice();
+    assert!(rt; answers(rt.alloc(), "query", ASKED.as_bytes(), 0, lines)?);
+    assert!(rt; answers(rt.alloc(), "query", DOCUMENT.as_bytes(), 0, b"")?);
+    Ok(())
+}
+
+#[test]
+fn a_refused_command_prints_no_line(rt: HostRuntime) -> Result<(), Fail> {
+    let name = b"refused: OutOfBounds\n".as_slice();
+    assert!(rt; answers(rt.alloc(), "query", REFUSED.as_bytes(), 4, name)?);
+    let none = b"refused: BadDocument\n".as_slice();
+    assert!(rt; answers(rt.alloc(), "query", b"{}", 3, none)?);
     Ok(())
 }
 

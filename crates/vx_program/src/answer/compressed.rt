@@ -60,8 +60,8 @@ fn compressed_array(
     }
 }
 
-// A column within the row limit, compressed. Its plain tree is made only here, behind the test of the limit.
-fn compressed_column(
+/// A column within the row limit, compressed. Its plain tree is made only here, behind the test of the limit.
+pub(super) fn compressed_column(
     alloc: Global,
     column: DocumentColumn,
     ctx: &mut ExecutionCtx,
