@@ -26,11 +26,12 @@ fn answer(
 #[test]
 fn a_query_of_what_is_left(rt: HostRuntime) -> Result<(), Fail> {
     let alloc = rt.alloc();
-    let ops = [RowOp::Slice(1, 3), RowOp::Slice(0, 1)];
+    let ops = vec![in alloc; RowOp::Slice(1, 3), RowOp::Slice(0, 1)]?;
     let count = answer(alloc, ops.as_slice(), &RowQuery::NullCount)??;
     assert!(rt; matches!(count, RowAnswer::Count(1)));
-    let none = answer(alloc, [].as_slice(), &RowQuery::NullCount)??;
-    assert!(rt; matches!(none, RowAnswer::Count(1)));
+    let none: Vec<RowOp> = Vec::new(alloc);
+    let whole = answer(alloc, none.as_slice(), &RowQuery::NullCount)??;
+    assert!(rt; matches!(whole, RowAnswer::Count(1)));
     let constant = answer(alloc, ops.as_slice(), &RowQuery::IsConstant)??;
     assert!(rt; matches!(constant, RowAnswer::Yes(true)));
     Ok(())
@@ -39,10 +40,11 @@ fn a_query_of_what_is_left(rt: HostRuntime) -> Result<(), Fail> {
 #[test]
 fn the_first_refusal(rt: HostRuntime) -> Result<(), Fail> {
     let alloc = rt.alloc();
-    let ops = [RowOp::Slice(1, 3), RowOp::Slice(0, 9)];
+    let ops = vec![in alloc; RowOp::Slice(1, 3), RowOp::Slice(0, 9)]?;
     let refused = answer(alloc, ops.as_slice(), &RowQuery::Not)?;
     assert!(rt; matches!(refused, Err(VortexError::OutOfBounds)));
-    let refused = answer(alloc, [].as_slice(), &RowQuery::Not)?;
+    let none: Vec<RowOp> = Vec::new(alloc);
+    let refused = answer(alloc, none.as_slice(), &RowQuery::Not)?;
     assert!(rt; matches!(refused, Err(VortexError::MismatchedTypes)));
     Ok(())
 }
