@@ -16,8 +16,10 @@ fn rows_of_one_type(rt: HostRuntime) -> Result<(), Fail> {
     let alloc = rt.alloc();
     let dtype = DType::Primitive(PType::U8, Nullability::Nullable);
     let json = Json::from_slice(alloc, "255".as_bytes())?;
-    assert!(rt; matches!(read_row(alloc, json, &dtype)?, Value::Int(255)));
-    assert!(rt; matches!(read_row(alloc, Json::Null, &dtype)?, Value::Null));
+    let whole = read_row(alloc, json, &dtype)?;
+    assert!(rt; matches!(&whole, Value::Int(255)));
+    let null = read_row(alloc, Json::Null, &dtype)?;
+    assert!(rt; matches!(&null, Value::Null));
     Ok(())
 }
 
