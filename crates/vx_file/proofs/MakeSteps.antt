@@ -19,7 +19,7 @@ not_made : {P T U : Type 0} (r : Option VortexError) (ok : P → Bool) (make : P
 not_made None ok make parts rest made inputs f e h = rw h.0 tt
 not_made (Some x) ok make parts rest made inputs f e h = fails_none (error_of f.error) (checked ok make parts rest) (rw e refl)
 
--- the same where the reader's error is the one that stands for the constructor's
+-- what a constructor refuses is no node, told by the reader's error for that refusal
 pub is_refused : {P T U : Type 0} (r : Option VortexError) (ok : P → Bool) (make : P → U) (parts : P) (rest : List ℕ) (made : U) (inputs : T) (f : Refused T) (e : ReadError) → ok parts ≡ is_none r → e ≡ error_of f.error → Makes r made inputs (Err f)
     → Fails e (checked ok make parts rest)
 is_refused r ok make parts rest made inputs f e same is h = subst (λ x. Fails x (checked ok make parts rest)) (sym is) (not_made r ok make parts rest made inputs f same h)

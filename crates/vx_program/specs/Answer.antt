@@ -78,7 +78,7 @@ lines_reply (Err error) = refusal 4 (error_name error)
 unfoldable pub queried : List PlainCommand → Column → Reply
 queried commands c = if counts_fit c then lines_reply (query_lines c commands) else refusal 4 (error_name TooManyRows)
 
--- the same of a document, or of bytes that are none
+-- the reply of `query` to a document, or to bytes that are none
 abbrev pub of_commands : Option PlainDocument → Reply
 of_commands None = refusal 3 (codes "BadDocument")
 of_commands (Some d) = queried d.commands d.column

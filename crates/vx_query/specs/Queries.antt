@@ -101,7 +101,7 @@ abbrev pub stepped : Column → PlainStep → Result (Column × List ℕ) Vortex
 stepped c (operation op) = mapped (λ d. (d, [])) (applied op c)
 stepped c (question query) = mapped (λ answer. (c, line_of answer)) (answered query c)
 
--- the same of a command
+-- the column that a command leaves, and what it prints; MismatchedTypes where a value in it is not one of the type
 abbrev pub commanded : Column → PlainCommand → Result (Column × List ℕ) VortexError
 commanded c command = and_then (stepped c) (or_mismatched (step_of c.dtype command))
 
