@@ -8,7 +8,8 @@ ghost use Rattle.vx_model.specs.Rows.{rows};
 use crate::array::{ArrayRef, Node};
 
 impl ArrayRef {
-    // Where true, all rows are equal: those of a Constant, of integers packed at width 0, and of nodes over such children.
+    // Where true, all rows are equal: those of a Constant, of a Sparse without patches, of integers packed at width 0, and of
+    // nodes over such children.
     #[cycle(is_uniform)]
     pub(crate) fn is_uniform(&self) -> bool
         ensures { IsTrue result → IsUniform (rows self.now) }
@@ -25,6 +26,7 @@ impl ArrayRef {
             Node::FoR(encoded, _) => encoded.array.is_uniform(),
             Node::ZigZag(encoded) => encoded.array.is_uniform(),
             Node::Dict(codes, _) => codes.array.is_uniform(),
+            Node::Sparse(patches, _) => patches.num_patches() == 0,
             Node::RunEnd(_, values) => values.array.is_uniform(),
             Node::Rle(_, indices, offsets, _) => {
                 indices.array.is_uniform() && offsets.array.is_uniform()

@@ -1,4 +1,4 @@
-use Rattle.std.proofs.Common.{◌∙◌, sym, ap, subst, not, rules, FitsSigned}
+use Rattle.std.proofs.Common.{◌≡◌, ◌∙◌, length, sym, ap, subst, not, rules, FitsSigned}
 use Rattle.std.specs.Int.{w128, cast_signed, cast_unsigned}
 use Rattle.std.proofs.lemmas.Bool.{and_parts, eqb-true}
 use Rattle.std.proofs.lemmas.Int.{to_z-of_z}
@@ -7,7 +7,7 @@ use Rattle.vx_model.specs.Tree.{plain_blocks, plain_packed}
 use Rattle.vx_model.specs.WellFormed.{WellFormed}
 use Rattle.vx_array.specs.Linear.{IsUniform}
 use Rattle.vx_array.proofs.AtNode.{at_node, blocks_alone, none_of, packed_alone}
-use Rattle.vx_array.proofs.UniformTrees.{uniform-constant, uniform-sequence, uniform-bit_packed, uniform-blocks, uniform-frame_of_reference, uniform-zig_zag, uniform-dict, uniform-run_end, uniform-rle, uniform-frame_of_reference_v2}
+use Rattle.vx_array.proofs.UniformTrees.{uniform-constant, uniform-sequence, uniform-bit_packed, uniform-blocks, uniform-frame_of_reference, uniform-zig_zag, uniform-dict, uniform-run_end, uniform-sparse_of, uniform-rle, uniform-frame_of_reference_v2}
 use Rattle.vx_array.proofs.array.ArrayRef.+is_uniform.Goals as goal
 
 pub returns-in-Constant : goal.returns-in-Constant
@@ -63,6 +63,12 @@ returns-in-Dict t c =
     let here = c.in-Dict in
     let a = at_node c.self.view_is c.self.invariant here.is in
     λ h. rw a.is (uniform-dict here.codes.array.value here.field-1.array.value (subst (λ t. IsUniform (rows t)) c.deref-in-Dict.ensures (c.is_uniform-in-Dict.ensures h)))
+
+pub returns-in-Sparse : goal.returns-in-Sparse
+returns-in-Sparse t c =
+    let here = c.in-Sparse in
+    let a = at_node c.self.view_is c.self.invariant here.is in
+    λ h. rw a.is (uniform-sparse_of here.patches.value here.field-1 (subst (λ p. length (rows p.indices) ≡ 0) c.deref-in-Sparse.ensures (sym c.num_patches.ensures ∙ eqb-true c.num_patches.result 0 h)))
 
 pub returns-in-RunEnd : goal.returns-in-RunEnd
 returns-in-RunEnd t c =
