@@ -110,7 +110,7 @@ some-equal (Some y) x z e h = sym (ap (λ o. unwrap_or o x) e) ∙ h
 
 -- ---- types of one base
 
-flat-with : (t : PlainType) (n : Nullability) → is_flat (with_nullability t n) ≡ is_flat t
+pub flat-with : (t : PlainType) (n : Nullability) → is_flat (with_nullability t n) ≡ is_flat t
 flat-with types.null_type n = refl
 flat-with (types.boolean m) n = refl
 flat-with (types.primitive p m) n = refl

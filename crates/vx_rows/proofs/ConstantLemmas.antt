@@ -1,10 +1,11 @@
 -- Whether all values are equal, one value further.
-use Rattle.std.proofs.Common.{◌≡◌, ◌<◌, ◌≤◌, ◌∙◌, ℕ, zero, suc, ◌+◌, Bool, true, false, List, [], ◌∷◌, ◌++◌, take, length, refl, sym, ap, arith}
-use Rattle.std.specs.Prelude.{◌&&◌, nat_lt, replicate}
+use Rattle.std.proofs.Common.{◌≡◌, ◌<◌, ◌≤◌, ◌∙◌, ℕ, zero, suc, ◌+◌, Bool, true, false, List, [], ◌∷◌, ◌++◌, take, length, get_or, cond, refl, sym, ap, arith}
+use Rattle.std.specs.Prelude.{◌&&◌, ◌||◌, nat_lt, not, replicate}
 use Rattle.std.specs.List.{list_all}
 use Rattle.std.proofs.lemmas.Bool.{and_parts, and_from}
 use Rattle.std.proofs.lemmas.Bool.Decides.{nat_tests}
 use Rattle.std.proofs.lemmas.List.{take_all, take_more}
+use Rattle.std.proofs.lemmas.List.Folds.{list_all-append}
 use Rattle.vx_base.specs.PlainValue.{PlainValue, null, same_value, stored_value}
 use Rattle.vx_base.specs.Storable.{same_refl}
 use Rattle.vx_base.specs.PlainScalar.{PlainScalar}
@@ -12,6 +13,8 @@ use Rattle.vx_model.specs.Column.{column_of}
 use Rattle.vx_model.specs.Rows.{row_at}
 use Rattle.vx_model.specs.Tree.{constant, nulls}
 use Rattle.vx_rules.specs.Aggregates.{all_equal, is_constant}
+use Rattle.vx_rows.specs.Extremes.{valid_items}
+use Rattle.vx_rows.proofs.ExtremeLemmas.{valid_items-next}
 
 pub equal-none : (vs : List PlainValue) → length vs ≡ 0 → false ≡ all_equal vs
 equal-none [] e = refl
@@ -47,6 +50,28 @@ pub equal-not : (u : PlainValue) (vs : List PlainValue) (i : ℕ) → 1 ≤ i �
 equal-not u [] i l h e k = absurd (omega arith)
 equal-not u (v ∷ vs) zero l h e k = absurd (omega arith)
 equal-not u (v ∷ vs) (suc i) l h e k = sym (ap (λ w. list_all (same_value w) vs) (sym e) ∙ not-all (same_value u) vs i (omega arith) k)
+
+-- ---- of the items whose bit is true
+
+items-part : (p : PlainValue → Bool) (b : Bool) (v : PlainValue) → list_all p (cond b (v ∷ []) []) ≡ (not b || p v)
+items-part p true v = and-true (p v)
+  where
+    and-true : (c : Bool) → (c && true) ≡ c
+    and-true true = refl
+    and-true false = refl
+items-part p false v = refl
+
+pub items-more : (p : PlainValue → Bool) (bits : List Bool) (vs : List PlainValue) (i : ℕ) → i < length vs → length bits ≡ length vs
+    → list_all p (valid_items (take (i + 1) bits) (take (i + 1) vs)) ≡ (list_all p (valid_items (take i bits) (take i vs)) && (not (get_or bits i false) || p (row_at vs i)))
+items-more p bits vs i h e =
+    ap (list_all p) (valid_items-next bits vs i (row_at vs i) (omega arith) h (index-same vs i h))
+    ∙ list_all-append p (valid_items (take i bits) (take i vs)) (cond (get_or bits i false) (row_at vs i ∷ []) [])
+    ∙ ap (λ b. list_all p (valid_items (take i bits) (take i vs)) && b) (items-part p (get_or bits i false) (row_at vs i))
+  where
+    index-same : (ws : List PlainValue) (j : ℕ) → j < length ws → row_at ws j ≡ get_or ws j (row_at ws j)
+    index-same [] j l = absurd (omega arith)
+    index-same (w ∷ ws) zero l = refl
+    index-same (w ∷ ws) (suc j) l = index-same ws j (omega arith)
 
 -- ---- one value in every row
 

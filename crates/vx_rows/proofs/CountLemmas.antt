@@ -82,6 +82,25 @@ nulls-fixed elements size len valid n w = nulls-items list_value (λ vs. refl) v
 
 pub ruleset node_nulls = (nulls-null, nulls-constant, nulls-value, nulls-bool, nulls-primitive, nulls-view, nulls-structure, nulls-list, nulls-fixed)
 
+-- ---- rows that are read where they stand
+
+pub nulls_of_bits : (valid : Validity) (bs : List Bool) → validity_length valid (length bs) ≡ true → nulls_in valid ≡ count_by is_null (valid_rows valid (map truth bs))
+nulls_of_bits valid bs h = nulls-valid truth (λ b. refl) valid bs h
+
+pub nulls_of_ints : (valid : Validity) (zs : List ℤ) → validity_length valid (length zs) ≡ true → nulls_in valid ≡ count_by is_null (valid_rows valid (map int zs))
+nulls_of_ints valid zs h = nulls-valid int (λ z. refl) valid zs h
+
+pub nulls_of_bytes : (valid : Validity) (bss : List (List ℕ)) → validity_length valid (length bss) ≡ true → nulls_in valid ≡ count_by is_null (valid_rows valid (map bytes bss))
+nulls_of_bytes valid bss h = nulls-valid bytes (λ b. refl) valid bss h
+
+pub nulls_of_null : (v : PlainValue) (n : ℕ) → is_null v ≡ true → n ≡ count_by is_null (replicate n v)
+nulls_of_null v n e = sym (count-same v n ∙ ap (λ b. n * cond b 1 0) e ∙ omega arith)
+
+pub nulls_of_some : (v : PlainValue) (n : ℕ) → is_null v ≡ false → 0 ≡ count_by is_null (replicate n v)
+nulls_of_some v n e = sym (count-same v n ∙ ap (λ b. n * cond b 1 0) e ∙ omega arith)
+
+pub ruleset lent_nulls = (nulls_of_bits, nulls_of_ints, nulls_of_bytes, nulls_of_null, nulls_of_some)
+
 -- as many rows at most are true as there are
 pub true_few : (bits : List Bool) → count_by (λ b. b) bits ≤ length bits
 true_few bits = count_by-le-length (λ b. b) bits

@@ -68,6 +68,13 @@ valid-masked (b ∷ bits) [] = refl
 valid-masked (true ∷ bits) (z ∷ zs) = ap (λ vs. int z ∷ vs) (valid-masked bits zs)
 valid-masked (false ∷ bits) (z ∷ zs) = valid-masked bits zs
 
+-- rows that are null where a bit is false have the valid values of those whose bit is true
+pub masked-items : (bits : List Bool) (vs : List PlainValue) → valid_values (masked_rows bits vs) ≡ valid_values (valid_items bits vs)
+masked-items [] vs = refl
+masked-items (b ∷ bits) [] = refl
+masked-items (true ∷ bits) (v ∷ vs) = ap (λ ws. cond (not (is_null v)) (v ∷ ws) ws) (masked-items bits vs)
+masked-items (false ∷ bits) (v ∷ vs) = masked-items bits vs
+
 -- ---- the least and the greatest are among the values
 
 module _ (p : PlainValue → Bool) (f : PlainValue → PlainValue → PlainValue) (keeps : (a b : PlainValue) → p a ≡ true → p b ≡ true → p (f a b) ≡ true) where
@@ -136,7 +143,7 @@ valid-more f vs i v h e =
 
 -- ---- one value in every row
 
-valid-none : (v : PlainValue) (n : ℕ) → is_null v ≡ true → valid_values (replicate n v) ≡ []
+pub valid-none : (v : PlainValue) (n : ℕ) → is_null v ≡ true → valid_values (replicate n v) ≡ []
 valid-none v zero e = refl
 valid-none v (suc n) e = ap (λ b. cond (not b) (v ∷ valid_values (replicate n v)) (valid_values (replicate n v))) e ∙ valid-none v n e
 

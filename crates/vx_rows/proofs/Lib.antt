@@ -1,3 +1,4 @@
+pub mod AlikeLemmas
 pub mod AnswerLemmas
 pub mod BaseLemmas
 pub mod CastLemmas
@@ -8,7 +9,9 @@ pub mod ExtremeLemmas
 pub mod FillLemmas
 pub mod HeldLemmas
 pub mod LentLemmas
+pub mod NamedLemmas
 pub mod PairLemmas
+pub mod PickedLemmas
 pub mod ReadLemmas
 pub mod RetypeLemmas
 pub mod SuffixLemmas
@@ -17,5 +20,6 @@ pub mod TextLemmas
 pub mod TotalLemmas
 pub mod TruthLemmas
 pub mod TurnLemmas
+pub mod UsedLemmas
 pub mod ValidLemmas
 pub mod WholeLemmas

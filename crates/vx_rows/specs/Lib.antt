@@ -8,3 +8,4 @@ pub mod Suffixes
 pub mod Texts
 pub mod Totals
 pub mod Truths
+pub mod Used

@@ -2,35 +2,33 @@
 
 ghost use Rattle.std.specs.List.{list_all};
 ghost use Rattle.std.specs.Ordering.{ord_max, ord_min};
-ghost use Rattle.std.specs.Prelude.{◌≡◌, IsTrue, length, map, option_map, Some, true};
+ghost use Rattle.std.specs.Prelude.{◌≡◌, IsTrue, option_map, Some};
 ghost use Rattle.vx_base.specs.Answers.{Answers, Decided};
 ghost use Rattle.vx_base.specs.CellValue.{cell_value};
 ghost use Rattle.vx_base.specs.PlainScalar.{fits, scalar};
 ghost use Rattle.vx_base.specs.PlainType.{is_flat};
-ghost use Rattle.vx_base.specs.PlainValue.{int};
 ghost use Rattle.vx_base.specs.TypeOf.{type_of};
 ghost use Rattle.vx_model.specs.Column.{column, column_of};
-ghost use Rattle.vx_model.specs.Refusals.{validity_length};
-ghost use Rattle.vx_model.specs.Rows.{valid_rows};
 ghost use Rattle.vx_model.specs.TreeType.{tree_type};
 ghost use Rattle.vx_rows.specs.Extremes.{next_valid};
 ghost use Rattle.vx_rows.specs.Readable.{is_whole, lent_rows};
 ghost use Rattle.vx_rules.specs.Aggregates.{greatest, least, min_max, min_max_refusal, valid_values};
 ghost use Rattle.vx_rules.specs.ValueOrder.{value_cmp};
-ghost use Rattle.vx_values.specs.IntsOf.{wholes_of};
+
+mod integers;
+mod named;
 
 use crate::held::readable;
-use crate::ints::with_ints;
-use crate::kernels::{extremes, extremes_of_valid};
 use crate::lent::{Lent, rows_of};
 use crate::ordering::value_cmp;
+use integers::integer_extremes;
+use named::dict_extremes;
 use std::alloc::Global;
-use vx_array::ArrayRef;
-use vx_base::{Cell, DType, ExecutionCtx, Integer, Mask, Scalar, VortexError, VortexResult};
-use vx_values::Ints;
+use vx_array::{ArrayRef, Node};
+use vx_base::{Cell, DType, ExecutionCtx, Scalar, VortexError, VortexResult};
 
 /// The least and the greatest valid value, None without one: false below true, integers and timestamps as numbers, texts and binaries
-/// by their bytes. Refuses MismatchedTypes unless the type is flat.
+/// by their bytes. Of a dictionary the values that its codes name are weighed. Refuses MismatchedTypes unless the type is flat.
 pub fn min_max(array: &ArrayRef, ctx: &mut ExecutionCtx) -> VortexResult<Option<(Scalar, Scalar)>>
     ensures answer { Decided (min_max_refusal (column_of array.now)) (λ out. out ≡ min_max (column_of array.now)) result }
     ensures ctx { ctx.new ≡ ctx.old }
@@ -43,6 +41,17 @@ pub fn min_max(array: &ArrayRef, ctx: &mut ExecutionCtx) -> VortexResult<Option<
 
 // `min_max` of a flat type.
 fn flat_extremes(alloc: Global, array: &ArrayRef) -> VortexResult<Option<(Scalar, Scalar)>>
+    requires { IsTrue (is_flat (tree_type array.now)) }
+    ensures { Answers result (min_max (column_of array.now)) }
+{
+    match array.node() {
+        Node::Dict(codes, values) => dict_extremes(alloc, array, &codes.array, &values.array),
+        _ => read_extremes(alloc, array),
+    }
+}
+
+// `min_max` of a flat type, row by row.
+fn read_extremes(alloc: Global, array: &ArrayRef) -> VortexResult<Option<(Scalar, Scalar)>>
     requires { IsTrue (is_flat (tree_type array.now)) }
     ensures { Answers result (min_max (column_of array.now)) }
 {
@@ -145,44 +154,5 @@ fn greater<'a>(left: Cell<'a>, right: Cell<'a>) -> Cell<'a>
         left
     } else {
         right
-    }
-}
-
-// The least and the greatest valid integer.
-fn integer_extremes(values: &Ints, valid: &Option<Mask>) -> Option<(Cell<'static>, Cell<'static>)>
-    requires { validity_length valid.now (length (wholes_of values.now)) ≡ true }
-    ensures least { option_map (λ p. cell_value p.0) result ≡ least (valid_values (valid_rows valid.now (map int (wholes_of values.now)))) }
-    ensures greatest { option_map (λ p. cell_value p.1) result ≡ greatest (valid_values (valid_rows valid.now (map int (wholes_of values.now)))) }
-{
-    with_ints!(values, items => item_extremes(items.as_slice(), valid))
-}
-
-// `integer_extremes` of items of one type.
-#[tactic(auto, using(crate::proofs::ExtremeLemmas::item_rows))]
-fn item_extremes<T: Integer>(
-    items: &[T],
-    valid: &Option<Mask>,
-) -> Option<(Cell<'static>, Cell<'static>)>
-    requires { validity_length valid.now (length items.now) ≡ true }
-    ensures least { option_map (λ p. cell_value p.0) result ≡ least (valid_values (valid_rows valid.now (map int (map T.whole items.now)))) }
-    ensures greatest { option_map (λ p. cell_value p.1) result ≡ greatest (valid_values (valid_rows valid.now (map int (map T.whole items.now)))) }
-{
-    match valid {
-        Some(mask) => found_cells(extremes_of_valid(items, mask.as_slice())),
-        None => found_cells(extremes(items)),
-    }
-}
-
-// The least and the greatest item as cells.
-fn found_cells<T: Integer>(found: Option<(T, T)>) -> Option<(Cell<'static>, Cell<'static>)>
-    ensures least { option_map (λ p. cell_value p.0) result ≡ option_map int (option_map (λ p. T.whole p.0) found) }
-    ensures greatest { option_map (λ p. cell_value p.1) result ≡ option_map int (option_map (λ p. T.whole p.1) found) }
-{
-    match found {
-        Some((least, greatest)) => Some((
-            Cell::Int(least.to_whole()),
-            Cell::Int(greatest.to_whole()),
-        )),
-        None => None,
     }
 }

@@ -1,7 +1,8 @@
 //! Row functions over any tree, answered by value: comparisons, ranges, patterns and negation, casts, fills and aggregates. Each
 //! answers, or refuses, as its rule in vx_rules does on the tree's type and rows.
 //!
-//! Plain rows are read where they stand, integers in their own type; only encoded ones are decoded first.
+//! Plain rows are read where they stand, integers in their own type; only encoded ones are decoded first. Of a dictionary what is
+//! answered of a whole column is answered by the values that its codes name, but for the sum.
 #![tactic(auto)]
 
 mod bases;
@@ -23,6 +24,7 @@ mod ranging;
 mod stamps;
 mod summing;
 mod truths;
+mod used;
 
 pub use casting::cast;
 pub use comparing::{compare, compare_scalar};

@@ -1,7 +1,7 @@
 //! What is answered of a whole column: constancy, least and greatest, nulls and sums.
 
 use crate::calls::{is_constant, min_max, null_count, sum};
-use crate::columns::{by_codes, is_text, structs, texts_with_nulls, truths, whole};
+use crate::columns::{by_codes, is_text, lie_between, structs, texts_with_nulls, truths, whole};
 use std::test::Fail;
 use vx_array::ArrayRef;
 use vx_base::Nullability::{NonNullable, Nullable};
@@ -28,17 +28,6 @@ fn equal_rows_are_constant(rt: HostRuntime) -> Result<(), Fail> {
     assert!(rt; is_constant(alloc, &ArrayRef::null(2))? && !is_constant(alloc, &structs(alloc)?)?);
     assert!(rt; is_constant(alloc, &truths(alloc, &[Some(true), Some(true)])?)?);
     Ok(())
-}
-
-// Whether the least and the greatest are these numbers.
-fn lie_between(found: &Option<(Scalar, Scalar)>, least: i128, greatest: i128) -> bool {
-    let Some((low, high)) = found else {
-        return false;
-    };
-    if !low.dtype().is_integer() || !high.dtype().is_integer() {
-        return false;
-    }
-    low.integer() == Some(least) && high.integer() == Some(greatest)
 }
 
 #[test]

@@ -114,3 +114,14 @@ pub fn has_texts(array: &ArrayRef, rows: &[Option<&str>]) -> bool {
     }
     true
 }
+
+/// Whether the least and the greatest are these numbers.
+pub fn lie_between(found: &Option<(Scalar, Scalar)>, least: i128, greatest: i128) -> bool {
+    let Some((low, high)) = found else {
+        return false;
+    };
+    if !low.dtype().is_integer() || !high.dtype().is_integer() {
+        return false;
+    }
+    low.integer() == Some(least) && high.integer() == Some(greatest)
+}

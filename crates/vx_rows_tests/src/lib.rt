@@ -12,6 +12,8 @@ mod columns;
 #[cfg(test)]
 mod comparisons;
 #[cfg(test)]
+mod dictionaries;
+#[cfg(test)]
 mod fills;
 #[cfg(test)]
 mod patterns;

@@ -3,6 +3,7 @@ pub mod ChosenLeaves
 pub mod Compacting
 pub mod Deciding
 pub mod EncodedRows
+pub mod FewRows
 pub mod IndexPieces
 pub mod KeptItems
 pub mod Leaves
@@ -14,5 +15,6 @@ pub mod Restricting
 pub mod SequenceRows
 pub mod StampColumns
 pub mod TakenColumns
+pub mod TakenConstants
 pub mod Taking
 pub mod Validities

@@ -7,6 +7,7 @@
 #![tactic(auto)]
 
 mod by_pieces;
+mod few_rows;
 mod filters;
 mod masks;
 mod over_values;

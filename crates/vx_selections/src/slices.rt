@@ -13,6 +13,7 @@ mod encoded;
 mod stored;
 
 use crate::by_pieces::pieced;
+use crate::few_rows::{are_few, part_by_rows};
 use crate::stamps::stamped;
 use encoded::{part_constant, part_dict, part_sequence};
 use std::alloc::Global;
@@ -70,7 +71,7 @@ fn part_encoded(alloc: Global, tree: &ArrayRef, start: u64, end: u64) -> VortexR
         Node::Sequence(ptype, nullability, first, step, len) => {
             part_sequence(*ptype, *nullability, *first, *step, *len, start, end)
         }
-        _ => part_by_pieces(alloc, tree, start, end),
+        _ => part_read(alloc, tree, start, end),
     }
 }
 
@@ -100,7 +101,19 @@ fn part_integers(alloc: Global, tree: &ArrayRef, start: u64, end: u64) -> Vortex
         Node::Primitive(values, valid, nullability) => {
             part_primitive(alloc, values, valid, *nullability, start, end)
         }
-        _ => part_by_pieces(alloc, tree, start, end),
+        _ => part_read(alloc, tree, start, end),
+    }
+}
+
+// `slice` of a column that isn't stored: few rows of a flat type are found one by one, and else it is decoded.
+fn part_read(alloc: Global, tree: &ArrayRef, start: u64, end: u64) -> VortexResult<ArrayRef>
+    requires { IsTrue (is_part (length (rows tree.now)) start end) }
+    ensures { OrMemory result (λ out. column_of out ≡ sliced (column_of tree.now) start end) }
+{
+    if tree.dtype().is_flat() && are_few(end - start, tree.len()) {
+        part_by_rows(alloc, tree, start, end)
+    } else {
+        part_by_pieces(alloc, tree, start, end)
     }
 }
 

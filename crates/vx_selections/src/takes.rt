@@ -15,6 +15,7 @@ ghost use Rattle.vx_rules.specs.Selections.{take_refusal, taken};
 ghost use Rattle.vx_selections.specs.Chosen.{place_refusal};
 ghost use Rattle.vx_values.specs.IntsOf.{ptype_of, wholes_of};
 
+mod encoded;
 mod in_bounds;
 mod pieces;
 mod places;

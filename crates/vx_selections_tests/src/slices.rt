@@ -8,9 +8,9 @@ use std::alloc::Global;
 use std::test::Fail;
 use vx_array::ArrayRef;
 use vx_base::Nullability::{NonNullable, Nullable};
-use vx_base::PType::I32;
+use vx_base::PType::{I32, U16};
 use vx_base::{ArrayId, Nullability, VortexError, VortexResult};
-use vx_fixtures::has_stamps;
+use vx_fixtures::{accepted, flat, has_stamps, with_nulls};
 
 // Whether the rows 1 and 2 of four print as these.
 fn has_middle(
@@ -29,6 +29,26 @@ fn rows_of_flat_types(rt: HostRuntime) -> Result<(), Fail> {
     assert!(rt; has_middle(alloc, &wholes(alloc)?, NonNullable, &["20", "30"])?);
     assert!(rt; has_middle(alloc, &holes(alloc)?, Nullable, &["null", "30"])?);
     assert!(rt; has_middle(alloc, &texts(alloc)?, Nullable, &["\"bc\"", "null"])?);
+    Ok(())
+}
+
+#[test]
+fn few_rows_of_long_runs(rt: HostRuntime) -> Result<(), Fail> {
+    let alloc = rt.alloc();
+    let ends = flat(alloc, U16, NonNullable, &[400, 1000])?;
+    let values = with_nulls(alloc, I32, &[7, 8], &[true, false])?;
+    let runs = accepted(ArrayRef::run_end(alloc, ends, values))?;
+    assert!(rt;
+        prints(
+            alloc,
+            &sliced(alloc, &runs, 399, 402)?,
+            Nullable,
+            &["7", "null", "null"]
+        )?
+    );
+    assert!(rt; prints(alloc, &sliced(alloc, &runs, 1000, 1000)?, Nullable, &[])?);
+    let most = sliced(alloc, &runs, 1, 999)?;
+    assert!(rt; most.len() == 998 && most.is_null_at(399) && !most.is_null_at(398));
     Ok(())
 }
 

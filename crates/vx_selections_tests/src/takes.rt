@@ -9,7 +9,7 @@ use std::test::Fail;
 use vx_array::ArrayRef;
 use vx_base::Nullability::{NonNullable, Nullable};
 use vx_base::PType::{I32, U8};
-use vx_base::{ArrayId, Nullability, VortexError, VortexResult};
+use vx_base::{ArrayId, Nullability, Scalar, VortexError, VortexResult};
 use vx_fixtures::{accepted, flat, has_stamps, with_nulls};
 
 // Whether the rows 3, 0 and 0 print as these.
@@ -106,6 +106,29 @@ fn rows_that_are_not_decoded(rt: HostRuntime) -> Result<(), Fail> {
     let column = taken(alloc, &dictionary(alloc)?, &indices)?;
     assert!(rt; column.encoding_id() == ArrayId::Dict);
     assert!(rt; prints(alloc, &column, Nullable, &["7", "null"])?);
+    Ok(())
+}
+
+#[test]
+fn a_constant_is_taken_as_often_as_there_are_indices(rt: HostRuntime) -> Result<(), Fail> {
+    let alloc = rt.alloc();
+    let same = ArrayRef::constant(Scalar::primitive(7, I32, NonNullable)?, 4);
+    let column = taken(alloc, &same, &flat(alloc, U8, NonNullable, &[3, 0])?)?;
+    assert!(rt; column.encoding_id() == ArrayId::Constant);
+    assert!(rt; prints(alloc, &column, NonNullable, &["7", "7"])?);
+    assert!(rt; takes_nothing(alloc, &same, &["7", "null", "7"])?);
+    let outside = flat(alloc, U8, NonNullable, &[4])?;
+    assert!(rt; is_refused(taken(alloc, &same, &outside), VortexError::OutOfBounds));
+    Ok(())
+}
+
+#[test]
+fn few_rows_of_many_are_found_one_by_one(rt: HostRuntime) -> Result<(), Fail> {
+    let alloc = rt.alloc();
+    let odd = ArrayRef::sequence(I32, NonNullable, 1, 2, 1000)?;
+    let column = taken(alloc, &odd, &flat(alloc, I32, NonNullable, &[999, 0, 500])?)?;
+    assert!(rt; prints(alloc, &column, NonNullable, &["1999", "1", "1001"])?);
+    assert!(rt; takes_nothing(alloc, &odd, &["5", "null", "3"])?);
     Ok(())
 }
 

@@ -10,8 +10,10 @@ ghost use Rattle.vx_model.specs.WellFormed.{WellFormed, is_place};
 ghost use Rattle.vx_rules.specs.Selections.{taken};
 ghost use Rattle.vx_values.specs.IntsOf.{ptype_of, wholes_of};
 
+use super::encoded::taken_constant;
 use super::pieces::taken_by_pieces;
 use super::stored::{taken_bool, taken_primitive, taken_view};
+use crate::few_rows::{are_few, taken_by_rows};
 use crate::over_values::over_values;
 use crate::stamps::stamped;
 use std::alloc::Global;
@@ -19,7 +21,8 @@ use vx_array::{ArrayRef, Node};
 use vx_base::{Mask, Nullability, TimestampType, VortexResult};
 use vx_values::Ints;
 
-/// `take` by indices in bounds. A flat column that isn't stored as it is is decoded first, unless it is a dictionary.
+/// `take` by indices in bounds. A flat column that isn't stored as it is is decoded first, unless it is a dictionary or, by indices
+/// of a type without null, a constant.
 #[tactic(auto, using(crate::proofs::EncodedRows::lengths))]
 pub(super) fn taken_rows(
     alloc: Global,
@@ -41,6 +44,9 @@ pub(super) fn taken_rows(
         }
         Node::Dict(own, values) => {
             taken_dict(alloc, &own.array, &values.array, codes, valid, nulls)
+        }
+        Node::Constant(value, len) if !nulls.allows_null() => {
+            taken_constant(alloc, value, *len, codes, valid, nulls)
         }
         _ if tree.dtype().is_flat() => taken_encoded(alloc, tree, codes, valid, nulls),
         _ => taken_by_pieces(alloc, tree, codes, valid, nulls),
@@ -65,7 +71,7 @@ fn taken_dict(
     over_values(alloc, chosen, values)
 }
 
-// `take` by indices in bounds, of a flat column, decoded.
+// `take` by indices in bounds, of a flat column: few rows are found one by one, and for more it is decoded.
 fn taken_encoded(
     alloc: Global,
     tree: &ArrayRef,
@@ -77,6 +83,9 @@ fn taken_encoded(
     requires places { IsTrue (list_all (is_place (length (rows tree.now))) (rows (primitive (ptype_of codes.now) (wholes_of codes.now) valid.now nulls))) }
     ensures { OrMemory result (λ out. column_of out ≡ taken (column_of tree.now) (column_of (primitive (ptype_of codes.now) (wholes_of codes.now) valid.now nulls))) }
 {
+    if are_few(codes.len(), tree.len()) {
+        return taken_by_rows(alloc, tree, codes, valid, nulls);
+    }
     let plain = tree.canonical(alloc)?;
     taken_stored(alloc, &plain, codes, valid, nulls)
 }
