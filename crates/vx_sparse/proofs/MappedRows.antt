@@ -42,7 +42,7 @@ module _ (f : PlainValue → PlainValue) where
 
 -- ---- comparison with one value
 
-zip-repeated : {A B : Type 0} (f : PlainValue × B → A) (vs : List PlainValue) (w : B) → map f (zip vs (replicate (length vs) w)) ≡ map (λ v. f (v, w)) vs
+pub zip-repeated : {A B : Type 0} (f : PlainValue × B → A) (vs : List PlainValue) (w : B) → map f (zip vs (replicate (length vs) w)) ≡ map (λ v. f (v, w)) vs
 zip-repeated f [] w = refl
 zip-repeated f (v ∷ vs) w = ap (λ rest. f (v, w) ∷ rest) (zip-repeated f vs w)
 

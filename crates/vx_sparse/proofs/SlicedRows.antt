@@ -33,7 +33,7 @@ use Rattle.vx_sparse.proofs.PatchParts.{IsCut, patched-between, ascend-between}
 
 -- ---- a part of a list
 
-in_part : (len start end : ℕ) → start ≤ end → end ≤ len → is_part len start end ≡ true
+pub in_part : (len start end : ℕ) → start ≤ end → end ≤ len → is_part len start end ≡ true
 in_part len start end o w = and_from _ _ (le-leb start end o) (le-leb end len w)
 
 row_at-between : (vs : List PlainValue) (start end i : ℕ) → i < end - start → row_at (rows_between vs start end) i ≡ row_at vs (start + i)

@@ -13,6 +13,7 @@ ghost use Rattle.vx_rules.specs.Selections.{slice_refusal};
 ghost use Rattle.vx_sparse.specs.Slices.{cut_tree, patches_before, plain_part, sliced_tree};
 
 use crate::kernels::over_patches::sparse_tree;
+use crate::kernels::stored_parts::{is_stored, stored_part};
 use std::alloc::Global;
 use vx_array::{ArrayRef, Patches};
 use vx_base::{Scalar, VortexError, VortexResult};
@@ -68,8 +69,8 @@ fn slice_within(
     cut(alloc, patches, fill, start, end, low, high)
 }
 
-// A fill in each of `len` rows.
-fn constant(alloc: Global, fill: &Scalar, len: u64) -> VortexResult<ArrayRef>
+/// A fill in each of `len` rows.
+pub(crate) fn constant(alloc: Global, fill: &Scalar, len: u64) -> VortexResult<ArrayRef>
     ensures { Answers result (constant fill.now len) }
 {
     Ok(ArrayRef::constant(fill.copy(alloc)?, len))
@@ -145,8 +146,8 @@ fn narrowed(patches: &Patches, bound: u128, low: u64, high: u64) -> (u64, u64)
     (low, middle)
 }
 
-// The index at a place.
-fn index_at(indices: &ArrayRef, place: u64) -> u128
+/// The index at a place.
+pub(crate) fn index_at(indices: &ArrayRef, place: u64) -> u128
     requires integers { IsTrue (is_integer (tree_type indices.now)) }
     requires in_range { place < length (rows indices.now) }
     ensures { result ≡ offset_at (rows indices.now) place }
@@ -157,13 +158,16 @@ fn index_at(indices: &ArrayRef, place: u64) -> u128
     }
 }
 
-// The rows `start` to `end - 1` of a tree of any type as a plain tree, from their values.
+// The rows `start` to `end - 1` of a tree of any type as a plain tree: of a stored plain column as a run, else from their values.
 #[tactic(auto, using(crate::proofs::SlicedRows::part_steps))]
 fn plain_part(alloc: Global, tree: &ArrayRef, start: u64, end: u64) -> VortexResult<ArrayRef>
     requires order { start ≤ end }
     requires within { end ≤ length (rows tree.now) }
     ensures { Answers result (plain_part tree.now start end) }
 {
+    if is_stored(tree) {
+        return stored_part(alloc, tree, start, end);
+    }
     tree.known();
     let mut values = Vec::new(alloc);
     for row in start..end {

@@ -1,4 +1,4 @@
-use Rattle.std.proofs.Common.{◌≡◌, ◌∙◌, ◌++◌, [], ◌∷◌, map, sym, ap, subst, arith}
+use Rattle.std.proofs.Common.{◌≡◌, ◌∙◌, ◌++◌, [], ◌∷◌, length, map, sym, ap, subst, arith}
 use Rattle.std.specs.List.{list_all}
 use Rattle.std.proofs.lemmas.List.{map-append}
 use Rattle.vx_base.specs.Answers.{Answers}
@@ -7,7 +7,7 @@ use Rattle.vx_base.specs.PlainScalar.{fits}
 use Rattle.vx_base.specs.TypeOf.{value_of}
 use Rattle.vx_model.specs.Plain.{plain_of}
 use Rattle.vx_model.specs.Rows.{rows}
-use Rattle.vx_sparse.proofs.SlicedRows.{fit-part, part-more}
+use Rattle.vx_sparse.proofs.SlicedRows.{fit-part, in_part, part-more}
 use Rattle.vx_sparse.proofs.kernels.slices.plain_part.Goals as goal
 
 pub loop-row-preserved : goal.loop-row-preserved
@@ -18,6 +18,9 @@ loop-row-preserved c =
     let own = value_of c.in_ok-value_at.field-0 in
     ap (map value_of) c.in_ok-push.ensures.items ∙ map-append value_of c.loop-row.values.items (c.in_ok-value_at.field-0 ∷ []) ∙ ap (λ vs. vs ++ own ∷ []) c.loop-row.invariant
     ∙ ap (λ v. rows_between all start row ++ v ∷ []) c.in_ok-value_at.ensures ∙ sym (part-more all start row (omega arith) (omega (arith, c.requires.within)))
+
+pub stored_part-requires-clause-part : goal.stored_part-requires-clause-part
+stored_part-requires-clause-part c = in_part (length (rows c.args.tree.now)) c.args.start c.args.end c.requires.order c.requires.within
 
 pub of_values-requires : goal.of_values-requires
 of_values-requires c =
