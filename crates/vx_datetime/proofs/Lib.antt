@@ -1,6 +1,16 @@
+pub mod AnswersColumn
+pub mod CastParts
 pub mod ChosenParts
+pub mod ConstantParts
 pub mod EachPart
 pub mod MaskedParts
 pub mod MetadataLaws
+pub mod MomentOrders
+pub mod MomentParts
+pub mod PartReads
 pub mod PartsTrees
+pub mod RowAnswers
+pub mod SameColumns
+pub mod StampTypes
 pub mod StandardFacts
+pub mod TakenParts

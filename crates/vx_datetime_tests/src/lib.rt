@@ -8,6 +8,14 @@ mod choices;
 #[cfg(test)]
 mod columns;
 #[cfg(test)]
+mod comparisons;
+#[cfg(test)]
+mod conversions;
+#[cfg(test)]
 mod metadata;
+#[cfg(test)]
+mod parts;
+#[cfg(test)]
+mod ranges;
 #[cfg(test)]
 mod single;
