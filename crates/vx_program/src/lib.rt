@@ -19,4 +19,5 @@ pub use running::{run, run_in_memory};
 pub use std_edge::{StdSink, StdSource};
 pub use sure::{SureSink, SureSource};
 pub use vx_document::{Document, DocumentColumn, Unread, listing_text, read_document};
+pub use vx_query::{RowAnswer, RowOp, RowQuery, apply_all};
 pub use writing::{Stop, deliver};

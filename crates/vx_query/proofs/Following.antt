@@ -6,9 +6,11 @@ use Rattle.vx_base.specs.Answers.{Decided}
 use Rattle.vx_base.specs.declared.error.VortexError.{VortexError}
 use Rattle.vx_base.specs.declared.error.VortexError.TheVariants.{NoMemory, MismatchedTypes}
 use Rattle.vx_document.specs.Commands.{PlainCommand}
+use Rattle.vx_base.specs.PlainScalar.{PlainScalar}
 use Rattle.vx_model.specs.Column.{Column, column_of}
-use Rattle.vx_model.specs.Tree.{Tree}
-use Rattle.vx_rules.specs.Operations.{PlainAnswer, PlainOp, PlainQuery, all_answered, all_applied, answered, applied, of_column}
+use Rattle.vx_model.specs.Rows.{rows}
+use Rattle.vx_model.specs.Tree.{Tree, constant}
+use Rattle.vx_rules.specs.Operations.{PlainAnswer, PlainOp, PlainQuery, all_answered, all_applied, answered, applied, of_column, repeated}
 use Rattle.vx_rules.specs.Outcomes.{Follows, and_then, outcome}
 use Rattle.vx_query.specs.Queries.{PlainStep, line_of, mapped, or_mismatched, query_lines, stepped}
 use Rattle.vx_query.specs.Steps.{answer_of, op_of}
@@ -38,6 +40,18 @@ column-answered None c (Ok tree) h = ap of_column h
 column-answered None c (Err e) h = h
 column-answered (Some f) c (Ok tree) h = h
 column-answered (Some f) c (Err e) h = inr h
+
+-- a column that follows a rule, as an answer
+pub column_followed : (refusal : Option VortexError) (c : Column) (result : Result Tree VortexError) → Follows (outcome refusal c) (λ out column. column_of out ≡ column) result
+    → Follows (outcome refusal (of_column c)) (λ out answer. answer_of out ≡ answer) (mapped answers.Column result)
+column_followed None c (Ok tree) h = ap of_column h
+column_followed None c (Err e) h = h
+column_followed (Some f) c (Ok tree) h = h
+column_followed (Some f) c (Err e) h = h
+
+-- a scalar in each row of a tree, as a tree
+pub of_constant : (s : PlainScalar) (t own other : Tree) → other ≡ constant s (length (rows t)) → t ≡ own → column_of other ≡ repeated s (column_of own)
+of_constant s t own other e h = ap column_of e ∙ ap (λ u. repeated s (column_of u)) h
 
 -- want of memory may come in place of anything
 pub no_memory : {A B : Type 0} (rule : Result B VortexError) (Is : A → B → Type 0) (e : VortexError) → e ≡ NoMemory → Follows rule Is (Err e)

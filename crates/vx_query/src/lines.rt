@@ -8,9 +8,10 @@ ghost use Rattle.vx_query.specs.Queries.{answer_text, line_of, pair_text, scalar
 ghost use Rattle.vx_query.specs.Steps.{answer_of};
 
 use crate::steps::RowAnswer;
+use itoa::Buffer;
 use std::alloc::{AllocError, Global};
 use vx_array::ArrayRef;
-use vx_base::Scalar;
+use vx_base::{Cell, Scalar};
 
 // Appends a scalar.
 fn push_scalar(alloc: Global, text: &mut String, scalar: &Scalar) -> Result<(), AllocError>
@@ -22,8 +23,24 @@ fn push_scalar(alloc: Global, text: &mut String, scalar: &Scalar) -> Result<(), 
     }
 }
 
-// Appends a row.
+// Appends a row. Nulls, truth values and integers are written with no scalar made of them.
 fn push_row(alloc: Global, text: &mut String, tree: &ArrayRef, row: u64) -> Result<(), AllocError>
+    requires { row < length (rows tree.now) }
+    ensures { OnOk result (string_bytes text.new ≡ string_bytes text.old ++ value_text (tree_type tree.now) (row_at (rows tree.now) row)) }
+{
+    if !tree.dtype().is_flat() {
+        return push_value(alloc, text, tree, row);
+    }
+    match tree.cell_at(row) {
+        Cell::Null => text.push_str("null"),
+        Cell::Bool(truth) => push_truth(text, truth),
+        Cell::Int(whole) => text.push_str(Buffer::new().format(whole)),
+        Cell::Bytes(_) => push_value(alloc, text, tree, row),
+    }
+}
+
+// Appends a row of any type, as its scalar.
+fn push_value(alloc: Global, text: &mut String, tree: &ArrayRef, row: u64) -> Result<(), AllocError>
     requires { row < length (rows tree.now) }
     ensures { OnOk result (string_bytes text.new ≡ string_bytes text.old ++ value_text (tree_type tree.now) (row_at (rows tree.now) row)) }
 {
@@ -47,7 +64,7 @@ fn push_rows(alloc: Global, text: &mut String, tree: &ArrayRef) -> Result<(), Al
     text.push_str("]")
 }
 
-// `push_rows`, decoded first: single rows of a chain of deltas or of runs cost a search each.
+// `push_rows`, decoded first: a single row of a chain of deltas or of runs costs a search.
 fn push_column(alloc: Global, text: &mut String, tree: &ArrayRef) -> Result<(), AllocError>
     ensures { OnOk result (string_bytes text.new ≡ string_bytes text.old ++ list_text (tree_type tree.now) (rows tree.now)) }
 {

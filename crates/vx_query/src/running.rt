@@ -7,10 +7,9 @@ ghost use Rattle.vx_query.specs.Queries.{commanded, query_lines, stepped};
 ghost use Rattle.vx_query.specs.Steps.{step_view};
 ghost use Rattle.vx_rules.specs.Outcomes.{Follows};
 
-use crate::applying::apply;
-use crate::asking::ask;
 use crate::lines::push_line;
 use crate::reading::read_step;
+use crate::rooted::Rooted;
 use crate::steps::Step;
 use vx_array::ArrayRef;
 use vx_base::{ExecutionCtx, VortexError, VortexResult};
@@ -26,12 +25,13 @@ fn run_step(
     ensures answer { Follows (stepped (column_of array) (step_view step.now)) (λ out left. (column_of out ≡ left.0) × (string_bytes text.new ≡ string_bytes text.old ++ left.1)) result }
     ensures ctx { ctx.new ≡ ctx.old }
 {
+    let tree = Rooted::of(array);
     match step {
-        Step::Operation(op) => apply(&array, op, ctx),
+        Step::Operation(op) => tree.apply(op, ctx),
         Step::Question(query) => {
-            let answer = ask(&array, query, ctx)?;
+            let answer = tree.ask(query, ctx)?;
             push_line(ctx.alloc(), text, &answer)?;
-            Ok(array)
+            Ok(tree.into_array())
         }
     }
 }

@@ -11,3 +11,5 @@ mod operations;
 mod queries;
 #[cfg(test)]
 mod refusals;
+#[cfg(test)]
+mod roots;

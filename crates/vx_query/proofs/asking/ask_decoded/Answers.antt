@@ -3,7 +3,7 @@ use Rattle.vx_rules.specs.Comparisons.{between, between_refusal, compare_refusal
 use Rattle.vx_rules.specs.Operations.{repeated}
 use Rattle.vx_rules.specs.Patterns.{like, like_refusal}
 use Rattle.vx_query.proofs.Following.{column-answered}
-use Rattle.vx_query.proofs.asking.ask.Goals as goal
+use Rattle.vx_query.proofs.asking.ask_decoded.Goals as goal
 
 pub returns-in-Compare-clause-answer : goal.returns-in-Compare-clause-answer
 returns-in-Compare-clause-answer c =
