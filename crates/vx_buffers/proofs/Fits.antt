@@ -1,4 +1,4 @@
--- Validity of so many rows is accepted by the constructors.
+-- The constructors accept validity with a bit for each row.
 use Rattle.std.proofs.Common.{◌≡◌, ◌∙◌, ℕ, Bool, List, length, map, ap, Some, None}
 use Rattle.std.proofs.lemmas.Bool.{eq-eqb}
 use Rattle.std.proofs.lemmas.List.{length-map}

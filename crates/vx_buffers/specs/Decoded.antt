@@ -34,13 +34,15 @@ shown (Some bits) len = bits
 abbrev pub shown_of : Tree → List Bool
 shown_of t = shown (validity (rows t)) (length (rows t))
 
--- the rows of integers or timestamps, of truth values, and of texts or binaries
+-- the rows of integers or timestamps, 0 beneath nulls
 abbrev pub integers_of : Tree → List ℤ
 integers_of t = map whole_or_zero (rows t)
 
+-- the rows of truth values, false beneath nulls
 abbrev pub truths_of : Tree → List Bool
 truths_of t = map truth_or_false (rows t)
 
+-- the rows of texts or binaries as bytes, none beneath nulls
 abbrev pub texts_of : Tree → List (List ℕ)
 texts_of t = map bytes_or_empty (rows t)
 
@@ -49,7 +51,7 @@ abbrev pub into_buffers : Bool → ℕ → ℕ → ℕ → Result (Unit {0}) Ref
 into_buffers is_type len out valid =
     if is_type then (if out == len then (if valid == len then Ok tt else Err BufferLength) else Err BufferLength) else Err OtherType
 
--- what writing so many bytes into a place of this length answers
+-- what writing `len` bytes into a place of `place` bytes answers
 abbrev pub into_place : ℕ → ℕ → Result (Unit {0}) Refusal
 into_place len place = if nat_le len place then Ok tt else Err BufferLength
 
@@ -57,7 +59,8 @@ into_place len place = if nat_le len place then Ok tt else Err BufferLength
 abbrev pub counted : Tree → Result ℕ Refusal
 counted t = if is_bytes (tree_type t) then Ok (length (concatenated (texts_of t))) else Err OtherType
 
--- whether three buffers are of the lengths that offsets, bytes and validity of so many rows and bytes need
+-- whether three buffers have the lengths that `count` rows of `all` bytes need: an offset more than rows, the bytes, and a truth value
+-- a row
 abbrev pub bytes_fit : ℕ → ℕ → ℕ → ℕ → ℕ → Result (Unit {0}) Refusal
 bytes_fit count all offsets bytes valid =
     if offsets == count + 1 then (if bytes == all then (if valid == count then Ok tt else Err BufferLength) else Err BufferLength) else Err BufferLength

@@ -68,7 +68,7 @@ pub fn byte_count(alloc: Global, tree: &ArrayRef) -> Result<u64, Refusal>
     plain_count(alloc, &plain)
 }
 
-// Copies offsets, bytes and validity of so many rows into buffers of their lengths.
+// Copies the offsets, bytes and validity of all rows into buffers of their lengths.
 fn copy_bytes(
     count: usize,
     starts: &[u64],
