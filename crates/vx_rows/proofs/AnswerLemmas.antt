@@ -25,7 +25,7 @@ use Rattle.vx_rules.specs.Patterns as patterns
 use Rattle.vx_rules.specs.ValueOrder.{value_cmp}
 use Rattle.vx_rules.proofs.FitLaws.{answers_are_columns}
 use Rattle.vx_base.specs.Storable.{same_path}
-use Rattle.vx_rows.specs.Pairs.{are_comparable, are_within_types, both_true, both_valid, compared_rows, each_pair, rows_within, whole_holds, whole_within}
+use Rattle.vx_rows.specs.Pairs.{are_comparable, are_within_types, both_true, both_valid, bytes_hold, compared_rows, each_pair, rows_within, whole_holds, whole_within}
 use Rattle.vx_rows.specs.Texts.{liked_rows}
 use Rattle.vx_rows.proofs.ValidLemmas.{map-valid, pair-replicate, pair-valid, triple-replicate}
 
@@ -58,6 +58,10 @@ negated-fit n vs h = answers_are_columns.not (column (types.boolean n) vs) h ref
 pub rows-with-whole : (op : CompareOperator) (w : ℤ) (valid : Validity) (zs : List ℤ) (n : ℕ) → length (valid_rows valid (map int zs)) ≡ n
     → compared_rows op (valid_rows valid (map int zs)) (replicate n (int w)) ≡ valid_rows valid (map truth (map (whole_holds op w) zs))
 rows-with-whole op w valid zs n e = pair-replicate (compared op) (valid_rows valid (map int zs)) (int w) n e ∙ map-valid (λ v. compared op v (int w)) int (whole_holds op w) truth refl (λ z. refl) valid zs
+
+pub rows-with-bytes : (op : CompareOperator) (bs : List ℕ) (valid : Validity) (rows : List (List ℕ)) (n : ℕ) → length (valid_rows valid (map bytes rows)) ≡ n
+    → compared_rows op (valid_rows valid (map bytes rows)) (replicate n (bytes bs)) ≡ valid_rows valid (map truth (map (bytes_hold op bs) rows))
+rows-with-bytes op bs valid rows n e = pair-replicate (compared op) (valid_rows valid (map bytes rows)) (bytes bs) n e ∙ map-valid (λ v. compared op v (bytes bs)) bytes (bytes_hold op bs) truth refl (λ row. refl) valid rows
 
 -- the value of a cell that is an integer
 pub integer-is : (v : PlainValue) (w : ℤ) → Some w ≡ integer_in v → v ≡ int w

@@ -12,7 +12,7 @@ use Rattle.vx_base.specs.PlainValue.{PlainValue, int, is_null}
 use Rattle.vx_model.specs.Rows.{masked_rows, row_at}
 use Rattle.vx_rules.specs.Aggregates.{greatest, least, valid_values}
 use Rattle.vx_rules.specs.ValueOrder.{value_cmp}
-use Rattle.vx_rows.specs.Extremes.{next_if, next_valid, valid_items, with_next}
+use Rattle.vx_rows.specs.Extremes.{next_valid, valid_items, with_next}
 
 -- one value further
 pub reduce-next : {A : Type 0} (f : A → A → A) (xs : List A) (x : A) → reduce f (xs ++ x ∷ []) ≡ Some (with_next f (reduce f xs) x)
@@ -110,14 +110,6 @@ same-answer (Ok a) x y e h = h ∙ e
 same-answer (Err f) x y e h = h
 
 -- ---- one value further
-
-reduce-part : {A : Type 0} (f : A → A → A) (xs : List A) (x : A) (bit : Bool) → reduce f (xs ++ cond bit (x ∷ []) []) ≡ next_if f (reduce f xs) x bit
-reduce-part f xs x true = reduce-next f xs x
-reduce-part f xs x false = ap (reduce f) (append-nil xs)
-
-pub reduce-more : {A : Type 0} (f : A → A → A) (bits : List Bool) (xs : List A) (i : ℕ) (x : A) → i < length bits → i < length xs → x ≡ get_or xs i x
-    → reduce f (valid_items (take (i + 1) bits) (take (i + 1) xs)) ≡ next_if f (reduce f (valid_items (take i bits) (take i xs))) x (get_or bits i false)
-reduce-more f bits xs i x h k e = ap (reduce f) (valid_items-next bits xs i x h k e) ∙ reduce-part f (valid_items (take i bits) (take i xs)) x (get_or bits i false)
 
 valid-next : (vs : List PlainValue) (i : ℕ) → i < length vs → valid_values (take (suc i) vs) ≡ valid_values (take i vs) ++ cond (is_null (row_at vs i)) [] (row_at vs i ∷ [])
 valid-next [] i h = absurd (omega arith)

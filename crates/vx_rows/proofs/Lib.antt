@@ -1,4 +1,3 @@
-pub mod AlikeLemmas
 pub mod AnswerLemmas
 pub mod BaseLemmas
 pub mod CastLemmas
@@ -12,6 +11,7 @@ pub mod LentLemmas
 pub mod NamedLemmas
 pub mod PairLemmas
 pub mod PickedLemmas
+pub mod PrefixLemmas
 pub mod ReadLemmas
 pub mod RetypeLemmas
 pub mod SuffixLemmas
@@ -22,4 +22,5 @@ pub mod TruthLemmas
 pub mod TurnLemmas
 pub mod UsedLemmas
 pub mod ValidLemmas
+pub mod WeighedLemmas
 pub mod WholeLemmas

@@ -18,7 +18,7 @@ use Rattle.vx_model.proofs.MadeLemmas.{rows_fit}
 use Rattle.vx_rules.specs.Aggregates.{all_equal, greatest, is_constant, least, min_max, scalar_pair, valid_values}
 use Rattle.vx_rows.specs.Extremes.{valid_items}
 use Rattle.vx_rows.specs.Used.{named_by, row_values}
-use Rattle.vx_rows.proofs.AlikeLemmas.{alike_extremes}
+use Rattle.vx_rules.proofs.AlikeExtremes.{alike_extremes}
 use Rattle.vx_rows.proofs.AnswerLemmas.{flat-with}
 use Rattle.vx_rows.proofs.ExtremeLemmas.{valid-none}
 use Rattle.vx_rows.proofs.UsedLemmas.{length-named, rows_alike}

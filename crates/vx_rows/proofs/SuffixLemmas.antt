@@ -1,7 +1,8 @@
 -- Whether the rest of a text matches the rest of a pattern: no items, and one item more in front.
-use Rattle.std.proofs.Common.{◌≡◌, ◌<◌, ◌∙◌, ℕ, zero, suc, ◌+◌, Bool, true, false, List, [], ◌∷◌, ◌++◌, map, take, drop, length, get_or, set, refl, sym, ap, arith}
+use Rattle.std.proofs.Common.{◌≡◌, ◌<◌, ◌∙◌, ℕ, zero, suc, ◌+◌, ◌-◌, Bool, true, false, List, [], ◌∷◌, ◌++◌, map, take, drop, length, get_or, set, refl, sym, ap, arith}
 use Rattle.std.specs.Prelude.{◌&&◌, ◌||◌, replicate}
 use Rattle.std.specs.List.{list_any}
+use Rattle.std.proofs.lemmas.List.{take_all}
 use Rattle.vx_rules.specs.Patterns.{PatternItem, any_run, matches, suffixes}
 use Rattle.vx_rows.specs.Suffixes.{any_from, ends_of, first_of, shifted}
 
@@ -13,19 +14,34 @@ pub length-ends : (items : List PatternItem) (cs : List ℕ) → length (ends_of
 length-ends items [] = refl
 length-ends items (c ∷ cs) = ap suc (length-ends items cs)
 
-pub first-ends : (items : List PatternItem) (cs : List ℕ) → get_or (ends_of items cs) 0 false ≡ matches items cs
-first-ends items [] = refl
-first-ends items (c ∷ cs) = refl
-
 first_of-ends : (items : List PatternItem) (cs : List ℕ) → first_of (ends_of items cs) ≡ matches items cs
 first_of-ends items [] = refl
 first_of-ends items (c ∷ cs) = refl
 
-pub none_match : (cs : List ℕ) (bs ends : List Bool) → bs ≡ replicate (length cs) false → ends ≡ bs ++ true ∷ [] → ends ≡ ends_of [] cs
-none_match cs bs ends e f = f ∙ ap (λ ds. ds ++ true ∷ []) e ∙ none-ends cs
+-- every suffix matches any characters
+pub every-suffix : (cs : List ℕ) → list_any (matches []) (suffixes cs) ≡ true
+every-suffix [] = refl
+every-suffix (c ∷ cs) = every-suffix cs
+
+pub all-ends : (cs : List ℕ) → replicate (length cs) true ++ true ∷ [] ≡ ends_of (any_run ∷ []) cs
+all-ends [] = refl
+all-ends (c ∷ cs) = λ i. sym (every-suffix cs) i ∷ all-ends cs i
+
+-- cleared, filled and one longer
+pub filled : (b : Bool) (old bs ends : List Bool) (len room : ℕ) (cs : List ℕ) → length cs ≡ len → old ≡ [] → room ≡ 0 → bs ≡ take len old ++ replicate (len - room) b → ends ≡ bs ++ true ∷ [] → ends ≡ replicate (length cs) b ++ true ∷ []
+filled b old bs ends len room cs l none empty is more =
+    let all : len - room ≡ length cs = omega arith in
+    more ∙ ap (λ ds. ds ++ true ∷ []) (is ∙ (λ i. take len (none i) ++ replicate (all i) b) ∙ ap (λ ds. ds ++ replicate (length cs) b) (take_all len [] (omega arith)))
+
+pub none-behind : {A : Type 0} (plain : A → PatternItem) (xs : List A) (k : ℕ) → k ≡ length xs → drop k (map plain xs) ≡ []
+none-behind plain xs k e = ap (λ j. drop j (map plain xs)) e ∙ none xs
+  where
+    none : (ys : List _) → drop (length ys) (map plain ys) ≡ []
+    none [] = refl
+    none (y ∷ ys) = none ys
 
 -- one item more in front of those behind it
-front : {A B : Type 0} (f : A → B) (xs : List A) (i : ℕ) (x : A) → i < length xs → f (get_or xs i x) ∷ drop (suc i) (map f xs) ≡ drop i (map f xs)
+pub front : {A B : Type 0} (f : A → B) (xs : List A) (i : ℕ) (x : A) → i < length xs → f (get_or xs i x) ∷ drop (suc i) (map f xs) ≡ drop i (map f xs)
 front f [] i x h = absurd (omega arith)
 front f (a ∷ xs) zero x h = refl
 front f (a ∷ xs) (suc i) x h = front f xs i x (omega arith)
@@ -38,7 +54,7 @@ ends-front plain xs cs i m k x ends h d e s =
 
 -- ---- any characters
 
-any-mapped : {A : Type 0} (p : A → Bool) (xs : List A) → list_any (λ x. x) (map p xs) ≡ list_any p xs
+pub any-mapped : {A : Type 0} (p : A → Bool) (xs : List A) → list_any (λ x. x) (map p xs) ≡ list_any p xs
 any-mapped p [] = refl
 any-mapped p (x ∷ xs) = ap (λ b. p x || b) (any-mapped p xs)
 

@@ -11,7 +11,7 @@ use Rattle.vx_model.specs.Tree.{Tree, dict}
 use Rattle.vx_model.specs.WellFormed.{WellFormed, is_place}
 use Rattle.vx_rows.specs.Extremes.{valid_items}
 use Rattle.vx_rows.specs.Used.{marked, named_by, row_values}
-use Rattle.vx_rows.proofs.AlikeLemmas.{PassAlike}
+use Rattle.vx_rules.proofs.AlikeExtremes.{PassAlike}
 
 twice : (a b : Bool) → (a && b) ≡ (a && (a && b))
 twice true b = refl

@@ -8,14 +8,15 @@ valid_items [] xs = []
 valid_items (bit ∷ bits) [] = []
 valid_items (bit ∷ bits) (x ∷ xs) = cond bit (x ∷ valid_items bits xs) (valid_items bits xs)
 
+-- the first item
+abbrev pub first_item : {A : Type 0} → List A → Option A
+first_item [] = None
+first_item (x ∷ xs) = Some x
+
 -- what f makes of an item and of what was found before, the item alone where nothing was
 abbrev pub with_next : {A : Type 0} → (A → A → A) → Option A → A → A
 with_next f None x = x
 with_next f (Some found) x = f found x
-
--- what f makes of an item and of what was found before, which stays unless the bit is true
-abbrev pub next_if : {A : Type 0} → (A → A → A) → Option A → A → Bool → Option A
-next_if f found x bit = if bit then Some (with_next f found x) else found
 
 -- what f makes of a value and of what was found before, which null doesn't change
 abbrev pub next_valid : (PlainValue → PlainValue → PlainValue) → Option PlainValue → PlainValue → Option PlainValue

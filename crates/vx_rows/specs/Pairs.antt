@@ -1,6 +1,7 @@
 -- Rows of two or three columns side by side.
-use Rattle.std.specs.Prelude.{ℤ, Bool, ◌&&◌, ◌||◌, if◌then◌else◌, List, map, zip, None, Some}
-use Rattle.std.specs.Ordering.{int_cmp}
+use Rattle.std.specs.Prelude.{ℕ, ℤ, Bool, ◌&&◌, ◌||◌, if◌then◌else◌, List, map, zip, None, Some}
+use Rattle.std.specs.Cmp.Lexicographic.{slice_cmp}
+use Rattle.std.specs.Ordering.{int_cmp, nat_cmp}
 use Rattle.vx_base.specs.PlainType.{PlainType, is_flat, same_base}
 use Rattle.vx_base.specs.PlainValue.{PlainValue, null, truth, is_null, truth_or_false}
 use Rattle.vx_model.specs.Tree.{Validity}
@@ -50,6 +51,10 @@ rows_within options rows lows highs = map (λ p. within_bounds options p.0 p.1.0
 -- whether an operator holds between a number and another one
 abbrev pub whole_holds : CompareOperator → ℤ → ℤ → Bool
 whole_holds operator w z = holds operator (int_cmp z w)
+
+-- whether an operator holds between the bytes of a value and other ones
+abbrev pub bytes_hold : CompareOperator → List ℕ → List ℕ → Bool
+bytes_hold operator value row = holds operator (slice_cmp nat_cmp row value)
 
 -- whether a number lies between two others, each bound strict or not
 abbrev pub whole_within : BetweenOptions → ℤ → ℤ → ℤ → Bool

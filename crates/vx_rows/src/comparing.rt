@@ -11,6 +11,7 @@ ghost use Rattle.vx_rows.specs.Pairs.{are_comparable};
 ghost use Rattle.vx_rules.specs.Comparisons.{compare_refusal, comparison};
 ghost use Rattle.vx_rules.specs.Operations.{repeated};
 
+mod byte_rows;
 mod columns;
 
 use crate::held::readable;

@@ -1,6 +1,7 @@
 //! Kernels over slices of one integer type, and over validity bits.
 
 mod bounds;
+mod byte_rows;
 mod conversions;
 mod fills;
 mod holding;
@@ -10,6 +11,7 @@ mod validity;
 mod within;
 
 pub(crate) use bounds::{extremes, extremes_of_valid};
+pub(crate) use byte_rows::holds_with_bytes;
 pub(crate) use conversions::{converted, is_in, lie_in};
 pub(crate) use fills::filled_beneath;
 pub(crate) use holding::holds_with;

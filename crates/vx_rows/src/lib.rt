@@ -22,7 +22,9 @@ mod ordering;
 mod pattern;
 mod ranging;
 mod stamps;
+mod suffixes;
 mod summing;
+mod text;
 mod truths;
 mod used;
 

@@ -12,6 +12,7 @@ ghost use Rattle.vx_rules.specs.Patterns.{like, like_refusal};
 
 mod cells;
 mod columns;
+mod room;
 
 use crate::held::readable;
 use crate::lent::{rows_of, same_rows};

@@ -37,6 +37,14 @@ fn least_and_greatest_leave_nulls_out(rt: HostRuntime) -> Result<(), Fail> {
     assert!(rt; lie_between(&min_max(alloc, &column)?, -7, 12));
     let column = with_nulls(alloc, I8, &[-100, 4, 9, 100], &[false, true, true, false])?;
     assert!(rt; lie_between(&min_max(alloc, &column)?, 4, 9));
+    // The first valid value is neither of them.
+    let column = with_nulls(
+        alloc,
+        I8,
+        &[-9, 8, 7, 99, 9],
+        &[false, true, true, false, true],
+    )?;
+    assert!(rt; lie_between(&min_max(alloc, &column)?, 7, 9));
     assert!(rt; lie_between(&min_max(alloc, &by_codes(alloc)?)?, 5, 9));
     let constant = ArrayRef::constant(whole(6, U8, Nullable)?, 9);
     assert!(rt; lie_between(&min_max(alloc, &constant)?, 6, 6));

@@ -1,6 +1,6 @@
 //! Comparisons: each operator, nulls, constants on either side, encoded rows, and refusals; and negation.
 
-use crate::columns::{by_codes, has_truths, text, texts, texts_with_nulls, truths, whole};
+use crate::columns::{by_codes, has_truths, truths, whole};
 use std::test::Fail;
 use vx_array::ArrayRef;
 use vx_base::Nullability::{NonNullable, Nullable};
@@ -57,23 +57,6 @@ fn a_number_out_of_the_range_of_a_type_is_not_in_it(rt: HostRuntime) -> Result<(
     assert!(rt; has_truths(&out, &[Some(true), Some(true)]) && out.dtype().is_nullable());
     let both = compare(&above, &above, Lt, &mut ctx)?;
     assert!(rt; has_truths(&both, &[Some(false), Some(false)]));
-    Ok(())
-}
-
-#[test]
-fn texts_are_ordered_by_bytes_and_truth_values_false_first(rt: HostRuntime) -> Result<(), Fail> {
-    let alloc = rt.alloc();
-    let mut ctx = context(alloc)?;
-    let column = texts_with_nulls(alloc, &["ab", "b", ""], &[true, true, false])?;
-    let others = texts(alloc, &["abc", "a", "z"])?;
-    let out = compare(&column, &others, Lt, &mut ctx)?;
-    assert!(rt; has_truths(&out, &[Some(true), Some(false), None]));
-    let out = compare_scalar(&column, &text(alloc, "b")?, Gte, &mut ctx)?;
-    assert!(rt; has_truths(&out, &[Some(false), Some(true), None]));
-    let column = truths(alloc, &[Some(false), Some(true), None])?;
-    let others = truths(alloc, &[Some(true), Some(true), Some(true)])?;
-    let out = compare(&column, &others, Lt, &mut ctx)?;
-    assert!(rt; has_truths(&out, &[Some(true), Some(false), None]));
     Ok(())
 }
 

@@ -19,3 +19,5 @@ mod fills;
 mod patterns;
 #[cfg(test)]
 mod ranges;
+#[cfg(test)]
+mod texts;

@@ -51,6 +51,23 @@ fn one_character_is_no_byte(rt: HostRuntime) -> Result<(), Fail> {
     Ok(())
 }
 
+// Texts of one column share their room: each is matched as if it stood alone, whatever stood before it.
+#[test]
+fn texts_of_all_lengths_stand_in_one_column(rt: HostRuntime) -> Result<(), Fail> {
+    let alloc = rt.alloc();
+    let mut ctx = context(alloc)?;
+    let rows = ["xxxxéb", "éb", "ab", "", "bbbbbbbbbbbbéab", "b", "éb€"];
+    let column = texts(alloc, &rows)?;
+    let behind = like_scalar(&column, &text(alloc, "%éb")?, LIKE, &mut ctx)?;
+    let (yes, no) = (Some(true), Some(false));
+    assert!(rt; has_truths(&behind, &[yes, yes, no, no, no, no, no]));
+    let within = like_scalar(&column, &text(alloc, "_b%")?, LIKE, &mut ctx)?;
+    assert!(rt; has_truths(&within, &[no, yes, yes, no, yes, no, yes]));
+    let two = like_scalar(&column, &text(alloc, "%b%_")?, LIKE, &mut ctx)?;
+    assert!(rt; has_truths(&two, &[no, no, no, no, yes, no, yes]));
+    Ok(())
+}
+
 #[test]
 fn a_backslash_makes_the_next_character_itself(rt: HostRuntime) -> Result<(), Fail> {
     let alloc = rt.alloc();

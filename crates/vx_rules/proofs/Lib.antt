@@ -1,4 +1,5 @@
 pub mod AggregateFacts
+pub mod AlikeExtremes
 pub mod ComparisonFacts
 pub mod ConversionFacts
 pub mod ExtremeLaws

@@ -2,7 +2,6 @@
 use Rattle.std.proofs.Common.{◌≡◌, ◌<◌, ◌≤◌, ◌+◌, ◌++◌, ℕ, zero, suc, Bool, true, false, cond, List, [], ◌∷◌, length, take, Some, None, refl, sym, ap, arith, ◌∙◌}
 use Rattle.std.specs.Prelude.{◌&&◌, slice_index_or}
 use Rattle.std.proofs.lemmas.Bool.{eq-eqb, eqb-true}
-use Rattle.std.proofs.lemmas.List.{take_all}
 use Rattle.vx_base.specs.declared.dtype.Nullability.{Nullability}
 use Rattle.vx_base.specs.declared.dtype.Nullability.TheVariants.{Nullable}
 use Rattle.vx_base.specs.PlainType.{or_nullable}
@@ -95,10 +94,3 @@ module _ (own valid : Validity) (len : ℕ) (n m : Nullability) (h : IsValidityO
 
   pub narrowed_rows : (rs : List PlainValue) → length rs ≡ len → valid_rows (kept (narrowed own valid)) rs ≡ valid_rows valid (valid_rows own rs)
   narrowed_rows rs l = kept-rows (narrowed own valid) rs (ap (validity_length (narrowed own valid)) l ∙ narrowed_long) ∙ rows-narrowed own valid rs
-
--- ---- past the last row
-
-pub both-end : (xs ys : List Bool) (row : ℕ) → length xs ≤ row → length xs ≡ length ys → both (take row xs) (take row ys) ≡ both xs ys
-both-end xs ys row l e = λ i. both (take_all row xs l i) (take_all row ys (omega (arith, l, e)) i)
-
-pub ruleset joining = (both-next, both-end)

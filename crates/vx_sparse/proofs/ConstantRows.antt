@@ -14,7 +14,8 @@ use Rattle.vx_model.specs.Tree.{PlainPatches, sparse_of}
 use Rattle.vx_model.specs.WellFormed.{WellFormedPatches}
 use Rattle.vx_rules.specs.Aggregates.{all_equal, is_constant}
 use Rattle.vx_sparse.specs.Kernels.{unpatched, row_values}
-use Rattle.vx_sparse.proofs.RowValues.{PassAlike, rows-alike, unless_none-none, unless_none-some}
+use Rattle.vx_rules.proofs.AlikeExtremes.{PassAlike}
+use Rattle.vx_sparse.proofs.RowValues.{rows-alike, unless_none-none, unless_none-some}
 
 -- two tests with one answer
 pub alike : (a b : Bool) → (a ≡ true → b ≡ true) → (b ≡ true → a ≡ true) → a ≡ b

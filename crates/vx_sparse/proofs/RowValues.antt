@@ -9,6 +9,7 @@ use Rattle.vx_base.specs.PlainValue.{PlainValue}
 use Rattle.vx_model.specs.Rows.{rows}
 use Rattle.vx_model.specs.Tree.{PlainPatches, sparse_of}
 use Rattle.vx_model.specs.WellFormed.{WellFormedPatches}
+use Rattle.vx_rules.proofs.AlikeExtremes.{PassAlike}
 use Rattle.vx_sparse.specs.Kernels.{unpatched, unless_none, row_values}
 use Rattle.vx_sparse.proofs.Weighs.{rows-weighed}
 
@@ -20,10 +21,6 @@ swap false false c = refl
 twice : (a b : Bool) → (a ≡ true → b ≡ true) → (a && b) ≡ (a && true)
 twice true b h = h refl
 twice false b h = refl
-
--- two lists pass the same tests
-abbrev pub PassAlike : List PlainValue → List PlainValue → Type 0
-PassAlike vs ws = (test : PlainValue → Bool) → list_all test vs ≡ list_all test ws
 
 -- where there are rows for a value
 pub unless_none-some : (n : ℕ) (v : PlainValue) → 0 < n → unless_none n v ≡ v ∷ []

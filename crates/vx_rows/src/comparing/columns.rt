@@ -1,4 +1,5 @@
-//! Comparisons of rows that are read where they stand: integers in their own type by a kernel, others value by value.
+//! Comparisons of rows that are read where they stand: integers in their own type, and texts and binaries with one value, by a
+//! kernel, others value by value.
 
 ghost use Rattle.std.specs.Prelude.{◌≡◌, IsTrue, length, map, replicate, true};
 ghost use Rattle.vx_base.specs.Answers.{Answers};
@@ -12,6 +13,7 @@ ghost use Rattle.vx_rows.specs.Truths.{truth_or_null};
 ghost use Rattle.vx_rules.specs.Comparisons.{compared};
 ghost use Rattle.vx_values.specs.IntsOf.{wholes_of};
 
+use super::byte_rows::byte_rows_with_same;
 use crate::kernels::{both_valid, holds_between, holds_with};
 use crate::lent::Lent;
 use crate::ordering::value_cmp;
@@ -42,6 +44,12 @@ pub(crate) fn compared_rows(
         }
         (Lent::Same(value, len), Lent::Ints(values, valid)) => {
             compared_with_same(alloc, turned(operator), values, valid, value, len)
+        }
+        (Lent::Bytes(rows, valid), Lent::Same(value, len)) => {
+            byte_rows_with_same(alloc, operator, rows, valid, value, len)
+        }
+        (Lent::Same(value, len), Lent::Bytes(rows, valid)) => {
+            byte_rows_with_same(alloc, turned(operator), rows, valid, value, len)
         }
         _ => compared_cells(alloc, operator, left, right),
     }
@@ -138,8 +146,8 @@ fn compared_with_whole(
     Ok(Truths::new(bits, valid))
 }
 
-// `compared_rows`, value by value.
-fn compared_cells(
+/// `compared_rows`, value by value.
+pub(super) fn compared_cells(
     alloc: Global,
     operator: CompareOperator,
     left: Lent<'_>,

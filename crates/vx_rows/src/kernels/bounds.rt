@@ -2,8 +2,8 @@
 
 ghost use Rattle.std.specs.List.{reduce};
 ghost use Rattle.std.specs.Ordering.{int_cmp, ord_max, ord_min};
-ghost use Rattle.std.specs.Prelude.{◌≡◌, fold, length, map, option_map};
-ghost use Rattle.vx_rows.specs.Extremes.{next_if, valid_items};
+ghost use Rattle.std.specs.Prelude.{◌≡◌, cond, fold, length, map, option_map};
+ghost use Rattle.vx_rows.specs.Extremes.{first_item, valid_items};
 
 use vx_base::Integer;
 
@@ -13,31 +13,24 @@ pub(crate) fn extremes<T: Integer>(items: &[T]) -> Option<(T, T)>
     ensures greatest { option_map (λ p. T.whole p.1) result ≡ reduce (ord_max int_cmp) (map T.whole items.now) }
 {
     match items.split_first() {
-        Some((first, rest)) => Some((least_from(*first, rest), greatest_from(*first, rest))),
+        Some((first, rest)) => Some(extremes_from(*first, rest)),
         None => None,
     }
 }
 
-// The least of an item and further ones.
-fn least_from<T: Integer>(first: T, items: &[T]) -> T
-    ensures { T.whole result ≡ fold (ord_min int_cmp) (T.whole first) (map T.whole items.now) }
+// The least and the greatest of an item and further ones, in one pass over them.
+fn extremes_from<T: Integer>(first: T, items: &[T]) -> (T, T)
+    ensures least { T.whole result.0 ≡ fold (ord_min int_cmp) (T.whole first) (map T.whole items.now) }
+    ensures greatest { T.whole result.1 ≡ fold (ord_max int_cmp) (T.whole first) (map T.whole items.now) }
 {
     let mut least = first;
-    for row in 0..items.len() {
-        least = lesser(least, items[row]);
-    }
-    least
-}
-
-// The greatest of an item and further ones.
-fn greatest_from<T: Integer>(first: T, items: &[T]) -> T
-    ensures { T.whole result ≡ fold (ord_max int_cmp) (T.whole first) (map T.whole items.now) }
-{
     let mut greatest = first;
     for row in 0..items.len() {
-        greatest = greater(greatest, items[row]);
+        let item = items[row];
+        least = lesser(least, item);
+        greatest = greater(greatest, item);
     }
-    greatest
+    (least, greatest)
 }
 
 // The lesser of two items.
@@ -70,24 +63,46 @@ pub(crate) fn extremes_of_valid<T: Integer>(items: &[T], mask: &[bool]) -> Optio
     ensures least { option_map (λ p. T.whole p.0) result ≡ reduce (ord_min int_cmp) (valid_items mask.now (map T.whole items.now)) }
     ensures greatest { option_map (λ p. T.whole p.1) result ≡ reduce (ord_max int_cmp) (valid_items mask.now (map T.whole items.now)) }
 {
-    let mut found = None;
-    for row in 0..items.len() {
-        found = with_item(found, items[row], mask[row]);
+    match first_valid(items, mask) {
+        Some(first) => Some(valid_extremes(first, items, mask)),
+        None => None,
     }
-    found
 }
 
-// The least and the greatest of an item and of what was found before, which stays unless the bit is true.
-#[inline(always)]
-fn with_item<T: Integer>(found: Option<(T, T)>, item: T, bit: bool) -> Option<(T, T)>
-    ensures least { option_map (λ p. T.whole p.0) result ≡ next_if (ord_min int_cmp) (option_map (λ p. T.whole p.0) found) (T.whole item) bit }
-    ensures greatest { option_map (λ p. T.whole p.1) result ≡ next_if (ord_max int_cmp) (option_map (λ p. T.whole p.1) found) (T.whole item) bit }
+// The first valid item.
+fn first_valid<T: Integer>(items: &[T], mask: &[bool]) -> Option<T>
+    requires { length mask.now ≡ length items.now }
+    ensures { option_map T.whole result ≡ first_item (valid_items mask.now (map T.whole items.now)) }
 {
-    if !bit {
-        return found;
+    for row in 0..items.len() {
+        if mask[row] {
+            return Some(items[row]);
+        }
     }
-    match found {
-        Some((least, greatest)) => Some((lesser(least, item), greater(greatest, item))),
-        None => Some((item, item)),
+    None
+}
+
+// The least and the greatest of an item and of the valid ones. Where a bit is false the first item is weighed once more, which changes
+// nothing: so no branch depends on a row.
+fn valid_extremes<T: Integer>(first: T, items: &[T], mask: &[bool]) -> (T, T)
+    requires { length mask.now ≡ length items.now }
+    ensures least { T.whole result.0 ≡ fold (ord_min int_cmp) (T.whole first) (valid_items mask.now (map T.whole items.now)) }
+    ensures greatest { T.whole result.1 ≡ fold (ord_max int_cmp) (T.whole first) (valid_items mask.now (map T.whole items.now)) }
+{
+    let mut least = first;
+    let mut greatest = first;
+    for row in 0..items.len() {
+        let item = weighed(mask[row], items[row], first);
+        least = lesser(least, item);
+        greatest = greater(greatest, item);
     }
+    (least, greatest)
+}
+
+// An item, or the first one unless its bit is true.
+#[inline(always)]
+fn weighed<T: Integer>(bit: bool, item: T, first: T) -> T
+    ensures { T.whole result ≡ cond bit (T.whole item) (T.whole first) }
+{
+    if bit { item } else { first }
 }

@@ -82,9 +82,9 @@ pub(super) fn item_holds<T: Integer>(operator: CompareOperator, item: T, other: 
     holds(operator, item.cmp(&other))
 }
 
-// `CompareOperator::holds`, inlined: the operator is a constant in each loop.
+/// `CompareOperator::holds`, inlined: the operator is a constant in each loop.
 #[inline(always)]
-fn holds(operator: CompareOperator, ordering: Ordering) -> bool
+pub(super) fn holds(operator: CompareOperator, ordering: Ordering) -> bool
     ensures { result ≡ holds operator ordering }
 {
     match operator {

@@ -1,22 +1,22 @@
 //! A text and a pattern.
 
 ghost use Rattle.std.specs.Prelude.{◌≡◌, IsTrue, map};
-ghost use Rattle.std.specs.Str.{chars, is_utf8};
 ghost use Rattle.vx_base.specs.Answers.{OrMemory};
 ghost use Rattle.vx_base.specs.CellValue.{cell_value};
 ghost use Rattle.vx_rows.specs.Suffixes.{plain_item};
 ghost use Rattle.vx_rows.specs.Texts.{has_text, liked_items};
 ghost use Rattle.vx_rows.specs.Truths.{truth_or_null};
-ghost use Rattle.vx_rules.specs.Patterns.{liked, pattern_items};
+ghost use Rattle.vx_rules.specs.Patterns.{liked};
 
-use crate::pattern::{Item, characters, matches, pattern_items};
-use std::alloc::Global;
+use super::room::Room;
+use crate::pattern::Item;
 use vx_base::{Cell, VortexResult};
 use vx_rules::LikeOptions;
 
-/// Whether a text matches a pattern, None where either is null.
+/// Whether a text matches a pattern, None where either is null. `items` is room for those of the pattern.
 pub(super) fn row_liked(
-    alloc: Global,
+    room: &mut Room,
+    items: &mut Vec<Item>,
     text: Cell<'_>,
     pattern: Cell<'_>,
     options: LikeOptions,
@@ -28,13 +28,13 @@ pub(super) fn row_liked(
     if pattern.is_null() {
         return Ok(None);
     }
-    let items = items_of(alloc, pattern.bytes())?;
-    cell_liked(alloc, text, items.as_slice(), options)
+    room.read_items(pattern.bytes(), items)?;
+    cell_liked(room, text, items.as_slice(), options)
 }
 
 /// Whether a text matches the items of a pattern, None where it is null.
 pub(super) fn cell_liked(
-    alloc: Global,
+    room: &mut Room,
     text: Cell<'_>,
     items: &[Item],
     options: LikeOptions,
@@ -45,17 +45,7 @@ pub(super) fn cell_liked(
     if text.is_null() {
         return Ok(None);
     }
-    let text = characters(alloc, text.bytes())?;
-    let found = matches(alloc, items, text.as_slice())?;
+    let found = room.text_matches(text.bytes(), items)?;
     let answer = if options.negated { !found } else { found };
     Ok(Some(answer))
-}
-
-/// The items of a pattern.
-pub(super) fn items_of(alloc: Global, pattern: &[u8]) -> VortexResult<Vec<Item>>
-    requires { IsTrue (is_utf8 pattern.now) }
-    ensures { OrMemory result (λ items. map plain_item items.items ≡ pattern_items (chars pattern.now)) }
-{
-    let pattern = characters(alloc, pattern)?;
-    pattern_items(alloc, pattern.as_slice())
 }

@@ -9,7 +9,8 @@ ghost use Rattle.vx_rows.specs.Readable.{is_whole, lent_rows};
 ghost use Rattle.vx_rows.specs.Texts.{has_text, liked_rows};
 ghost use Rattle.vx_rules.specs.Patterns.{liked};
 
-use super::cells::{cell_liked, items_of, row_liked};
+use super::cells::{cell_liked, row_liked};
+use super::room::Room;
 use crate::lent::{Lent, same_bytes};
 use crate::truths::{Truths, TruthsBuilder};
 use std::alloc::Global;
@@ -52,10 +53,12 @@ fn liked_by_one(
     requires utf8_pattern { IsTrue (is_utf8 pattern.now) }
     ensures { Answers result (map (λ v. liked options v (bytes pattern.now)) (lent_rows texts.entry)) }
 {
-    let items = items_of(alloc, pattern)?;
+    let mut room = Room::new(alloc);
+    let mut items = Vec::new(alloc);
+    room.read_items(pattern, &mut items)?;
     let mut truths = TruthsBuilder::nulls(alloc, texts.len())?;
     for row in 0..texts.len() {
-        let answer = cell_liked(alloc, texts.cell(row), items.as_slice(), options)?;
+        let answer = cell_liked(&mut room, texts.cell(row), items.as_slice(), options)?;
         truths.set(row, answer);
     }
     Ok(truths.finish())
@@ -75,9 +78,17 @@ fn liked_by_each(
     requires utf8_patterns { IsTrue (list_all has_text (lent_rows patterns)) }
     ensures { Answers result (liked_rows options (lent_rows texts.entry) (lent_rows patterns.entry)) }
 {
+    let mut room = Room::new(alloc);
+    let mut items = Vec::new(alloc);
     let mut truths = TruthsBuilder::nulls(alloc, texts.len())?;
     for row in 0..texts.len() {
-        let answer = row_liked(alloc, texts.cell(row), patterns.cell(row), options)?;
+        let answer = row_liked(
+            &mut room,
+            &mut items,
+            texts.cell(row),
+            patterns.cell(row),
+            options,
+        )?;
         truths.set(row, answer);
     }
     Ok(truths.finish())

@@ -37,15 +37,23 @@ pub(super) fn narrowed(
     }
 }
 
-// True where both bits are, by `&`: no branch per row.
-#[tactic(auto, using(crate::proofs::Narrowing::joining))]
+// True where both bits are.
 fn both(alloc: Global, bits: &[bool], others: &[bool]) -> VortexResult<Vec<bool>>
     requires { length bits.now ≡ length others.now }
     ensures { OrMemory result (λ out. out.items ≡ both bits.now others.now) }
 {
-    let mut out = Vec::with_capacity(alloc, bits.len())?;
-    for row in 0..bits.len() {
-        out.push(bits[row] & others[row])?;
-    }
+    let mut out = vec![in alloc; false; bits.len()]?;
+    write_both(bits, others, out.as_mut_slice());
     Ok(out)
+}
+
+// Writes whether both bits are true, by `&`: no branch per row.
+fn write_both(bits: &[bool], others: &[bool], out: &mut [bool])
+    requires others { length bits.now ≡ length others.now }
+    requires room { length out.old ≡ length bits.now }
+    ensures { out.new ≡ both bits.now others.now }
+{
+    for row in 0..bits.len() {
+        out[row] = bits[row] & others[row];
+    }
 }

@@ -19,7 +19,7 @@ cell_liked-requires c = ap has_text c.cell.ensures ∙ row_passes has_text (lent
 pub loop-row-preserved : goal.loop-row-preserved
 loop-row-preserved c =
     let inv = c.loop-row.invariant in
-    let one = c.in_ok-answer.ensures ∙ liked-items c.args.options _ c.args.pattern.now _ (ap (map plain_item) c.as_slice.ensures.value ∙ c.in_ok-items.ensures) in
+    let one = c.in_ok-answer.ensures ∙ liked-items c.args.options _ c.args.pattern.now _ (ap (map plain_item) c.as_slice.ensures.value ∙ c.in_ok-read_items.ensures) in
     record {
       long = ap length c.set.ensures ∙ length-set c.loop-row.truths c.loop-row.row _ ∙ inv.long;
       done = ap (take (c.loop-row.row + 1)) c.set.ensures

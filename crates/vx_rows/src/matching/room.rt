@@ -1,0 +1,72 @@
+//! The room that the matches of one column share.
+
+ghost use Rattle.std.specs.Prelude.{◌≡◌, ◌++◌, IsTrue, map};
+ghost use Rattle.std.specs.Result.{OnOk};
+ghost use Rattle.std.specs.Str.{chars, is_utf8};
+ghost use Rattle.vx_base.specs.Answers.{Answers, OrMemory};
+ghost use Rattle.vx_rows.specs.Suffixes.{plain_item};
+ghost use Rattle.vx_rules.specs.Patterns.{matches, pattern_items};
+
+use crate::pattern::{Item, read_pattern};
+use crate::suffixes::matches;
+use crate::text::Text;
+use std::alloc::{AllocError, Global};
+use vx_base::VortexResult;
+
+/// The characters of a text, and whether its suffixes match. Both grow to the longest text of a column and are reused from row to row:
+/// made anew they would cost four allocations in each row.
+#[derive(Drop)]
+pub(super) struct Room {
+    chars: Vec<char>,
+    ends: Vec<bool>,
+}
+
+impl Room {
+    pub(super) fn new(alloc: Global) -> Room {
+        Room {
+            chars: Vec::new(alloc),
+            ends: Vec::new(alloc),
+        }
+    }
+
+    /// Puts the items of a pattern in the place of those before.
+    pub(super) fn read_items(&mut self, pattern: &[u8], items: &mut Vec<Item>) -> VortexResult<()>
+        requires { IsTrue (is_utf8 pattern.now) }
+        ensures { OrMemory result (λ _. map plain_item items.new.items ≡ pattern_items (chars pattern.now)) }
+    {
+        read_characters(pattern, &mut self.chars)?;
+        read_pattern(self.chars.as_slice(), items)
+    }
+
+    /// Whether a text matches items. Only one with a character beyond ASCII is decoded.
+    pub(super) fn text_matches(&mut self, text: &[u8], items: &[Item]) -> VortexResult<bool>
+        requires { IsTrue (is_utf8 text.now) }
+        ensures { Answers result (matches (map plain_item items.now) (chars text.now)) }
+    {
+        if text.is_ascii() {
+            return matches(items, Text::Ascii(text), &mut self.ends);
+        }
+        read_characters(text, &mut self.chars)?;
+        let decoded = Text::Decoded(self.chars.as_slice());
+        matches(items, decoded, &mut self.ends)
+    }
+}
+
+// Puts the characters of a text in the place of those before.
+fn read_characters(bytes: &[u8], characters: &mut Vec<char>) -> VortexResult<()>
+    requires { IsTrue (is_utf8 bytes.now) }
+    ensures { OrMemory result (λ _. characters.new.items ≡ chars bytes.now) }
+{
+    characters.clear();
+    match std::str::from_utf8(bytes) {
+        Ok(text) => Ok(append_characters(text, characters)?),
+        Err(_) => unreachable!(),
+    }
+}
+
+// Appends the characters of a text.
+fn append_characters(text: &str, characters: &mut Vec<char>) -> Result<(), AllocError>
+    ensures { OnOk result (characters.new.items ≡ characters.old.items ++ chars text.now) }
+{
+    characters.extend(text.chars())
+}
