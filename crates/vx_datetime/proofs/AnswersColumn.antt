@@ -1,6 +1,6 @@
 -- Truth values that are found by the parts of each row, as a column.
-use Rattle.std.proofs.Common.{◌≡◌, ◌∙◌, ℕ, ℤ, pos, true, false, cond, List, [], ◌∷◌, length, map, refl, sym, ap, subst, Bool, Some, None}
-use Rattle.std.specs.Prelude.{◌||◌, slice_index_or}
+use Rattle.std.proofs.Common.{◌≡◌, ◌∙◌, ℕ, ℤ, pos, true, false, cond, List, [], ◌∷◌, length, map, refl, sym, ap, Bool, Some, None}
+use Rattle.std.specs.Prelude.{slice_index_or}
 use Rattle.std.specs.List.{list_all, list_any}
 use Rattle.std.proofs.lemmas.Bool.{and_parts, cond_both, eq-eqb}
 use Rattle.std.proofs.lemmas.List.{length-map}
@@ -30,11 +30,11 @@ use Rattle.vx_datetime.proofs.RowAnswers.{rows-answered}
 
 -- ---- truth values with the validity of other rows
 
-bits_long : (ds : List PlainValue) (n : ℕ) → n ≡ length ds → validity_length (validity ds) n ≡ true
+pub bits_long : (ds : List PlainValue) (n : ℕ) → n ≡ length ds → validity_length (validity ds) n ≡ true
 bits_long ds n e =
     cond_both (list_any is_null ds) (Some (valid_bits ds)) None (λ valid. validity_length valid n ≡ true) (λ some. eq-eqb (length (valid_bits ds)) n (length-map ds _ ∙ sym e)) (λ none. refl)
 
-no_null : (p : PType) (ds : List PlainValue) → list_all (fits (types.primitive p NonNullable)) ds ≡ true → list_any is_null ds ≡ false
+pub no_null : (p : PType) (ds : List PlainValue) → list_all (fits (types.primitive p NonNullable)) ds ≡ true → list_any is_null ds ≡ false
 no_null p [] h = refl
 no_null p (int z ∷ ds) h = no_null p ds (and_parts (lies_in p z) (list_all (fits (types.primitive p NonNullable)) ds) h).1
 no_null p (v ∷ ds) h = absurd cc

@@ -1,6 +1,6 @@
 -- Parts whose days were cast to another nullability: refused where the timestamps are, and else the same rows.
 use Rattle.std.proofs.Common.{◌≡◌, ◌∙◌, ℤ, true, false, List, [], ◌∷◌, length, refl, sym, ap, subst, arith, Option, Some, None, Result, Ok, Err}
-use Rattle.std.specs.Prelude.{◌&&◌, ◌||◌}
+use Rattle.std.specs.Prelude.{◌&&◌}
 use Rattle.std.specs.List.{list_all}
 use Rattle.std.proofs.lemmas.Bool.{and_from, and_parts, eq-eqb}
 use Rattle.vx_base.specs.declared.dtype.Nullability.{Nullability}
@@ -9,7 +9,6 @@ use Rattle.vx_base.specs.declared.error.VortexError.TheVariants.{CastRefused, Mi
 use Rattle.vx_base.specs.declared.ptype.PType.{PType}
 use Rattle.vx_base.specs.Answers.{OrMemory, unless}
 use Rattle.vx_base.specs.Casts.{is_cast}
-use Rattle.vx_base.specs.Integers.{lies_in}
 use Rattle.vx_base.specs.PlainScalar.{fits}
 use Rattle.vx_base.specs.PlainType.{PlainType, integer_of, nullability_of, same_base, stored_type}
 use Rattle.vx_base.specs.PlainType as types

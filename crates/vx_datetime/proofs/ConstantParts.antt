@@ -1,5 +1,5 @@
 -- Whether all timestamps are equal, by their parts: canonical parts of different timestamps differ.
-use Rattle.std.proofs.Common.{◌≡◌, ◌<◌, ◌∙◌, ℤ, pos, true, false, List, [], ◌∷◌, length, refl, sym, ap, arith, Bool}
+use Rattle.std.proofs.Common.{◌≡◌, ◌<◌, ◌∙◌, ℤ, true, false, List, [], ◌∷◌, length, refl, sym, ap, arith, Bool}
 use Rattle.std.specs.Prelude.{◌&&◌, ◌||◌}
 use Rattle.std.specs.List.{list_all}
 use Rattle.std.proofs.lemmas.Bool.{and_from, and_parts}
@@ -20,7 +20,6 @@ use Rattle.vx_model.specs.WellFormed.{WellFormed, is_whole_type}
 use Rattle.vx_model.proofs.MadeLemmas.{rows_fit}
 use Rattle.vx_rules.specs.Aggregates.{all_equal}
 use Rattle.vx_time.specs.CanonicalParts.{is_canonical}
-use Rattle.vx_time.specs.declared.parts.TimestampParts.{TimestampParts}
 use Rattle.vx_time.specs.PartsOf.{parts, sum_of, units_per_second}
 use Rattle.vx_time.proofs.Canonicals.{canonical_out, same_where_sum}
 use Rattle.vx_datetime.proofs.ChosenParts.{all_pass, canonical, combined, same-test}

@@ -1,5 +1,5 @@
 -- The parts of a timestamp of 64 bits, as the machine's steps give them; the days may pass 32 bits.
-use Rattle.std.proofs.Common.{◌≡◌, ◌∙◌, ◌<◌, ℤ, pos, negsuc, ◌<ℤ◌, FitsSigned, refl, sym, ap, arith, unsigned_abs, int_div, int_rem}
+use Rattle.std.proofs.Common.{◌≡◌, ◌∙◌, ◌<◌, ℤ, pos, negsuc, ◌<ℤ◌, FitsSigned, sym, ap, arith, unsigned_abs, int_div, int_rem}
 use Rattle.std.proofs.lemmas.Int.{ints, quot_fits, rem_below, rem_is, to_z-of_z}
 use Rattle.std.specs.Int.{w64, w128}
 use Rattle.vx_time.specs.declared.parts.TimestampParts.{TimestampParts}

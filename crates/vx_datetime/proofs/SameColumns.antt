@@ -1,5 +1,5 @@
 -- Answers for one timestamp in every row of another column, as the rules give them.
-use Rattle.std.proofs.Common.{◌≡◌, ◌∙◌, ℕ, ℤ, length, map, refl, sym, ap}
+use Rattle.std.proofs.Common.{◌≡◌, ◌∙◌, ℤ, length, map, refl, sym, ap}
 use Rattle.std.specs.Prelude.{replicate, zip}
 use Rattle.vx_base.specs.declared.dtype.Nullability.{Nullability}
 use Rattle.vx_base.specs.PlainType.{nullability_of, or_nullable}

@@ -1,15 +1,14 @@
 -- Columns of the same timestamps, up to nullability, and answers of calls that don't refuse them.
-use Rattle.std.proofs.Common.{◌≡◌, ◌∙◌, ◌<ℤ◌, ℤ, pos, true, length, refl, sym, ap, subst, arith, Option, Some, None, Result, Ok, Err, unwrap_or, inl, inr}
-use Rattle.std.specs.Prelude.{◌&&◌, ◌||◌, ◌==◌, IfOk}
+use Rattle.std.proofs.Common.{◌≡◌, ◌∙◌, ◌<ℤ◌, ℤ, pos, true, length, refl, sym, ap, subst, arith, Option, Some, None, Result, Ok, Err, unwrap_or}
+use Rattle.std.specs.Prelude.{IfOk}
 use Rattle.std.proofs.lemmas.Bool.{eq-eqb}
 use Rattle.std.proofs.lemmas.Int.{ints}
 use Rattle.vx_base.specs.declared.dtype.Nullability.{Nullability}
 use Rattle.vx_base.specs.declared.dtype.Nullability.TheVariants.{NonNullable}
 use Rattle.vx_base.specs.declared.error.VortexError.{VortexError}
-use Rattle.vx_base.specs.declared.error.VortexError.TheVariants.{LengthMismatch, MismatchedTypes}
 use Rattle.vx_base.specs.declared.timestamp.TimeUnit.{TimeUnit}
 use Rattle.vx_base.specs.declared.timestamp.TimeUnit.TheVariants.{Nanoseconds, Microseconds, Milliseconds, Seconds, Days}
-use Rattle.vx_base.specs.Answers.{Decided, OrMemory, unless}
+use Rattle.vx_base.specs.Answers.{Decided, OrMemory}
 use Rattle.vx_base.specs.PlainType.{PlainType, integer_of, is_flat, is_integer, nullability_of, same_base, stored_type, with_nullability}
 use Rattle.vx_base.specs.PlainType as types
 use Rattle.vx_base.specs.Storable.{same_path}

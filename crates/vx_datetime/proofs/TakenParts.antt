@@ -1,5 +1,5 @@
 -- Parts of which rows were taken by indices: the node's constructor accepts them, and its rows are the rows taken.
-use Rattle.std.proofs.Common.{◌≡◌, ◌∙◌, ℕ, zero, suc, ℤ, pos, negsuc, true, List, [], ◌∷◌, length, map, refl, sym, ap, arith, Bool}
+use Rattle.std.proofs.Common.{◌≡◌, ◌∙◌, ℕ, zero, suc, ℤ, pos, negsuc, true, List, [], ◌∷◌, length, map, refl, sym, ap, arith}
 use Rattle.std.specs.Prelude.{◌||◌, None}
 use Rattle.std.specs.List.{list_all}
 use Rattle.std.proofs.lemmas.Bool.{and_from, and_parts, eq-eqb}
@@ -88,6 +88,10 @@ length-or_zero vs is ws = length-map (map (looked_up vs) is) (or_default (int (p
 
 pub same-places : (a b indices : Column) → length a.values ≡ length b.values → take_refusal a indices ≡ take_refusal b indices
 same-places a b indices e = ap (λ len. unless (is_integer indices.dtype) MismatchedTypes (unless (list_all (is_place len) indices.values) OutOfBounds None)) e
+
+-- by a tree of the indices' column
+pub by-places : (part indices places out : Tree) (p : PType) → column_of places ≡ column_of indices → column_of out ≡ column (types.primitive p NonNullable) (taken_or_zero (rows part) (rows places)) → column_of out ≡ column (types.primitive p NonNullable) (taken_or_zero (rows part) (rows indices))
+by-places part indices places out p same is = is ∙ ap (λ k. column (types.primitive p NonNullable) (taken_or_zero (rows part) k.values)) same
 
 -- ---- the node
 

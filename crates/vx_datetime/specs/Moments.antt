@@ -1,15 +1,20 @@
 -- A timestamp by its parts, which rows in parts are compared with, and rows in parts as lists of whole numbers.
-use Rattle.std.specs.Prelude.{◌≡◌, ℕ, ℤ, pos, Bool, if◌then◌else◌, List, map, slice_index_or}
+use Rattle.std.specs.Prelude.{◌≡◌, ◌&&◌, ℕ, ℤ, pos, Bool, if◌then◌else◌, List, map, slice_index_or}
 use Rattle.vx_base.specs.PlainValue.{whole_or_zero}
 use Rattle.vx_datetime.specs.declared.kernels.moments.Moment.{Moment}
 use Rattle.vx_datetime.specs.declared.kernels.part_rows.DecodedParts.{DecodedParts}
 use Rattle.vx_datetime.specs.declared.kernels.part_rows.PartRows.{PartRows}
+use Rattle.vx_datetime.specs.declared.kernels.part_rows.PlainPart.{PlainPart}
+use Rattle.vx_datetime.specs.declared.kernels.part_rows.PlainPart.TheVariants.{Lent, Decoded}
 use Rattle.vx_model.specs.Column.{column_of}
 use Rattle.vx_model.specs.Plain.{IsPlain, validity}
 use Rattle.vx_model.specs.Rows.{rows}
 use Rattle.vx_model.specs.Tree.{Tree}
+use Rattle.vx_rules.specs.declared.options.BetweenOptions.{BetweenOptions}
 use Rattle.vx_rules.specs.declared.options.CompareOperator.{CompareOperator}
 use Rattle.vx_rules.specs.declared.options.CompareOperator.TheVariants as ops
+use Rattle.vx_rules.specs.Comparisons.{bound_operator, holds}
+use Rattle.vx_time.specs.CanonicalParts.{parts_cmp}
 use Rattle.vx_time.specs.declared.parts.TimestampParts.{TimestampParts}
 use Rattle.vx_time.specs.PartsOf.{parts}
 use Rattle.vx_values.specs.IntsOf.{wholes_of}
@@ -30,16 +35,25 @@ row_parts r i = parts_at (wholes_of r.days.now) (wholes_of r.seconds.now) (whole
 abbrev pub floor_operator : Bool → CompareOperator
 floor_operator strict = if strict then ops.Gt else ops.Gte
 
+-- whether parts lie between two others, by the lexicographic order
+abbrev pub lie_within : BetweenOptions → TimestampParts → TimestampParts → TimestampParts → Bool
+lie_within options p low high = holds (bound_operator options.lower_strict) (parts_cmp low p) && holds (bound_operator options.upper_strict) (parts_cmp p high)
+
 -- a plain tree of another's column
 pub record IsDecoded (tree read : Tree) : Type 0 where
   pub plain : IsPlain read
   pub same : column_of read ≡ column_of tree
 
+-- the tree that stands for a part
+abbrev pub part_tree : PlainPart → Tree
+part_tree (Lent tree) = tree.now
+part_tree (Decoded tree) = tree
+
 -- the plain trees of three columns
 pub record AreDecoded (d s u : Tree) (read : DecodedParts) : Type 0 where
-  pub days : IsDecoded d read.days
-  pub seconds : IsDecoded s read.seconds
-  pub subseconds : IsDecoded u read.subseconds
+  pub days : IsDecoded d (part_tree read.days)
+  pub seconds : IsDecoded s (part_tree read.seconds)
+  pub subseconds : IsDecoded u (part_tree read.subseconds)
 
 -- what the rows of three columns are: whole numbers, 0 beneath nulls, and the validity of the days
 pub record ArePartRows (d s u : Tree) (r : PartRows) : Type 0 where

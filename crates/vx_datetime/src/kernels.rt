@@ -1,5 +1,6 @@
-//! The row functions of timestamps in parts. Those that choose rows choose from the parts, and those that compare them with one
-//! timestamp compare the parts; timestamps are combined for a single row, and for comparisons with other columns.
+//! The row functions of timestamps in parts. Those that choose rows choose from the parts. `compare` with one timestamp or a column
+//! in parts, and `between` with two of either, compare the parts. Timestamps are combined for a single row and for comparisons with
+//! any other column.
 
 ghost use Rattle.std.specs.Prelude.{◌≡◌, ◌&&◌, ◌==◌, IfOk, length};
 ghost use Rattle.vx_base.specs.Answers.{Answers, Decided};
@@ -16,15 +17,21 @@ ghost use Rattle.vx_rules.specs.Conversions.{cast_refusal, casted};
 ghost use Rattle.vx_rules.specs.Outcomes.{Follows, outcome};
 ghost use Rattle.vx_rules.specs.Selections.{filtered, mask_refusal, masked, row_refusal, row_scalar, slice_refusal, sliced, take_refusal, taken};
 
+mod bounded;
 mod chosen;
 mod compared;
 mod constancy;
+mod ints;
 mod masked;
 mod moments;
+mod orders;
+mod pairs;
 mod part_rows;
 mod parts;
 mod recast;
+mod refining;
 mod taken;
+mod verdicts;
 mod within;
 
 use crate::array::DateTimePartsArray;

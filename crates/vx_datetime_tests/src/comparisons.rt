@@ -1,4 +1,4 @@
-//! Timestamps in parts against one timestamp, other parts and other columns.
+//! Timestamps in parts against one timestamp and plain columns.
 
 use crate::parts::{days_with_nulls, has_truths, one_moment, split, whole_days};
 use std::test::Fail;
@@ -116,18 +116,15 @@ fn null_is_neither_equal_nor_unequal(rt: HostRuntime) -> Result<(), Fail> {
 }
 
 #[test]
-fn parts_and_other_columns(rt: HostRuntime) -> Result<(), Fail> {
+fn plain_timestamps(rt: HostRuntime) -> Result<(), Fail> {
     let alloc = rt.alloc();
     let mut ctx = context(alloc)?;
     let array = split(alloc, Seconds, &[Some(86_400)])?;
-    let same = split(alloc, Seconds, &[Some(86_400)])?;
-    let out = array.compare(same.as_array(), Eq, &mut ctx)?;
-    assert!(rt; has_truths(&out, &[Some(true)]) && !out.dtype().is_nullable());
-    let other = split(alloc, Seconds, &[Some(0)])?;
-    let out = array.compare(other.as_array(), Eq, &mut ctx)?;
-    assert!(rt; has_truths(&out, &[Some(false)]));
-    let plain = stamps(alloc, utc(alloc, Seconds)?, &[None])?;
+    let plain = stamps(alloc, utc(alloc, Seconds)?, &[Some(86_401)])?;
     let out = array.compare(&plain, Lt, &mut ctx)?;
+    assert!(rt; has_truths(&out, &[Some(true)]) && !out.dtype().is_nullable());
+    let null = stamps(alloc, utc(alloc, Seconds)?, &[None])?;
+    let out = array.compare(&null, Lt, &mut ctx)?;
     assert!(rt; has_truths(&out, &[None]));
     Ok(())
 }

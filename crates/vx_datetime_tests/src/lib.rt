@@ -14,6 +14,10 @@ mod conversions;
 #[cfg(test)]
 mod metadata;
 #[cfg(test)]
+mod orders;
+#[cfg(test)]
+mod pairs;
+#[cfg(test)]
 mod parts;
 #[cfg(test)]
 mod ranges;

@@ -5,7 +5,7 @@ use vx_array::ArrayRef;
 use vx_base::Nullability::{NonNullable, Nullable};
 use vx_base::PType::{I32, U8};
 use vx_base::TimeUnit::Seconds;
-use vx_base::{DType, Scalar, TimeUnit, VortexResult};
+use vx_base::{DType, PType, Scalar, TimeUnit, VortexResult};
 use vx_datetime::{DateTimeParts, DateTimePartsArray};
 use vx_fixtures::{accepted, context, flat, stamps, utc, with_nulls};
 
@@ -31,6 +31,24 @@ pub fn whole_days(alloc: Global, days: &[i128]) -> VortexResult<DateTimePartsArr
     let len = days.len() as u64;
     let days = flat(alloc, I32, NonNullable, days)?;
     accepted(DateTimeParts::try_new(alloc, dtype, days, zeros(len)?, zeros(len)?))
+}
+
+/// Seconds in UTC, in parts of these three types.
+pub fn typed(
+    alloc: Global,
+    types: (PType, PType, PType),
+    days: &[i128],
+    seconds: &[i128],
+) -> VortexResult<DateTimePartsArray> {
+    let dtype = DType::timestamp(utc(alloc, Seconds)?, NonNullable);
+    let mut zeros = Vec::new(alloc);
+    for _ in 0..days.len() {
+        zeros.push(0)?;
+    }
+    let days = flat(alloc, types.0, NonNullable, days)?;
+    let seconds = flat(alloc, types.1, NonNullable, seconds)?;
+    let subseconds = flat(alloc, types.2, NonNullable, zeros.as_slice())?;
+    accepted(DateTimeParts::try_new(alloc, dtype, days, seconds, subseconds))
 }
 
 /// Null days over these seconds, valid ones where a bit is true: the day is 1.

@@ -84,6 +84,32 @@ fn nulls_and_columns_as_bounds(rt: HostRuntime) -> Result<(), Fail> {
 }
 
 #[test]
+fn bounds_in_parts(rt: HostRuntime) -> Result<(), Fail> {
+    let alloc = rt.alloc();
+    let mut ctx = context(alloc)?;
+    let rows = [Some(86_400_001), Some(86_400_000), Some(-1), Some(5), None];
+    let array = split(alloc, Milliseconds, &rows)?;
+    let lows = [Some(86_400_001), Some(86_399_999), Some(0), None, Some(0)];
+    let low = split(alloc, Milliseconds, &lows)?;
+    let highs = [
+        Some(86_401_000),
+        Some(86_400_000),
+        Some(1),
+        Some(9),
+        Some(9),
+    ];
+    let high = split(alloc, Milliseconds, &highs)?;
+    let (low, high) = (low.as_array(), high.as_array());
+    let out = array.between(low, high, strict(false, false), &mut ctx)?;
+    assert!(rt; has_truths(&out, &[Some(true), Some(true), Some(false), None, None]));
+    let out = array.between(low, high, strict(true, false), &mut ctx)?;
+    assert!(rt; has_truths(&out, &[Some(false), Some(true), Some(false), None, None]));
+    let out = array.between(low, high, strict(false, true), &mut ctx)?;
+    assert!(rt; has_truths(&out, &[Some(true), Some(false), Some(false), None, None]));
+    Ok(())
+}
+
+#[test]
 fn other_bounds_are_refused(rt: HostRuntime) -> Result<(), Fail> {
     let alloc = rt.alloc();
     let mut ctx = context(alloc)?;

@@ -20,16 +20,19 @@ ghost use Rattle.vx_time.specs.CanonicalParts.{parts_cmp};
 ghost use Rattle.vx_values.specs.IntsOf.{wholes_of};
 
 use super::moments::{Moment, moment_of, same_timestamp};
+use super::orders::orders_with;
+use super::pairs::compared_columns;
 use super::part_rows::{PartRows, decoded_parts};
 use super::parts::Parts;
+use super::verdicts::holds_of_each;
 use std::alloc::Global;
 use vx_array::ArrayRef;
 use vx_base::{ExecutionCtx, Mask, Nullability, VortexResult};
 use vx_rules::CompareOperator;
 use vx_values::copy_validity;
 
-/// `compare` with a column of the same timestamps, up to nullability, and as many rows: a Constant by its parts, any other
-/// column by the timestamps.
+/// `compare` with a column of the same timestamps, up to nullability, and as many rows: a Constant by the parts of its timestamp,
+/// a column in parts by its parts, any other by the timestamps.
 pub(super) fn compared_with(
     operator: CompareOperator,
     array: &ArrayRef,
@@ -45,7 +48,7 @@ pub(super) fn compared_with(
 {
     array.known();
     let Some(timestamp) = same_timestamp(other) else {
-        return vx_rows::compare(array, other, operator, ctx);
+        return compared_columns(operator, array, parts, other, ctx);
     };
     let Some(divisor) = parts.kind.unit().divisor() else {
         return vx_rows::compare(array, other, operator, ctx);
@@ -95,19 +98,6 @@ fn holds_at_each(
     requires subseconds { length (wholes_of rows.now.subseconds.now) ≡ length (wholes_of rows.now.days.now) }
     ensures { Answers result (below (λ i. holds operator (parts_cmp (row_parts rows.now i) (moment_parts moment.now))) (length (wholes_of rows.now.days.now))) }
 {
-    let mut bits = vec![in alloc; false; rows.days.len() as usize]?;
-    write_holds(operator, rows, moment, bits.as_mut_slice());
-    Ok(Mask::from_bits(bits))
-}
-
-// Writes whether the operator holds between the parts of each row and a moment.
-fn write_holds(operator: CompareOperator, rows: &PartRows<'_>, moment: &Moment, bits: &mut [bool])
-    requires seconds { length (wholes_of rows.now.seconds.now) ≡ length (wholes_of rows.now.days.now) }
-    requires subseconds { length (wholes_of rows.now.subseconds.now) ≡ length (wholes_of rows.now.days.now) }
-    requires room { length bits.old ≡ length (wholes_of rows.now.days.now) }
-    ensures { bits.new ≡ below (λ i. holds operator (parts_cmp (row_parts rows.now i) (moment_parts moment.now))) (length (wholes_of rows.now.days.now)) }
-{
-    for row in 0..bits.len() {
-        bits[row] = operator.holds(rows.order_at(row as u64, moment));
-    }
+    let orders = orders_with(alloc, rows, moment)?;
+    holds_of_each(alloc, operator, orders.as_slice())
 }

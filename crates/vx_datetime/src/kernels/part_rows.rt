@@ -1,31 +1,34 @@
-//! Rows in parts, read as integers: decoded columns, and the order of a row and a moment.
+//! Rows in parts, read as integers where they stand plain, and else decoded first.
 
-ghost use Rattle.std.specs.Ordering.{int_cmp, ordering_then};
-ghost use Rattle.std.specs.Prelude.{◌≡◌, ◌<◌, IsTrue, length, map};
+ghost use Rattle.std.specs.Prelude.{◌≡◌, IsTrue, map};
 ghost use Rattle.vx_base.specs.Answers.{OrMemory};
 ghost use Rattle.vx_base.specs.PlainType.{is_integer};
 ghost use Rattle.vx_base.specs.PlainValue.{whole_or_zero};
-ghost use Rattle.vx_datetime.specs.Moments.{AreDecoded, ArePartRows, IsDecoded, moment_parts, row_parts};
+ghost use Rattle.vx_datetime.specs.Moments.{AreDecoded, ArePartRows, IsDecoded, part_tree};
 ghost use Rattle.vx_model.specs.Plain.{IsPlain, validity};
 ghost use Rattle.vx_model.specs.Rows.{rows};
 ghost use Rattle.vx_model.specs.TreeType.{tree_type};
-ghost use Rattle.vx_time.specs.CanonicalParts.{parts_cmp};
 ghost use Rattle.vx_values.specs.IntsOf.{wholes_of};
 
-use super::moments::Moment;
 use super::parts::Parts;
 use std::alloc::Global;
-use std::cmp::Ordering;
 use vx_array::ArrayRef;
 use vx_base::{Mask, VortexResult};
 use vx_values::Ints;
 
-/// Three columns of parts, decoded.
+/// A plain column: the caller's where that is plain, else a decoded one.
 #[derive(Drop)]
-pub(super) struct DecodedParts {
-    pub(super) days: ArrayRef,
-    pub(super) seconds: ArrayRef,
-    pub(super) subseconds: ArrayRef,
+pub(super) enum PlainPart<'a> {
+    Lent(&'a ArrayRef),
+    Decoded(ArrayRef),
+}
+
+/// Three plain columns of parts.
+#[derive(Drop)]
+pub(super) struct DecodedParts<'a> {
+    pub(super) days: PlainPart<'a>,
+    pub(super) seconds: PlainPart<'a>,
+    pub(super) subseconds: PlainPart<'a>,
 }
 
 /// The integers of three columns of parts, 0 beneath nulls, and the validity of the days.
@@ -37,8 +40,8 @@ pub(super) struct PartRows<'a> {
     pub(super) subseconds: &'a Ints,
 }
 
-/// The parts, decoded.
-pub(super) fn decoded_parts(alloc: Global, parts: &Parts<'_>) -> VortexResult<DecodedParts>
+/// The parts, each decoded unless it is plain.
+pub(super) fn decoded_parts<'a>(alloc: Global, parts: &Parts<'a>) -> VortexResult<DecodedParts<'a>>
     ensures { OrMemory result (λ read. AreDecoded parts.now.days.now parts.now.seconds.now parts.now.subseconds.now read) }
 {
     let days = decoded_part(alloc, parts.days)?;
@@ -51,12 +54,15 @@ pub(super) fn decoded_parts(alloc: Global, parts: &Parts<'_>) -> VortexResult<De
     })
 }
 
-// One part, decoded.
-fn decoded_part(alloc: Global, part: &ArrayRef) -> VortexResult<ArrayRef>
-    ensures { OrMemory result (λ read. IsDecoded part.now read) }
+/// One column, decoded unless it is plain.
+pub(super) fn decoded_part(alloc: Global, part: &ArrayRef) -> VortexResult<PlainPart<'_>>
+    ensures { OrMemory result (λ read. IsDecoded part.now (part_tree read)) }
 {
+    if part.is_plain() {
+        return Ok(PlainPart::Lent(part));
+    }
     let read = part.canonical(alloc)?;
-    Ok(read)
+    Ok(PlainPart::Decoded(read))
 }
 
 /// The integers and the validity that a plain column stores.
@@ -70,57 +76,36 @@ fn stored(column: &ArrayRef) -> (&Ints, &Option<Mask>)
     (values, valid)
 }
 
-impl DecodedParts {
+impl PlainPart<'_> {
+    pub(super) fn tree(&self) -> &ArrayRef
+        ensures { result.now ≡ part_tree self.now }
+    {
+        match self {
+            PlainPart::Lent(tree) => tree,
+            PlainPart::Decoded(tree) => tree,
+        }
+    }
+}
+
+impl DecodedParts<'_> {
     /// The integers.
     pub(super) fn rows(&self) -> PartRows<'_>
-        requires plain_days { IsPlain self.now.days }
-        requires plain_seconds { IsPlain self.now.seconds }
-        requires plain_subseconds { IsPlain self.now.subseconds }
-        requires days { IsTrue (is_integer (tree_type self.now.days)) }
-        requires seconds { IsTrue (is_integer (tree_type self.now.seconds)) }
-        requires subseconds { IsTrue (is_integer (tree_type self.now.subseconds)) }
-        ensures { ArePartRows self.now.days self.now.seconds self.now.subseconds result }
+        requires plain_days { IsPlain (part_tree self.now.days) }
+        requires plain_seconds { IsPlain (part_tree self.now.seconds) }
+        requires plain_subseconds { IsPlain (part_tree self.now.subseconds) }
+        requires days { IsTrue (is_integer (tree_type (part_tree self.now.days))) }
+        requires seconds { IsTrue (is_integer (tree_type (part_tree self.now.seconds))) }
+        requires subseconds { IsTrue (is_integer (tree_type (part_tree self.now.subseconds))) }
+        ensures { ArePartRows (part_tree self.now.days) (part_tree self.now.seconds) (part_tree self.now.subseconds) result }
     {
-        let (days, valid) = stored(&self.days);
-        let (seconds, _) = stored(&self.seconds);
-        let (subseconds, _) = stored(&self.subseconds);
+        let (days, valid) = stored(self.days.tree());
+        let (seconds, _) = stored(self.seconds.tree());
+        let (subseconds, _) = stored(self.subseconds.tree());
         PartRows {
             days,
             valid,
             seconds,
             subseconds,
-        }
-    }
-}
-
-impl PartRows<'_> {
-    /// The order of a row and a moment: by days, then by seconds, then by subseconds. Days alone are read where they differ.
-    #[inline(always)]
-    pub(super) fn order_at(&self, row: u64, moment: &Moment) -> Ordering
-        requires days { row < length (wholes_of self.now.days.now) }
-        requires seconds { row < length (wholes_of self.now.seconds.now) }
-        requires subseconds { row < length (wholes_of self.now.subseconds.now) }
-        ensures { result ≡ parts_cmp (row_parts self.now row) (moment_parts moment.now) }
-    {
-        let days = self.days.whole_at(row).cmp(&moment.days);
-        match days {
-            Ordering::Less => Ordering::Less,
-            Ordering::Greater => Ordering::Greater,
-            Ordering::Equal => self.seconds_order(row, moment),
-        }
-    }
-
-    // The order of the seconds, then of the subseconds.
-    fn seconds_order(&self, row: u64, moment: &Moment) -> Ordering
-        requires seconds { row < length (wholes_of self.now.seconds.now) }
-        requires subseconds { row < length (wholes_of self.now.subseconds.now) }
-        ensures { result ≡ ordering_then (int_cmp (row_parts self.now row).seconds moment.now.seconds) (int_cmp (row_parts self.now row).subseconds moment.now.subseconds) }
-    {
-        let seconds = self.seconds.whole_at(row).cmp(&moment.seconds);
-        match seconds {
-            Ordering::Less => Ordering::Less,
-            Ordering::Greater => Ordering::Greater,
-            Ordering::Equal => self.subseconds.whole_at(row).cmp(&moment.subseconds),
         }
     }
 }

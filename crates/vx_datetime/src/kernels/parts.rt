@@ -1,6 +1,6 @@
 //! The parts of an array, lent.
 
-ghost use Rattle.std.specs.Prelude.{◌≡◌};
+ghost use Rattle.std.specs.Prelude.{◌≡◌, IfSome};
 ghost use Rattle.vx_model.specs.Tree.{datetime_parts};
 ghost use Rattle.vx_model.specs.WellFormed.{WellFormed};
 
@@ -34,5 +34,21 @@ impl DateTimePartsArray {
             },
             _ => unreachable!(),
         }
+    }
+}
+
+/// The parts of an array whose root is DateTimeParts, None of any other.
+pub(super) fn lent_parts(array: &ArrayRef) -> Option<Parts<'_>>
+    ensures { IfSome result (λ p. (array.now ≡ datetime_parts p.kind.now p.nullability p.days.now p.seconds.now p.subseconds.now) × WellFormed array.now) }
+{
+    match array.node() {
+        Node::DateTimeParts(kind, nullability, days, seconds, subseconds) => Some(Parts {
+            kind,
+            nullability: *nullability,
+            days: &days.array,
+            seconds: &seconds.array,
+            subseconds: &subseconds.array,
+        }),
+        _ => None,
     }
 }

@@ -17,6 +17,7 @@ ghost use Rattle.vx_model.specs.WellFormed.{WellFormed};
 ghost use Rattle.vx_rules.specs.Selections.{take_refusal, taken};
 
 use super::chosen::over_parts;
+use super::part_rows::decoded_part;
 use super::parts::Parts;
 use vx_array::ArrayRef;
 use vx_base::{ExecutionCtx, Nullability, PType, Scalar, VortexResult};
@@ -39,7 +40,7 @@ pub(super) fn taken_parts(
     }
 }
 
-// The days that were taken, over the other parts by the same indices.
+// The days that were taken, over the other parts by the same indices, which are decoded once for both.
 fn taken_over(
     parts: &Parts<'_>,
     days: ArrayRef,
@@ -52,8 +53,10 @@ fn taken_over(
     ensures answer { OrMemory result (λ out. (column_of out ≡ taken (column_of (datetime_parts parts.now.kind.now parts.now.nullability parts.now.days.now parts.now.seconds.now parts.now.subseconds.now)) (column_of indices.now)) × (encoding out ≡ ids.DateTimeParts)) }
     ensures ctx { ctx.new ≡ ctx.old }
 {
-    let seconds = taken_or_zero(parts.seconds, indices, ctx)?;
-    let subseconds = taken_or_zero(parts.subseconds, indices, ctx)?;
+    let places = decoded_part(ctx.alloc(), indices)?;
+    let plain = places.tree();
+    let seconds = taken_or_zero(parts.seconds, plain, ctx)?;
+    let subseconds = taken_or_zero(parts.subseconds, plain, ctx)?;
     let nullability = parts.nullability.or(indices.dtype().nullability());
     over_parts(
         ctx.alloc(),
@@ -77,17 +80,21 @@ fn taken_or_zero(
     ensures ctx { ctx.new ≡ ctx.old }
 {
     let taken = take(part, indices, ctx)?;
-    or_zero(&taken, part.dtype().ptype(), ctx)
+    or_zero(taken, part.dtype().ptype(), ctx)
 }
 
-// Integers with 0 in place of null.
-fn or_zero(values: &ArrayRef, ptype: PType, ctx: &mut ExecutionCtx) -> VortexResult<ArrayRef>
-    requires { tree_type values.now ≡ types.primitive ptype (nullability_of (tree_type values.now)) }
-    ensures answer { OrMemory result (λ out. column_of out ≡ column (types.primitive ptype NonNullable) (map (or_default (int (pos 0))) (rows values.now))) }
+// Integers with 0 in place of null; those of a type without nulls as they are.
+fn or_zero(values: ArrayRef, ptype: PType, ctx: &mut ExecutionCtx) -> VortexResult<ArrayRef>
+    requires { tree_type values ≡ types.primitive ptype (nullability_of (tree_type values)) }
+    ensures answer { OrMemory result (λ out. column_of out ≡ column (types.primitive ptype NonNullable) (map (or_default (int (pos 0))) (rows values))) }
     ensures ctx { ctx.new ≡ ctx.old }
 {
+    values.known();
+    if !values.dtype().is_nullable() {
+        return Ok(values);
+    }
     match Scalar::primitive(0, ptype, Nullability::NonNullable) {
-        Ok(zero) => fill_null(values, &zero, ctx),
+        Ok(zero) => fill_null(&values, &zero, ctx),
         Err(_) => unreachable!(),
     }
 }

@@ -19,17 +19,20 @@ ghost use Rattle.vx_rules.specs.Comparisons.{between, bound_operator, holds, wit
 ghost use Rattle.vx_time.specs.CanonicalParts.{parts_cmp};
 ghost use Rattle.vx_values.specs.IntsOf.{wholes_of};
 
+use super::bounded::within_other_columns;
 use super::moments::{Moment, moment_of, same_timestamp};
+use super::orders::orders_with;
 use super::part_rows::{PartRows, decoded_parts};
 use super::parts::Parts;
+use super::verdicts::both_hold_of_each;
 use std::alloc::Global;
 use vx_array::ArrayRef;
 use vx_base::{ExecutionCtx, Mask, Nullability, VortexResult};
 use vx_rules::{BetweenOptions, CompareOperator};
 use vx_values::copy_validity;
 
-/// `between` with bounds of the same timestamps, up to nullability, and as many rows: Constants by their parts, any other
-/// columns by the timestamps.
+/// `between` with bounds of the same timestamps, up to nullability, and as many rows: two Constants by the parts of their
+/// timestamps, two columns in parts by their parts, any others by the timestamps.
 pub(super) fn within_columns(
     options: BetweenOptions,
     array: &ArrayRef,
@@ -48,7 +51,7 @@ pub(super) fn within_columns(
 {
     array.known();
     let Some((low, high)) = same_bounds(lower, upper) else {
-        return vx_rows::between(array, lower, upper, options, ctx);
+        return within_other_columns(options, array, parts, lower, upper, ctx);
     };
     let Some(divisor) = parts.kind.unit().divisor() else {
         return vx_rows::between(array, lower, upper, options, ctx);
@@ -114,30 +117,9 @@ fn lies_at_each(
 {
     let floor = floor_operator(options.lower_strict);
     let ceiling = options.upper_operator();
-    let mut bits = vec![in alloc; false; rows.days.len() as usize]?;
-    write_lies(rows, floor, low, ceiling, high, bits.as_mut_slice());
-    Ok(Mask::from_bits(bits))
-}
-
-// Writes whether one operator holds between the parts of each row and a moment, and another between them and another moment.
-fn write_lies(
-    rows: &PartRows<'_>,
-    floor: CompareOperator,
-    low: &Moment,
-    ceiling: CompareOperator,
-    high: &Moment,
-    bits: &mut [bool],
-)
-    requires seconds { length (wholes_of rows.now.seconds.now) ≡ length (wholes_of rows.now.days.now) }
-    requires subseconds { length (wholes_of rows.now.subseconds.now) ≡ length (wholes_of rows.now.days.now) }
-    requires room { length bits.old ≡ length (wholes_of rows.now.days.now) }
-    ensures { bits.new ≡ below (λ i. holds floor (parts_cmp (row_parts rows.now i) (moment_parts low.now)) && holds ceiling (parts_cmp (row_parts rows.now i) (moment_parts high.now))) (length (wholes_of rows.now.days.now)) }
-{
-    for row in 0..bits.len() {
-        let above = floor.holds(rows.order_at(row as u64, low));
-        let below = ceiling.holds(rows.order_at(row as u64, high));
-        bits[row] = above & below;
-    }
+    let lows = orders_with(alloc, rows, low)?;
+    let highs = orders_with(alloc, rows, high)?;
+    both_hold_of_each(alloc, floor, lows.as_slice(), ceiling, highs.as_slice())
 }
 
 // The operator between what is within a bound and the lower bound.

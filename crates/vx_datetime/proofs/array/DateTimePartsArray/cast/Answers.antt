@@ -1,5 +1,4 @@
 use Rattle.std.proofs.Common.{◌≡◌, ◌∙◌, ap, false, subst, sym, true}
-use Rattle.vx_base.specs.Casts.{is_cast}
 use Rattle.vx_base.specs.PlainType.{same_base}
 use Rattle.vx_base.specs.PlainType as types
 use Rattle.vx_base.specs.TypeOf.{type_of}

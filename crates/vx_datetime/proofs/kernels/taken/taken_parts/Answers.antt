@@ -1,4 +1,4 @@
-use Rattle.std.proofs.Common.{◌≡◌, ◌∙◌, None, sym}
+use Rattle.std.proofs.Common.{◌≡◌, ◌∙◌, sym}
 use Rattle.vx_model.specs.Column.{column_of}
 use Rattle.vx_model.specs.Tree.{datetime_parts}
 use Rattle.vx_model.proofs.DateTimePartsLemmas.{length-datetime_parts}

@@ -11,11 +11,9 @@ use Rattle.vx_base.specs.PlainValue.{int}
 use Rattle.vx_model.specs.Column.{column}
 use Rattle.vx_model.specs.Rows.{rows}
 use Rattle.vx_model.specs.Tree.{datetime_parts}
-use Rattle.vx_model.specs.TreeType.{tree_type}
 use Rattle.vx_rules.specs.Comparisons.{within_bounds}
 use Rattle.vx_time.proofs.Held.{fits-I64}
 use Rattle.vx_datetime.proofs.SameColumns.{within-same}
-use Rattle.vx_datetime.proofs.StampTypes.{stamp-flat}
 use Rattle.vx_datetime.proofs.kernels.within.within_columns.Goals as goal
 
 pub returns-clause-answer : goal.returns-clause-answer

@@ -3,7 +3,7 @@ use Rattle.std.specs.Int.{w64}
 use Rattle.std.specs.Prelude.{◌&&◌, length}
 use Rattle.std.proofs.lemmas.Int.{to_z-of_z}
 use Rattle.vx_base.specs.PlainValue.{PlainValue, int, truth}
-use Rattle.vx_datetime.specs.Moments.{floor_operator, moment_parts}
+use Rattle.vx_datetime.specs.Moments.{floor_operator, moment_parts, part_tree}
 use Rattle.vx_model.specs.Column.{column_of}
 use Rattle.vx_model.specs.Refusals.{kept, primitive_refusal}
 use Rattle.vx_model.specs.Tree.{bool}
@@ -35,17 +35,17 @@ rows-rows-requires-clause-plain_subseconds c = c.in_ok-read.ensures.subseconds.p
 pub rows-rows-requires-clause-days : goal.rows-rows-requires-clause-days
 rows-rows-requires-clause-days c =
     let p = c.args.parts.now in
-    same-integer p.days.now c.in_ok-read.read.days c.in_ok-read.ensures.days.same (days-integer p.kind.now p.nullability p.days.now p.seconds.now p.subseconds.now c.requires.well)
+    same-integer p.days.now (part_tree c.in_ok-read.read.days) c.in_ok-read.ensures.days.same (days-integer p.kind.now p.nullability p.days.now p.seconds.now p.subseconds.now c.requires.well)
 
 pub rows-rows-requires-clause-seconds : goal.rows-rows-requires-clause-seconds
 rows-rows-requires-clause-seconds c =
     let p = c.args.parts.now in
-    same-integer p.seconds.now c.in_ok-read.read.seconds c.in_ok-read.ensures.seconds.same (seconds-integer p.kind.now p.nullability p.days.now p.seconds.now p.subseconds.now c.requires.well)
+    same-integer p.seconds.now (part_tree c.in_ok-read.read.seconds) c.in_ok-read.ensures.seconds.same (seconds-integer p.kind.now p.nullability p.days.now p.seconds.now p.subseconds.now c.requires.well)
 
 pub rows-rows-requires-clause-subseconds : goal.rows-rows-requires-clause-subseconds
 rows-rows-requires-clause-subseconds c =
     let p = c.args.parts.now in
-    same-integer p.subseconds.now c.in_ok-read.read.subseconds c.in_ok-read.ensures.subseconds.same (subseconds-integer p.kind.now p.nullability p.days.now p.seconds.now p.subseconds.now c.requires.well)
+    same-integer p.subseconds.now (part_tree c.in_ok-read.read.subseconds) c.in_ok-read.ensures.subseconds.same (subseconds-integer p.kind.now p.nullability p.days.now p.seconds.now p.subseconds.now c.requires.well)
 
 pub lies_at_each-requires-clause-seconds : goal.lies_at_each-requires-clause-seconds
 lies_at_each-requires-clause-seconds c =
