@@ -1,0 +1,4 @@
+mod AsBox
+pub mod Compressing
+pub mod Filing
+pub mod Telling

@@ -1,0 +1,5 @@
+pub mod Compressed
+pub mod Files
+pub mod Held
+pub mod Outcomes
+pub mod Statuses
