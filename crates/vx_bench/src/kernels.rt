@@ -6,28 +6,25 @@ ghost use Rattle.vx_base.specs.Integers.{bits_of};
 ghost use Rattle.vx_base.specs.Packed.{packed_size};
 
 mod blocks;
-mod columns;
 mod decoding;
 mod files;
 mod frames;
 mod parts;
-mod rows;
 mod series;
 mod timing;
 
 use anyhow::{Result, bail};
 use blocks::tell_blocks;
-use columns::Listed;
 pub use decoding::{Decoding, tell_decoding};
 pub use files::{Filing, Stored, alone, read_back, tell_files, written};
 use frames::tell_frames;
 use parts::tell_parts;
-use rows::{digest, values};
 use series::tell_series;
 use std::time::CpuClock;
-use timing::{best_of, show, tell_canonical};
+use timing::{show, tell_canonical};
 use vx_array::ArrayRef;
 use vx_base::{Bytes, Integer, Mask, Nullability, PType};
+use vx_bench_columns::{Listed, best_of, digest, values};
 use vx_blocks::{bit_width_histogram, pack, unpack};
 
 // The width at which the kernels of series run, on runs or on a ramp, and those of frames.

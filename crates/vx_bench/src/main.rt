@@ -11,6 +11,16 @@ use std::env;
 use std::env::Env;
 use vx_base::{Nullability, PType};
 
+// The forms of the command line.
+const USAGE: [&str; 6] = [
+    "usage: vx_bench compress < document",
+    "       vx_bench parse < document",
+    "       vx_bench store < document",
+    "       vx_bench kernels u8|u32|u64|i64 WIDTH ROWS REPEATS",
+    "       vx_bench decode full|nulls ROWS REPEATS",
+    "       vx_bench files packed|plain|pieces|texts ROWS REPEATS",
+];
+
 /// What the arguments ask for.
 enum Form {
     Compress,
@@ -19,7 +29,6 @@ enum Form {
     Kernels(Setting),
     Decode(Decoding),
     Files(Filing),
-    Usage,
 }
 
 fn ptype_of(name: &str) -> Option<PType> {
@@ -76,47 +85,64 @@ fn filing_of(args: &[String]) -> Option<Filing> {
     })
 }
 
-fn form_of(args: &[String]) -> Form {
-    match args {
-        [form] if form.as_str() == "compress" => Form::Compress,
-        [form] if form.as_str() == "parse" => Form::Parse,
-        [form] if form.as_str() == "store" => Form::Store,
-        [form, rest @ ..] if form.as_str() == "kernels" => match setting_of(rest) {
-            Some(setting) => Form::Kernels(setting),
-            None => Form::Usage,
-        },
-        [form, rest @ ..] if form.as_str() == "decode" => match decoding_of(rest) {
-            Some(decoding) => Form::Decode(decoding),
-            None => Form::Usage,
-        },
-        [form, rest @ ..] if form.as_str() == "files" => match filing_of(rest) {
-            Some(filing) => Form::Files(filing),
-            None => Form::Usage,
-        },
-        _ => Form::Usage,
+// The forms that read a document.
+fn document_form(word: &str) -> Option<Form> {
+    match word {
+        "compress" => Some(Form::Compress),
+        "parse" => Some(Form::Parse),
+        "store" => Some(Form::Store),
+        _ => None,
     }
 }
 
-fn main(rt: HostRuntime) -> Result<()> {
+// The forms with arguments.
+fn timed_form(word: &str, args: &[String]) -> Option<Form> {
+    match word {
+        "kernels" => Some(Form::Kernels(setting_of(args)?)),
+        "decode" => Some(Form::Decode(decoding_of(args)?)),
+        "files" => Some(Form::Files(filing_of(args)?)),
+        _ => None,
+    }
+}
+
+fn form_of(args: &[String]) -> Option<Form> {
+    match args {
+        [word] => document_form(word.as_str()),
+        [word, rest @ ..] => timed_form(word.as_str(), rest),
+        [] => None,
+    }
+}
+
+// What the command line asks for; None where it isn't one of the forms.
+fn asked(rt: &(impl AllocGlobal + Env)) -> Result<Option<Form>> {
     let mut args = Vec::new(rt.alloc());
-    for arg in env::args(&rt)?.skip(1) {
+    for arg in env::args(rt)?.skip(1) {
         args.push(arg)?;
     }
-    match form_of(args.as_slice()) {
-        Form::Compress => tell_phases(&rt, rt.reader()),
-        Form::Parse => tell_rows(&rt, rt.reader()),
-        Form::Store => tell_stored(&rt, rt.reader()),
-        Form::Kernels(setting) => tell_kernels(&rt, &setting),
-        Form::Decode(decoding) => tell_decoding(&rt, &decoding),
-        Form::Files(filing) => tell_files(&rt, &filing),
-        Form::Usage => {
-            println!(rt; "usage: vx_bench compress < document")?;
-            println!(rt; "       vx_bench parse < document")?;
-            println!(rt; "       vx_bench store < document")?;
-            println!(rt; "       vx_bench kernels u8|u32|u64|i64 WIDTH ROWS REPEATS")?;
-            println!(rt; "       vx_bench decode full|nulls ROWS REPEATS")?;
-            println!(rt; "       vx_bench files packed|plain|pieces|texts ROWS REPEATS")?;
-            Ok(())
-        }
+    Ok(form_of(args.as_slice()))
+}
+
+fn tell(rt: &HostRuntime, form: Form) -> Result<()> {
+    match form {
+        Form::Compress => tell_phases(rt, rt.reader()),
+        Form::Parse => tell_rows(rt, rt.reader()),
+        Form::Store => tell_stored(rt, rt.reader()),
+        Form::Kernels(setting) => tell_kernels(rt, &setting),
+        Form::Decode(decoding) => tell_decoding(rt, &decoding),
+        Form::Files(filing) => tell_files(rt, &filing),
+    }
+}
+
+fn tell_usage(rt: &impl Print) -> Result<()> {
+    for line in USAGE {
+        println!(rt; "{line}")?;
+    }
+    Ok(())
+}
+
+fn main(rt: HostRuntime) -> Result<()> {
+    match asked(&rt)? {
+        Some(form) => tell(&rt, form),
+        None => tell_usage(&rt),
     }
 }

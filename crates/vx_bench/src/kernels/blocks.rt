@@ -5,14 +5,13 @@ ghost use Rattle.vx_base.specs.Integers.{bits_of};
 ghost use Rattle.vx_base.specs.Packed.{block_count};
 
 use super::Setting;
-use super::columns::column_of;
-use super::rows::digest;
-use super::timing::{best_of, show, tell_canonical};
+use super::timing::{show, tell_canonical};
 use anyhow::{Result, bail};
 use std::alloc::{AllocError, Global};
 use std::time::CpuClock;
 use vx_array::ArrayRef;
 use vx_base::{Bytes, Integer, Mask, Nullability, Words};
+use vx_bench_columns::{best_of, column_of, digest};
 use vx_blocks::{best_widths, pack_blocks};
 
 // Where each block begins, in units of 128 bytes, and where the last one ends: the sum of the widths before it.

@@ -7,17 +7,16 @@ mod packed;
 mod plain;
 mod repeated;
 
-use super::timing::best_of;
 use anyhow::Result;
-pub(super) use making::{packed, random};
+pub(super) use making::packed;
 use nested::{tell_lists, tell_structs};
 use packed::tell_packed;
-pub(super) use plain::texts;
 use plain::{digest_of, tell_plain};
 use repeated::tell_repeated;
 use std::time::CpuClock;
 use vx_array::ArrayRef;
 use vx_base::{Nullability, VortexResult};
+use vx_bench_columns::best_of;
 
 /// Whether the columns have nulls, the number of rows, and the number of runs of each kernel.
 #[derive(Clone, Copy)]

@@ -1,13 +1,12 @@
 //! Files of one tree: `write_file` and `read_file`. `bench/files.rs` makes the same bytes.
 
-use super::decoding::{packed, random, texts};
-use super::rows::digest;
-use super::timing::best_of;
+use super::decoding::packed;
 use anyhow::Result;
 use std::alloc::Global;
 use std::time::CpuClock;
 use vx_array::{ArrayRef, Arrays};
 use vx_base::{Bytes, Nullability, VortexError, VortexResult};
+use vx_bench_columns::{best_of, digest, random, texts};
 use vx_file::{read_file, write_file};
 
 /// The tree that a file holds.

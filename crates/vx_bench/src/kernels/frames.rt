@@ -1,13 +1,13 @@
 //! Decoding of frames of reference: with one reference, and with one for each block of 1,024 rows.
 
 use super::Setting;
-use super::columns::{Listed, column_of};
 use super::timing::tell_canonical;
 use anyhow::{Result, bail};
 use std::alloc::{AllocError, Global};
 use std::time::CpuClock;
 use vx_array::ArrayRef;
 use vx_base::{Integer, Nullability, Scalar};
+use vx_bench_columns::{Listed, column_of};
 use vx_blocks::BLOCK_ROWS;
 
 // The bits of the least of some rows of an unsigned type.

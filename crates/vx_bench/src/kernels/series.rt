@@ -3,11 +3,11 @@
 ghost use Rattle.std.specs.Prelude.{◌≡◌, ◌<◌, ◌≤◌, ◌*◌, length};
 
 use super::Setting;
-use super::rows::{digest, ramp, repeated};
-use super::timing::{best_of, show};
+use super::timing::show;
 use anyhow::Result;
 use std::time::CpuClock;
 use vx_base::{Integer, Mask};
+use vx_bench_columns::{best_of, digest, ramp, repeated};
 use vx_blocks::{BlockRuns, block_runs, delta_blocks, runs, sequence_of, undelta};
 
 // Times `sequence_of` on a ramp, which types of 8 bits are too narrow for.

@@ -1,32 +1,11 @@
-//! The processor time of a kernel, and the line that tells it.
+//! The line that tells a kernel's time, and the time of `canonical`.
 
 use super::Setting;
-use super::rows::digest;
 use anyhow::{Result, bail};
 use std::time::CpuClock;
 use vx_array::{ArrayRef, Node};
-use vx_base::VortexResult;
+use vx_bench_columns::{best_of, digest};
 use vx_values::Ints;
-
-// The least processor time of a kernel in microseconds, and its answer. A first run without the clock pays for the first
-// touch of the pages.
-pub(super) fn best_of<A: Drop, F: Fn() -> VortexResult<A>>(
-    rt: &impl CpuClock,
-    repeats: u32,
-    kernel: F,
-) -> Result<(u128, A)>
-    requires { F.IsAlwaysCallable kernel }
-{
-    let mut best = u128::MAX;
-    let mut answer = kernel()?;
-    for _ in 0..repeats {
-        drop(answer);
-        let start = rt.thread_cpu_time()?.as_micros();
-        answer = kernel()?;
-        best = best.min(rt.thread_cpu_time()?.as_micros().saturating_sub(start));
-    }
-    Ok((best, answer))
-}
 
 // One line: kernel, type, width, rows, microseconds, digest.
 pub(super) fn show(

@@ -1,17 +1,15 @@
 //! Structs of four fields and lists of texts, beside the decoding of what they hold, and the compression of structs that
 //! aren't plain, beside that of plain ones.
 
-use super::making::{column, packed, random, steps, validity};
+use super::making::packed;
 use super::packed::delta;
-use super::plain::texts;
-use super::repeated::row_dict;
 use super::{Decoding, show};
-use crate::kernels::timing::best_of;
 use anyhow::Result;
 use std::alloc::Global;
 use std::time::CpuClock;
 use vx_array::{ArrayRef, Arrays, Node};
 use vx_base::{ExecutionCtx, Names, Nullability, Text, VortexError, VortexResult, Words};
+use vx_bench_columns::{best_of, column, random, row_dict, steps, texts, validity};
 use vx_btrblocks::{BtrBlocksCompressor, NoScheme};
 
 // The elements of a list.

@@ -1,12 +1,13 @@
 //! Nodes over packed rows: bit packing, with patches too, frames of reference, zigzag and differences.
 
-use super::making::{WIDTH, column, packed, packed_bytes, random, scalar, steps, validity};
+use super::making::{WIDTH, packed, packed_bytes};
 use super::{Decoding, tell};
 use anyhow::Result;
 use std::alloc::Global;
 use std::time::CpuClock;
 use vx_array::{ArrayRef, Patches};
 use vx_base::{Nullability, PType, VortexResult};
+use vx_bench_columns::{column, random, scalar, steps, validity};
 use vx_blocks::BLOCK_ROWS;
 
 // One of so many rows has a patch.

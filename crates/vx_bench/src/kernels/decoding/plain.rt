@@ -1,24 +1,18 @@
 //! Plain nodes, and nodes that keep their rows one by one; digests of plain columns.
 
-use super::making::{WIDE, column, each_tenth_null, random, scalar, steps, validity};
 use super::{Decoding, tell};
-use crate::kernels::columns::Listed;
-use crate::kernels::rows::{digest, values};
 use anyhow::{Result, bail};
 use std::alloc::Global;
 use std::time::CpuClock;
 use vx_array::{ArrayRef, Node};
-use vx_base::{Bytes, DType, Mask, Nullability, PType, VortexResult};
+use vx_base::{Bytes, Mask, Nullability, PType, VortexResult};
+use vx_bench_columns::{
+    Listed, WIDE, digest, each_tenth_null, random, scalar, texts, validity, values,
+};
 use vx_values::Ints;
 
 // The value of constants.
 const VALUE: u64 = 7;
-
-// The bytes of a text.
-const TEXT_BYTES: u64 = 8;
-
-// The bits of a byte of texts.
-const ASCII_BITS: u32 = 7;
 
 // The digest of truth values.
 fn digest_of_bits(bits: &[bool]) -> u64 {
@@ -75,16 +69,6 @@ fn truth_values(alloc: Global, rows: usize, nullability: Nullability) -> VortexR
     }
     let valid = validity(alloc, rows, nullability)?;
     Ok(ArrayRef::bool(Mask::from_bits(bits), valid, nullability)?)
-}
-
-/// Texts of `TEXT_BYTES` bytes each.
-pub fn texts(alloc: Global, rows: usize, nullability: Nullability) -> VortexResult<ArrayRef> {
-    let ends = steps(alloc, rows.saturating_add(1), 0, TEXT_BYTES)?;
-    let offsets = column(alloc, ends, Nullability::NonNullable)?;
-    let size = rows.saturating_mul(TEXT_BYTES as usize);
-    let bytes = Bytes::from_vec(values::<u8>(alloc, size, ASCII_BITS)?);
-    let valid = validity(alloc, rows, nullability)?;
-    Ok(ArrayRef::var_bin(alloc, offsets, bytes, valid, DType::utf8(nullability))?)
 }
 
 // Rows of which each tenth is hidden.

@@ -1,22 +1,19 @@
 //! Nodes over repeated rows: run ends, runs in blocks, dictionaries, those whose codes are runs, and sparse rows.
 
-use super::making::{column, random, scalar, steps};
 use super::{Decoding, tell};
-use crate::kernels::rows::{repeated, values};
 use anyhow::Result;
 use std::alloc::Global;
 use std::time::CpuClock;
 use vx_array::{ArrayRef, Patches};
 use vx_base::{Mask, Nullability, VortexResult};
+use vx_bench_columns::{codes, column, dict, random, repeated, row_dict, scalar, steps};
 use vx_blocks::{BlockRuns, block_runs};
 
 // The rows of a run.
 const RUN_ROWS: usize = 100;
 
-// The bits of a code, and the values of a dictionary.
-const CODE_BITS: u32 = 9;
-
-const DICTIONARY: usize = 512;
+// The bits of a run's value.
+const VALUE_BITS: u32 = 9;
 
 // One of so many rows isn't the fill.
 const SPARSE_STEP: usize = 20;
@@ -33,7 +30,7 @@ fn run_end(alloc: Global, rows: usize, values: ArrayRef) -> VortexResult<ArrayRe
 
 // Runs in blocks.
 fn rle(alloc: Global, rows: usize, nullability: Nullability) -> VortexResult<ArrayRef> {
-    let items = repeated::<u64>(alloc, rows, CODE_BITS)?;
+    let items = repeated::<u64>(alloc, rows, VALUE_BITS)?;
     let valid = Mask::from_bits(vec![in alloc; true; items.len()]?);
     let BlockRuns {
         heads,
@@ -44,26 +41,6 @@ fn rle(alloc: Global, rows: usize, nullability: Nullability) -> VortexResult<Arr
     let numbers = column(alloc, numbers.into_vec(), Nullability::NonNullable)?;
     let offsets = column(alloc, offsets.into_vec(), Nullability::NonNullable)?;
     Ok(ArrayRef::rle(alloc, values, numbers, offsets, rows as u64)?)
-}
-
-// Codes of a dictionary.
-fn codes(alloc: Global, len: usize, nullability: Nullability) -> VortexResult<ArrayRef> {
-    column(alloc, values::<u16>(alloc, len, CODE_BITS)?, nullability)
-}
-
-/// A dictionary of `DICTIONARY` values.
-pub(super) fn dict(alloc: Global, codes: ArrayRef) -> VortexResult<ArrayRef> {
-    let values = random(alloc, DICTIONARY, Nullability::NonNullable)?;
-    Ok(ArrayRef::dict(alloc, codes, values)?)
-}
-
-/// A dictionary with a code a row.
-pub(super) fn row_dict(
-    alloc: Global,
-    rows: usize,
-    nullability: Nullability,
-) -> VortexResult<ArrayRef> {
-    dict(alloc, codes(alloc, rows, nullability)?)
 }
 
 // A dictionary with a code a run.

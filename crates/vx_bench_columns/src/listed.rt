@@ -1,11 +1,11 @@
-//! Plain columns, of which trees are made.
+//! Plain columns of rows of one integer type.
 
 use vx_array::ArrayRef;
 use vx_base::{IntList, Nullability};
 use vx_values::Ints;
 
 /// A type whose rows make a list of integers.
-pub(super) trait Listed: Copy {
+pub trait Listed: Copy {
     fn list(rows: Vec<Self>) -> Ints;
 }
 
@@ -33,7 +33,13 @@ impl Listed for u64 {
     }
 }
 
-// A plain column without nulls.
-pub(super) fn column_of<T: Listed>(rows: Vec<T>) -> ArrayRef {
+impl Listed for i64 {
+    fn list(rows: Vec<i64>) -> Ints {
+        Ints::I64(IntList::from_vec(rows))
+    }
+}
+
+/// A plain column without nulls.
+pub fn column_of<T: Listed>(rows: Vec<T>) -> ArrayRef {
     ArrayRef::primitive_of(T::list(rows), None, Nullability::NonNullable)
 }

@@ -1,4 +1,4 @@
-//! The rows that the kernels run on, and digests of what they answer.
+//! The rows that the bench programs run on, and digests of what they answer. `bench/kernels.rs` makes the same.
 
 ghost use Rattle.std.specs.Prelude.{◌≡◌, ◌<◌, ◌≤◌, vec_len, IfOk};
 
@@ -12,18 +12,14 @@ const MULTIPLIER: u64 = 6364136223846793005;
 
 const INCREMENT: u64 = 1442695040888963407;
 
-// A digest is digest * DIGEST_FACTOR + item for each item.
-const DIGEST_FACTOR: u64 = 31;
+/// A digest is digest * DIGEST_FACTOR + item for each item.
+pub const DIGEST_FACTOR: u64 = 31;
 
 // The rows of each run.
 const RUN_ROWS: u32 = 100;
 
-// Rows of `width` bits: the high bits of the states.
-pub(super) fn values<T: Integer>(
-    alloc: Global,
-    rows: usize,
-    width: u32,
-) -> Result<Vec<T>, AllocError>
+/// Rows of `width` bits: the high bits of the states.
+pub fn values<T: Integer>(alloc: Global, rows: usize, width: u32) -> Result<Vec<T>, AllocError>
     requires some { 0 < width }
     requires most { width ≤ 64 }
     ensures { IfOk result (λ values. vec_len values ≡ rows) }
@@ -37,12 +33,8 @@ pub(super) fn values<T: Integer>(
     Ok(values)
 }
 
-// Runs of RUN_ROWS equal rows of `width` bits: the high bits of the states.
-pub(super) fn repeated<T: Integer>(
-    alloc: Global,
-    rows: usize,
-    width: u32,
-) -> Result<Vec<T>, AllocError>
+/// Runs of 100 equal rows of `width` bits: the high bits of the states.
+pub fn repeated<T: Integer>(alloc: Global, rows: usize, width: u32) -> Result<Vec<T>, AllocError>
     requires some { 0 < width }
     requires most { width ≤ 64 }
     ensures { IfOk result (λ values. vec_len values ≡ rows) }
@@ -61,8 +53,8 @@ pub(super) fn repeated<T: Integer>(
     Ok(values)
 }
 
-// The numbers from 0 on, modulo the type's range.
-pub(super) fn ramp<T: Integer>(alloc: Global, rows: usize) -> Result<Vec<T>, AllocError> {
+/// The numbers from 0 on, modulo the type's range.
+pub fn ramp<T: Integer>(alloc: Global, rows: usize) -> Result<Vec<T>, AllocError> {
     let mut values = vec![in alloc; T::zero(); rows]?;
     let mut next: u64 = 0;
     for value in values.iter_mut() {
@@ -72,7 +64,8 @@ pub(super) fn ramp<T: Integer>(alloc: Global, rows: usize) -> Result<Vec<T>, All
     Ok(values)
 }
 
-pub(super) fn digest<T: Integer>(items: &[T]) -> u64 {
+/// The digest of items by their bits.
+pub fn digest<T: Integer>(items: &[T]) -> u64 {
     let mut sum: u64 = 0;
     for item in items {
         sum = sum.wrapping_mul(DIGEST_FACTOR).wrapping_add(item.to_bits());
