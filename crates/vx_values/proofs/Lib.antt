@@ -16,4 +16,5 @@ pub mod DifferenceRows
 pub mod BlockGrowth
 pub mod BlockOffsets
 pub mod PackedWords
+pub mod ZeroBlocks
 pub mod ZeroGroups

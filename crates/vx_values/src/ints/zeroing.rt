@@ -11,6 +11,9 @@ use std::alloc::Global;
 use vx_base::{IntList, Integer, Mask, VortexResult};
 use vx_blocks::GROUP_ROWS;
 
+// The rows that are copied before those of them that are null become 0: 8 KiB of the widest type.
+const BLOCK_ROWS: usize = 1024;
+
 impl Ints {
     /// A copy, with 0 where a row is null.
     pub fn decoded(&self, alloc: Global, valid: &Option<Mask>) -> VortexResult<Ints>
@@ -91,11 +94,27 @@ fn decoded<T: Integer>(alloc: Global, items: &[T], valid: &Option<Mask>) -> Vort
     requires { validity_length valid.now (length items.now) ≡ true }
     ensures { OrMemory result (λ copy. map T.whole copy ≡ zeroed_by (pos 0) valid.now (map T.whole items.now)) }
 {
-    let copy = IntList::from_vec(Vec::from_slice(alloc, items)?);
-    match valid {
-        Some(mask) => Ok(zeroed(copy, mask.as_slice())),
-        None => Ok(copy),
+    let copy = match valid {
+        Some(mask) => copied_and_zeroed(alloc, items, mask.as_slice())?,
+        None => Vec::from_slice(alloc, items)?,
+    };
+    Ok(IntList::from_vec(copy))
+}
+
+// A copy, with 0 where the mask is false. Block by block, so that the zeros are written while a cache still holds the copied rows.
+fn copied_and_zeroed<T: Integer>(alloc: Global, items: &[T], bits: &[bool]) -> VortexResult<Vec<T>>
+    requires { length bits.now ≡ length items.now }
+    ensures { OrMemory result (λ copy. map T.whole copy.items ≡ zeroed (pos 0) bits.now (map T.whole items.now)) }
+{
+    let mut copy = Vec::with_capacity(alloc, items.len())?;
+    let mut start = 0;
+    while start < items.len() {
+        let end = start + (items.len() - start).min(BLOCK_ROWS);
+        copy.extend_from_slice(&items[start..end])?;
+        zero_beneath(&mut copy.as_mut_slice()[start..], &bits[start..end]);
+        start = end;
     }
+    Ok(copy)
 }
 
 // Whether the item is 0, or its bit is true. By `|`, since `||` is a branch.
