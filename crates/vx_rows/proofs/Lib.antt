@@ -1,5 +1,6 @@
 pub mod AnswerLemmas
 pub mod BaseLemmas
+pub mod BlockLemmas
 pub mod CastLemmas
 pub mod ConstantLemmas
 pub mod ConvertLemmas
@@ -14,7 +15,7 @@ pub mod PickedLemmas
 pub mod PrefixLemmas
 pub mod ReadLemmas
 pub mod RetypeLemmas
-pub mod SuffixLemmas
+pub mod SearchLemmas
 pub mod SummedLemmas
 pub mod TextLemmas
 pub mod TotalLemmas

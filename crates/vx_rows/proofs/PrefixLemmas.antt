@@ -3,8 +3,7 @@ use Rattle.std.proofs.Common.{◌≡◌, ◌<◌, ◌≤◌, ◌∙◌, ℕ, zer
 use Rattle.std.specs.Prelude.{◌&&◌, ◌==◌}
 use Rattle.std.proofs.Math.Dec.{eqb-suc-suc, eqb-suc-zero}
 use Rattle.vx_rules.specs.Patterns.{PatternItem, any_run, any_char, exactly, matches}
-use Rattle.vx_rows.specs.Suffixes.{first_passes, fits_char}
-use Rattle.vx_rows.proofs.SuffixLemmas.{front}
+use Rattle.vx_rows.specs.Items.{first_passes, fits_char}
 
 -- the item that takes this character, or any one
 abbrev pub taken_by : Option ℕ → PatternItem
@@ -16,6 +15,19 @@ drop-one [] zero = refl
 drop-one [] (suc i) = refl
 drop-one (c ∷ cs) zero = refl
 drop-one (c ∷ cs) (suc i) = drop-one cs i
+
+-- one item more in front of those behind it
+pub front : {A B : Type 0} (f : A → B) (xs : List A) (i : ℕ) (x : A) → i < length xs → f (get_or xs i x) ∷ drop (suc i) (map f xs) ≡ drop i (map f xs)
+front f [] i x h = absurd (omega arith)
+front f (a ∷ xs) zero x h = refl
+front f (a ∷ xs) (suc i) x h = front f xs i x (omega arith)
+
+pub none-behind : {A : Type 0} (plain : A → PatternItem) (xs : List A) (k : ℕ) → k ≡ length xs → drop k (map plain xs) ≡ []
+none-behind plain xs k e = ap (λ j. drop j (map plain xs)) e ∙ none xs
+  where
+    none : (ys : List _) → drop (length ys) (map plain ys) ≡ []
+    none [] = refl
+    none (y ∷ ys) = none ys
 
 -- where the items in front of any characters end
 pub first-run : {A : Type 0} (plain : A → PatternItem) (xs : List A) (i k : ℕ) (x : A) → i < length xs → k ≡ i + 1 → plain (get_or xs i x) ≡ any_run → drop i (map plain xs) ≡ any_run ∷ drop k (map plain xs)

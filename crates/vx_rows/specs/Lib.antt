@@ -1,10 +1,10 @@
 pub mod Casting
 pub mod Conversions
 pub mod Extremes
+pub mod Items
 pub mod Nulls
 pub mod Pairs
 pub mod Readable
-pub mod Suffixes
 pub mod Texts
 pub mod Totals
 pub mod Truths

@@ -1,5 +1,6 @@
 //! Kernels over slices of one integer type, and over validity bits.
 
+mod blocks;
 mod bounds;
 mod byte_rows;
 mod conversions;

@@ -2,7 +2,7 @@
 
 ghost use Rattle.std.specs.Prelude.{◌≡◌, ◌++◌, ◌∷◌, ℕ, List, map};
 ghost use Rattle.vx_base.specs.Answers.{OrMemory};
-ghost use Rattle.vx_rows.specs.Suffixes.{left_items, plain_item};
+ghost use Rattle.vx_rows.specs.Items.{left_items, plain_item};
 ghost use Rattle.vx_rules.specs.Patterns.{item_of, pattern_items};
 
 use vx_base::VortexResult;

@@ -1,7 +1,41 @@
 //! The characters of a text, decoded or as the bytes that they are.
 
-ghost use Rattle.std.specs.Prelude.{◌≡◌, ◌≤◌, drop, length};
-ghost use Rattle.vx_rows.specs.Suffixes.{first_passes, fits_char, text_chars};
+ghost use Rattle.std.specs.Prelude.{◌≡◌, ◌≤◌, ℕ, drop, length};
+ghost use Rattle.vx_rows.specs.Items.{first_passes, fits_char, text_chars};
+
+/// A character, an ASCII one as its byte. A search is written once and compiled for each of the two.
+pub(crate) trait Character: Copy {
+    // The code point.
+    ghost code: { Self → ℕ };
+
+    /// Whether it is the wanted one, or any is.
+    fn fits(self, wanted: Option<char>) -> bool
+        ensures { result ≡ fits_char wanted (code self) };
+}
+
+impl Character for u8 {
+    ghost code = { λ byte. byte };
+
+    #[inline(always)]
+    fn fits(self, wanted: Option<char>) -> bool {
+        match wanted {
+            Some(wanted) => char::from(self) == wanted,
+            None => true,
+        }
+    }
+}
+
+impl Character for char {
+    ghost code = { λ found. found };
+
+    #[inline(always)]
+    fn fits(self, wanted: Option<char>) -> bool {
+        match wanted {
+            Some(wanted) => self == wanted,
+            None => true,
+        }
+    }
+}
 
 /// The characters of a text.
 #[derive(Clone, Copy)]
@@ -41,27 +75,8 @@ impl<'a> Text<'a> {
             return false;
         }
         match self {
-            Text::Ascii(bytes) => fits_byte(wanted, bytes[place]),
-            Text::Decoded(chars) => fits_char(wanted, chars[place]),
+            Text::Ascii(bytes) => bytes[place].fits(wanted),
+            Text::Decoded(chars) => chars[place].fits(wanted),
         }
     }
-}
-
-/// Whether a character is the wanted one, or any is.
-#[inline(always)]
-pub(crate) fn fits_char(wanted: Option<char>, found: char) -> bool
-    ensures { result ≡ fits_char wanted found }
-{
-    match wanted {
-        Some(wanted) => found == wanted,
-        None => true,
-    }
-}
-
-/// Whether an ASCII character is the wanted one, or any is.
-#[inline(always)]
-pub(crate) fn fits_byte(wanted: Option<char>, found: u8) -> bool
-    ensures { result ≡ fits_char wanted found }
-{
-    fits_char(wanted, char::from(found))
 }

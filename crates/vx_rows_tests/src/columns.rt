@@ -3,7 +3,7 @@
 use std::alloc::Global;
 use vx_array::{ArrayRef, Arrays};
 use vx_base::Nullability::{NonNullable, Nullable};
-use vx_base::PType::{I32, U8};
+use vx_base::PType::{I32, U8, U16};
 use vx_base::{DType, Names, Nullability, PType, Scalar, Text, VortexError, VortexResult};
 use vx_fixtures::{accepted, bits, byte_rows, flat, with_nulls};
 
@@ -63,6 +63,37 @@ pub fn has_truths(array: &ArrayRef, rows: &[Option<bool>]) -> bool {
         }
     }
     true
+}
+
+/// Whether an array of truth values is true from row `start` to `end - 1`, and false elsewhere.
+pub fn is_true_between(array: &ArrayRef, start: u64, end: u64) -> bool {
+    if !matches!(array.dtype(), DType::Bool(_)) {
+        return false;
+    }
+    for row in 0..array.len() {
+        if array.bool_at(row) != Some(start <= row && row < end) {
+            return false;
+        }
+    }
+    true
+}
+
+/// The numbers from 0 up to 2,049: kernels take them in three blocks, the last one short.
+pub fn rising(alloc: Global) -> VortexResult<ArrayRef> {
+    let mut items = Vec::new(alloc);
+    for row in 0..2_050_u16 {
+        items.push(i128::from(row))?;
+    }
+    flat(alloc, U16, NonNullable, items.as_slice())
+}
+
+/// The numbers from 2,049 down to 0.
+pub fn falling(alloc: Global) -> VortexResult<ArrayRef> {
+    let mut items = Vec::new(alloc);
+    for row in 0..2_050_u16 {
+        items.push(i128::from(2_049 - row))?;
+    }
+    flat(alloc, U16, NonNullable, items.as_slice())
 }
 
 /// 5, null, 5, 9 and null of i32, by codes.

@@ -1,6 +1,6 @@
 //! Comparisons: each operator, nulls, constants on either side, encoded rows, and refusals; and negation.
 
-use crate::columns::{by_codes, has_truths, truths, whole};
+use crate::columns::{by_codes, falling, has_truths, is_true_between, rising, truths, whole};
 use std::test::Fail;
 use vx_array::ArrayRef;
 use vx_base::Nullability::{NonNullable, Nullable};
@@ -86,6 +86,18 @@ fn integers_of_each_kind_are_compared(rt: HostRuntime) -> Result<(), Fail> {
         let out = compare_scalar(&column, &whole(7, ptype, NonNullable)?, NotEq, &mut ctx)?;
         assert!(rt; has_truths(&out, &[Some(true), Some(true), Some(false)]));
     }
+    Ok(())
+}
+
+#[test]
+fn rows_of_several_blocks_are_compared(rt: HostRuntime) -> Result<(), Fail> {
+    let alloc = rt.alloc();
+    let mut ctx = context(alloc)?;
+    let column = rising(alloc)?;
+    let out = compare_scalar(&column, &whole(1_030, U16, NonNullable)?, Gte, &mut ctx)?;
+    assert!(rt; out.len() == 2_050 && is_true_between(&out, 1_030, 2_050));
+    let out = compare(&column, &falling(alloc)?, Lt, &mut ctx)?;
+    assert!(rt; out.len() == 2_050 && is_true_between(&out, 0, 1_025));
     Ok(())
 }
 

@@ -42,6 +42,39 @@ fn a_run_is_of_any_length(rt: HostRuntime) -> Result<(), Fail> {
     Ok(())
 }
 
+// The leftmost place of each piece is as good as any other, and the last piece has to end the text.
+#[test]
+fn a_piece_is_found_at_its_leftmost_place(rt: HostRuntime) -> Result<(), Fail> {
+    let alloc = rt.alloc();
+    assert!(rt; is_like(alloc, "aXaXabY", "a%ab%")? && is_like(alloc, "abab", "ab%ab%")?);
+    assert!(rt; !is_like(alloc, "aab", "a%ab%b")? && !is_like(alloc, "aab", "%ab%ab%")?);
+    assert!(rt; is_like(alloc, "aaab", "%aab%")? && is_like(alloc, "aaab", "%aab")?);
+    assert!(rt; is_like(alloc, "abab", "%ab%ab")? && !is_like(alloc, "aba", "%ab%ba")?);
+    Ok(())
+}
+
+#[test]
+fn the_last_piece_ends_the_text(rt: HostRuntime) -> Result<(), Fail> {
+    let alloc = rt.alloc();
+    assert!(rt; is_like(alloc, "abxab", "%ab")? && !is_like(alloc, "abx", "%ab")?);
+    assert!(rt; is_like(alloc, "ab", "%ab")? && !is_like(alloc, "b", "%ab")?);
+    assert!(rt; !is_like(alloc, "ab", "ab%b")? && is_like(alloc, "abb", "ab%b")?);
+    assert!(rt; is_like(alloc, "ab", "%%ab%%")? && is_like(alloc, "", "%%")?);
+    Ok(())
+}
+
+#[test]
+fn a_piece_has_places_for_any_character(rt: HostRuntime) -> Result<(), Fail> {
+    let alloc = rt.alloc();
+    assert!(rt; is_like(alloc, "xaxbx", "%a_b%")? && !is_like(alloc, "xabx", "%a_b%")?);
+    assert!(rt; is_like(alloc, "abc", "%_c")? && !is_like(alloc, "c", "%_c")?);
+    assert!(rt; is_like(alloc, "ab", "%_%_%")? && !is_like(alloc, "a", "%_%_%")?);
+    // In texts of other characters than ASCII too.
+    assert!(rt; is_like(alloc, "éaéébé", "%é_b%")? && !is_like(alloc, "éb€", "%é_b%")?);
+    assert!(rt; is_like(alloc, "€éé€", "%é%€")? && !is_like(alloc, "€éé", "%é%€")?);
+    Ok(())
+}
+
 #[test]
 fn one_character_is_no_byte(rt: HostRuntime) -> Result<(), Fail> {
     let alloc = rt.alloc();

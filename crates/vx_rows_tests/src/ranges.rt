@@ -1,9 +1,9 @@
 //! Whether rows lie between bounds: strict and not, nulls, columns of bounds, and refusals.
 
-use crate::columns::{by_codes, has_truths, text, texts, whole};
+use crate::columns::{by_codes, has_truths, is_true_between, rising, text, texts, whole};
 use std::test::Fail;
 use vx_base::Nullability::{NonNullable, Nullable};
-use vx_base::PType::{I32, U32};
+use vx_base::PType::{I32, U16, U32};
 use vx_base::{DType, Scalar, VortexError};
 use vx_fixtures::{accepted, context, flat, with_nulls};
 use vx_rows::{BetweenOptions, between, between_scalars};
@@ -30,6 +30,19 @@ fn each_bound_is_strict_by_itself(rt: HostRuntime) -> Result<(), Fail> {
     assert!(rt; has_truths(&lower, &[Some(false), Some(false), Some(true), Some(true)]));
     let upper = between_scalars(&column, &low, &high, strict(false, true), &mut ctx)?;
     assert!(rt; has_truths(&upper, &[Some(false), Some(true), Some(true), Some(false)]));
+    Ok(())
+}
+
+#[test]
+fn rows_of_several_blocks_lie_between(rt: HostRuntime) -> Result<(), Fail> {
+    let alloc = rt.alloc();
+    let mut ctx = context(alloc)?;
+    let (low, high) = (
+        whole(1_020, U16, NonNullable)?,
+        whole(2_048, U16, NonNullable)?,
+    );
+    let out = between_scalars(&rising(alloc)?, &low, &high, strict(false, true), &mut ctx)?;
+    assert!(rt; out.len() == 2_050 && is_true_between(&out, 1_020, 2_048));
     Ok(())
 }
 

@@ -7,6 +7,7 @@ ghost use Rattle.vx_rows.specs.Pairs.{whole_holds};
 ghost use Rattle.vx_rules.specs.Comparisons.{holds};
 ghost use Rattle.vx_values.specs.IntsOf.{wholes_of};
 
+use super::blocks::{WholeTest, test_each};
 use crate::ints::with_ints;
 use std::alloc::Global;
 use std::cmp::Ordering;
@@ -26,6 +27,24 @@ pub(crate) fn holds_with(
     with_ints!(values, items => holds_with_whole(alloc, operator, items.as_slice(), whole))
 }
 
+// An operator, and the number on its right.
+#[derive(Drop)]
+struct Compared {
+    operator: CompareOperator,
+    whole: i128,
+}
+
+impl WholeTest for Compared {
+    ghost passes = { λ test z. whole_holds test.operator test.whole z };
+
+    fn write<T: Integer>(&self, items: &[T], bits: &mut [bool]) {
+        match T::from_whole(self.whole) {
+            Some(other) => write_by_operator(self.operator, items, other, bits),
+            None => write_wide(self.operator, items, self.whole, bits),
+        }
+    }
+}
+
 // `holds_with` of items of one type.
 fn holds_with_whole<T: Integer>(
     alloc: Global,
@@ -35,12 +54,7 @@ fn holds_with_whole<T: Integer>(
 ) -> VortexResult<Mask>
     ensures { Answers result (map (whole_holds operator whole) (map T.whole items.now)) }
 {
-    let mut bits = vec![in alloc; false; items.len()]?;
-    match T::from_whole(whole) {
-        Some(other) => write_by_operator(operator, items, other, bits.as_mut_slice()),
-        None => write_wide(operator, items, whole, bits.as_mut_slice()),
-    }
-    Ok(Mask::from_bits(bits))
+    test_each(alloc, &Compared { operator, whole }, items)
 }
 
 // Writes whether the operator holds: one loop for each operator, which is a constant in it.

@@ -7,6 +7,7 @@ ghost use Rattle.vx_rows.specs.Pairs.{each_pair};
 ghost use Rattle.vx_rules.specs.Comparisons.{holds};
 ghost use Rattle.vx_values.specs.IntsOf.{wholes_of};
 
+use super::blocks::BLOCK_ROWS;
 use super::holding::item_holds;
 use crate::ints::with_pairs;
 use std::alloc::Global;
@@ -30,7 +31,7 @@ pub(crate) fn holds_between(
     )
 }
 
-// `holds_between` of items of one type: one loop for each operator, which is a constant in it.
+// `holds_between` of items of one type, block by block.
 fn holds_each<T: Integer>(
     alloc: Global,
     operator: CompareOperator,
@@ -40,17 +41,40 @@ fn holds_each<T: Integer>(
     requires { length items.now ≡ length others.now }
     ensures { Answers result (each_pair (λ z w. holds operator (int_cmp z w)) (map T.whole items.now) (map T.whole others.now)) }
 {
-    let mut bits = vec![in alloc; false; items.len()]?;
-    let part = bits.as_mut_slice();
-    match operator {
-        CompareOperator::Eq => write_each(CompareOperator::Eq, items, others, part),
-        CompareOperator::NotEq => write_each(CompareOperator::NotEq, items, others, part),
-        CompareOperator::Gt => write_each(CompareOperator::Gt, items, others, part),
-        CompareOperator::Gte => write_each(CompareOperator::Gte, items, others, part),
-        CompareOperator::Lt => write_each(CompareOperator::Lt, items, others, part),
-        CompareOperator::Lte => write_each(CompareOperator::Lte, items, others, part),
+    let mut bits = Vec::with_capacity(alloc, items.len())?;
+    for block in 0..items.len().div_ceil(BLOCK_ROWS) {
+        let start = BLOCK_ROWS * block;
+        let end = start + (items.len() - start).min(BLOCK_ROWS);
+        bits.resize(end, false)?;
+        write_by_operator(
+            operator,
+            &items[start..end],
+            &others[start..end],
+            bits.slice_mut(start..),
+        );
     }
     Ok(Mask::from_bits(bits))
+}
+
+// Writes whether the operator holds: one loop for each operator, which is a constant in it.
+fn write_by_operator<T: Integer>(
+    operator: CompareOperator,
+    items: &[T],
+    others: &[T],
+    bits: &mut [bool],
+)
+    requires lengths { length items.now ≡ length others.now }
+    requires room { length bits.old ≡ length items.now }
+    ensures { bits.new ≡ each_pair (λ z w. holds operator (int_cmp z w)) (map T.whole items.now) (map T.whole others.now) }
+{
+    match operator {
+        CompareOperator::Eq => write_each(CompareOperator::Eq, items, others, bits),
+        CompareOperator::NotEq => write_each(CompareOperator::NotEq, items, others, bits),
+        CompareOperator::Gt => write_each(CompareOperator::Gt, items, others, bits),
+        CompareOperator::Gte => write_each(CompareOperator::Gte, items, others, bits),
+        CompareOperator::Lt => write_each(CompareOperator::Lt, items, others, bits),
+        CompareOperator::Lte => write_each(CompareOperator::Lte, items, others, bits),
+    }
 }
 
 // Writes whether the operator holds between the items of each row.

@@ -7,6 +7,7 @@ ghost use Rattle.vx_rules.specs.Comparisons.{bound_operator, holds};
 ghost use Rattle.vx_rows.specs.Pairs.{whole_within};
 ghost use Rattle.vx_values.specs.IntsOf.{wholes_of};
 
+use super::blocks::{WholeTest, test_each};
 use super::holding::item_holds;
 use crate::ints::with_ints;
 use std::alloc::Global;
@@ -27,6 +28,30 @@ pub(crate) fn holds_within(
     with_ints!(values, items => within_wholes(alloc, options, items.as_slice(), low, high))
 }
 
+// Two bounds, each strict or not.
+#[derive(Drop)]
+struct Bounds {
+    options: BetweenOptions,
+    low: i128,
+    high: i128,
+}
+
+impl WholeTest for Bounds {
+    ghost passes = { λ test z. whole_within test.options test.low test.high z };
+
+    // In the items' type, where it holds both numbers.
+    fn write<T: Integer>(&self, items: &[T], bits: &mut [bool]) {
+        let Bounds { options, low, high } = *self;
+        match (T::from_whole(low), T::from_whole(high)) {
+            (Some(low), Some(high)) => write_by_options(options, items, low, high, bits),
+            _ => {
+                let (lower, upper) = (options.lower_operator(), options.upper_operator());
+                write_wide(lower, upper, items, low, high, bits);
+            }
+        }
+    }
+}
+
 // `holds_within` of items of one type.
 fn within_wholes<T: Integer>(
     alloc: Global,
@@ -37,29 +62,8 @@ fn within_wholes<T: Integer>(
 ) -> VortexResult<Mask>
     ensures { Answers result (map (whole_within options low high) (map T.whole items.now)) }
 {
-    let mut bits = vec![in alloc; false; items.len()]?;
-    write_wholes(options, items, low, high, bits.as_mut_slice());
-    Ok(Mask::from_bits(bits))
-}
-
-// Writes whether each item lies within: in the items' type, where it holds both numbers.
-fn write_wholes<T: Integer>(
-    options: BetweenOptions,
-    items: &[T],
-    low: i128,
-    high: i128,
-    bits: &mut [bool],
-)
-    requires { length bits.old ≡ length items.now }
-    ensures { bits.new ≡ map (whole_within options low high) (map T.whole items.now) }
-{
-    match (T::from_whole(low), T::from_whole(high)) {
-        (Some(low), Some(high)) => write_by_options(options, items, low, high, bits),
-        _ => {
-            let (lower, upper) = (options.lower_operator(), options.upper_operator());
-            write_wide(lower, upper, items, low, high, bits);
-        }
-    }
+    let bounds = Bounds { options, low, high };
+    test_each(alloc, &bounds, items)
 }
 
 // Writes whether each item lies within: one loop for each pair of operators, which are constants in it.

@@ -3,7 +3,7 @@
 ghost use Rattle.std.specs.Prelude.{◌≡◌, IsTrue, map};
 ghost use Rattle.vx_base.specs.Answers.{OrMemory};
 ghost use Rattle.vx_base.specs.CellValue.{cell_value};
-ghost use Rattle.vx_rows.specs.Suffixes.{plain_item};
+ghost use Rattle.vx_rows.specs.Items.{plain_item};
 ghost use Rattle.vx_rows.specs.Texts.{has_text, liked_items};
 ghost use Rattle.vx_rows.specs.Truths.{truth_or_null};
 ghost use Rattle.vx_rules.specs.Patterns.{liked};

@@ -4,28 +4,26 @@ ghost use Rattle.std.specs.Prelude.{◌≡◌, ◌++◌, IsTrue, map};
 ghost use Rattle.std.specs.Result.{OnOk};
 ghost use Rattle.std.specs.Str.{chars, is_utf8};
 ghost use Rattle.vx_base.specs.Answers.{Answers, OrMemory};
-ghost use Rattle.vx_rows.specs.Suffixes.{plain_item};
+ghost use Rattle.vx_rows.specs.Items.{plain_item};
 ghost use Rattle.vx_rules.specs.Patterns.{matches, pattern_items};
 
 use crate::pattern::{Item, read_pattern};
-use crate::suffixes::matches;
+use crate::searching::matches;
 use crate::text::Text;
 use std::alloc::{AllocError, Global};
 use vx_base::VortexResult;
 
-/// The characters of a text, and whether its suffixes match. Both grow to the longest text of a column and are reused from row to row:
-/// made anew they would cost four allocations in each row.
+/// The characters of a text that isn't ASCII, or of a pattern. They grow to the longest text of a column and are reused from row to
+/// row: made anew they would cost two allocations in each such row.
 #[derive(Drop)]
 pub(super) struct Room {
     chars: Vec<char>,
-    ends: Vec<bool>,
 }
 
 impl Room {
     pub(super) fn new(alloc: Global) -> Room {
         Room {
             chars: Vec::new(alloc),
-            ends: Vec::new(alloc),
         }
     }
 
@@ -44,11 +42,11 @@ impl Room {
         ensures { Answers result (matches (map plain_item items.now) (chars text.now)) }
     {
         if text.is_ascii() {
-            return matches(items, Text::Ascii(text), &mut self.ends);
+            return Ok(matches(items, Text::Ascii(text)));
         }
         read_characters(text, &mut self.chars)?;
         let decoded = Text::Decoded(self.chars.as_slice());
-        matches(items, decoded, &mut self.ends)
+        Ok(matches(items, decoded))
     }
 }
 

@@ -1,6 +1,6 @@
 use Rattle.std.proofs.Common.{◌≡◌, ◌++◌, drop, map}
 use Rattle.vx_rules.specs.Patterns.{pattern_items}
-use Rattle.vx_rows.specs.Suffixes.{left_items, plain_item}
+use Rattle.vx_rows.specs.Items.{left_items, plain_item}
 use Rattle.vx_rows.proofs.pattern.read_pattern.Given as goal
 
 -- the items so far, and those of what is left

@@ -4,7 +4,7 @@ use Rattle.vx_base.specs.PlainValue.{bytes, null}
 use Rattle.vx_model.proofs.FrameOfReferenceLemmas.{row_passes}
 use Rattle.vx_rules.specs.Patterns.{liked}
 use Rattle.vx_rows.specs.Readable.{lent_rows}
-use Rattle.vx_rows.specs.Suffixes.{plain_item}
+use Rattle.vx_rows.specs.Items.{plain_item}
 use Rattle.vx_rows.specs.Texts.{has_text}
 use Rattle.vx_rows.proofs.PairLemmas.{maps-done, maps-set}
 use Rattle.vx_rows.proofs.TextLemmas.{liked-items}
