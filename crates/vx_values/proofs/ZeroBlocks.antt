@@ -16,7 +16,7 @@ zeroed-append default (b ∷ bits) more [] ys h = absurd (omega (arith, h))
 zeroed-append default (b ∷ bits) more (x ∷ xs) ys h = ap (λ zs. cond b x default ∷ zs) (zeroed-append default bits more xs ys (omega (arith, h)))
 
 module _ {A : Type 0} (whole : A → ℤ) (copy items : List A) (bits : List Bool) (a : ℕ) (before : a ≤ length items) (done : map whole copy ≡ zeroed (pos 0) (take a bits) (take a (map whole items))) where
-  -- so many rows are copied
+  -- the copy has a rows
   copied-length : length copy ≡ a
   copied-length =
       sym (length-map copy whole) ∙ ap length done ∙ zeroed-length (pos 0) (take a bits) (take a (map whole items))
