@@ -1,5 +1,5 @@
 -- Sums of whole numbers: their size, and one number further.
-use Rattle.std.proofs.Common.{◌≡◌, ◌<◌, ◌≤◌, ◌∙◌, ℕ, zero, suc, ◌+◌, ◌*◌, ◌^◌, ℤ, pos, negsuc, ◌+ℤ◌, Bool, true, false, List, [], ◌∷◌, ◌++◌, map, take, length, get_or, Some, None, refl, sym, ap, subst, arith}
+use Rattle.std.proofs.Common.{◌≡◌, ◌<◌, ◌≤◌, ◌∙◌, ℕ, zero, suc, ◌+◌, ◌*◌, ◌/◌, ◌%◌, ◌^◌, ℤ, pos, negsuc, ◌+ℤ◌, Bool, true, false, List, [], ◌∷◌, ◌++◌, map, take, length, get_or, Some, None, refl, sym, ap, subst, arith}
 use Rattle.std.specs.Prelude.{unsigned_abs, FitsSigned, cond, count_by, replicate, ◌*ℤ◌}
 use Rattle.std.specs.Int.{w128}
 use Rattle.std.specs.List.{list_all}
@@ -7,6 +7,7 @@ use Rattle.std.proofs.lemmas.Bool.{and_parts, and_from}
 use Rattle.std.proofs.lemmas.List.{take_more, get_or-map, length-map, length-take-le}
 use Rattle.std.proofs.lemmas.Bool.Decides.{nat_tests}
 use Rattle.std.proofs.lemmas.Int.{fits_signed_from_abs, ints}
+use Rattle.std.proofs.Math.Nat.{mod-add-div}
 use Rattle.std.proofs.Math.IntN.{+ℤ_assoc, suc_ℤ-*ℤ}
 use Rattle.std.proofs.lemmas.List.Sums.{sum_by-cons}
 use Rattle.vx_base.specs.PlainValue.{PlainValue, int, null, truth, bytes, truth_or_false}
@@ -113,11 +114,19 @@ next-signed p zs i before t z s h few at same fit sum held =
     let long : length (take (i + 1) zs) ≡ i + 1 = length-take-le (i + 1) zs (omega arith) in
     record { fits = subst (FitsSigned w128) (sym is) (total-fits p (take (i + 1) zs) s all (omega arith)); is = is; held = all }
 
--- one natural number further
-pub next-natural : (zs : List ℤ) (i before t : ℕ) (z : ℤ) → i < length zs → z ≡ get_or zs i (pos 0) → pos t ≡ z → pos before ≡ total (take i zs) → pos (before + t) ≡ total (take (i + 1) zs)
-next-natural zs i before t z h at same sum =
-    let both : pos (before + t) ≡ pos before +ℤ pos t = omega (arith, ints) in
-    both ∙ (λ j. sum j +ℤ same j) ∙ sym (next-taken zs i z h at)
+-- one natural number further, added up by its halves
+pub next-halves : (zs : List ℤ) (i low high t : ℕ) (before z : ℤ) → i < length zs → z ≡ get_or zs i (pos 0) → pos t ≡ z → before +ℤ pos (low + 2 ^ 32 * high) ≡ total (take i zs)
+    → before +ℤ pos (low + t % 2 ^ 32 + 2 ^ 32 * (high + t / 2 ^ 32)) ≡ total (take (i + 1) zs)
+next-halves zs i low high t before z h at same sum =
+    let whole : low + t % 2 ^ 32 + 2 ^ 32 * (high + t / 2 ^ 32) ≡ low + 2 ^ 32 * high + t = omega (arith, mod-add-div t (2 ^ 32)) in
+    let further : before +ℤ pos (low + 2 ^ 32 * high + t) ≡ before +ℤ pos (low + 2 ^ 32 * high) +ℤ pos t = omega (arith, ints) in
+    ap (λ n. before +ℤ pos n) whole ∙ further ∙ (λ j. sum j +ℤ same j) ∙ sym (next-taken zs i z h at)
+
+-- one block further
+pub next-block : (zs : List ℤ) (start end sum block : ℕ) → pos sum ≡ total (take start zs) → total (take start zs) +ℤ pos block ≡ total (take end zs) → pos (sum + block) ≡ total (take end zs)
+next-block zs start end sum block before more =
+    let both : pos (sum + block) ≡ pos sum +ℤ pos block = omega (arith, ints) in
+    both ∙ ap (λ s. s +ℤ pos block) before ∙ more
 
 pub ruleset summing = (summands-int)
 

@@ -1,17 +1,22 @@
-use Rattle.std.proofs.Common.{◌<◌, map, length, arith}
-use Rattle.std.proofs.lemmas.List.{length-map}
-use Rattle.vx_rows.proofs.TotalLemmas.{item-at, next-natural}
+use Rattle.std.proofs.Common.{◌∙◌, ap, map, arith}
+use Rattle.std.proofs.lemmas.List.{length-map, take_all}
+use Rattle.vx_base.specs.Undelta.{total}
+use Rattle.vx_rows.proofs.TotalLemmas.{next-block}
 use Rattle.vx_rows.proofs.kernels.totals.unsigned_total.Goals as goal
 
-pub loop-row-preserved : goal.loop-row-preserved
-loop-row-preserved g c =
-    let whole = g.T.Integer.whole in
-    let items = c.args.items.now in
-    let zs = map whole items in
-    let x = c.index-items-row.result in
-    let long = length-map items whole in
-    let here : c.loop-row.row < length items = omega (arith, c.row_count-len.ensures) in
+pub overflow_add-total : goal.overflow_add-total
+overflow_add-total g c = omega (arith, c.loop-start.invariant.most, c.block_total-total.ensures.most, c.row_count-len.type_inv, c.row_count-len.ensures, c.min.ensures)
+
+pub loop-start-preserved : goal.loop-start-preserved
+loop-start-preserved g c =
+    let zs = map g.T.Integer.whole c.args.items.now in
     record {
-      sum = next-natural zs c.loop-row.row c.loop-row.total c.natural.result (whole x) (omega (arith, long)) (item-at whole items c.loop-row.row x here c.index-items-row.is) c.natural.ensures c.loop-row.invariant.sum;
-      most = omega (arith, c.loop-row.invariant.most, c.natural.type_inv);
+      rows = omega (arith, c.min.ensures, c.row_count-len.ensures);
+      sum = next-block zs c.loop-start.start _ c.loop-start.total c.block_total-total.result c.loop-start.invariant.sum c.block_total-total.ensures.sum;
+      most = omega (arith, c.loop-start.invariant.most, c.block_total-total.ensures.most);
     }
+
+pub returns : goal.returns
+returns g c =
+    let zs = map g.T.Integer.whole c.args.items.now in
+    c.loop-start.invariant.sum ∙ ap total (take_all c.loop-start.start zs (omega (arith, c.row_count-len.ensures, length-map c.args.items.now g.T.Integer.whole)))
