@@ -5,7 +5,7 @@ use Rattle.std.specs.List.{list_all, list_any}
 use Rattle.std.proofs.lemmas.List.{drop-drop, drop-map, length-drop, length-map, take-append-drop, take-map, take_all}
 use Rattle.std.proofs.lemmas.Bool.{and_from, and_parts, or_right}
 use Rattle.vx_rules.specs.Patterns.{PatternItem, any_run, any_char, exactly, matches, suffixes}
-use Rattle.vx_rows.specs.Items.{starts, takes, takes_one}
+use Rattle.vx_rows.specs.Items.{first_passes, starts, takes, takes_one}
 
 -- ---- truth values
 
@@ -216,6 +216,15 @@ module _ {A B : Type 0} (plain : A → PatternItem) (code : B → ℕ) where
     taken m f e =
         let one : m ≡ suc i = omega arith in
         both ∙ ap (λ t. t && left) e ∙ sym (ap (λ j. starts (drop j (map plain xs)) (drop j (map code ys))) one)
+
+-- the first character behind a place
+pub first-there : {B : Type 0} (code : B → ℕ) (passes : ℕ → Bool) (ys : List B) (i : ℕ) (y : B) → i < length ys → y ≡ get_or ys i y → passes (code y) ≡ first_passes passes (drop i (map code ys))
+first-there code passes ys i y h e = ap (λ z. passes (code z)) e ∙ at ys i h
+  where
+    at : (ys : List _) (i : ℕ) → i < length ys → passes (code (get_or ys i y)) ≡ first_passes passes (drop i (map code ys))
+    at [] i h = absurd (omega arith)
+    at (b ∷ ys) zero h = refl
+    at (b ∷ ys) (suc i) h = at ys i (omega arith)
 
 -- characters are their own codes
 pub codes_same : (cs : List ℕ) → map (λ c. c) cs ≡ cs

@@ -3,8 +3,6 @@ use Rattle.std.specs.Prelude.{ℕ, Bool, true, false, ◌&&◌, ◌==◌, if◌t
 use Rattle.vx_rules.specs.Patterns.{PatternItem, any_run, any_char, exactly, pattern_items}
 use Rattle.vx_rows.specs.declared.pattern.Item.{Item}
 use Rattle.vx_rows.specs.declared.pattern.Item.TheVariants.{AnyRun, AnyChar, Exactly}
-use Rattle.vx_rows.specs.declared.text.Text.{Text}
-use Rattle.vx_rows.specs.declared.text.Text.TheVariants.{Ascii, Decoded}
 
 -- an item as plain data
 abbrev pub plain_item : Item → PatternItem
@@ -15,11 +13,6 @@ plain_item (Exactly c) = exactly c
 -- the items of the rest of a pattern, which may be behind a backslash
 abbrev pub left_items : Bool → List ℕ → List PatternItem
 left_items is_escaped cs = if is_escaped then pattern_items (0x5c ∷ cs) else pattern_items cs
-
--- the characters of a text that is read
-abbrev pub text_chars : Text → List ℕ
-text_chars (Ascii bytes) = bytes.now
-text_chars (Decoded chars) = chars.now
 
 -- whether there is a first character, which passes
 abbrev pub first_passes : (ℕ → Bool) → List ℕ → Bool

@@ -7,6 +7,7 @@
 
 mod bases;
 mod casting;
+mod character;
 mod comparing;
 mod constancy;
 mod counting;
@@ -24,7 +25,6 @@ mod ranging;
 mod searching;
 mod stamps;
 mod summing;
-mod text;
 mod truths;
 mod used;
 

@@ -6,17 +6,17 @@
 
 ghost use Rattle.std.specs.List.{list_all};
 ghost use Rattle.std.specs.Prelude.{◌≡◌, ◌<◌, ◌≤◌, ◌+◌, ◌++◌, ◌∷◌, ℕ, IfSome, IsTrue, List, MatchOption, drop, false, length, map, take, true};
-ghost use Rattle.vx_rows.specs.Items.{fits_char, plain_item, starts, takes, takes_one, text_chars};
+ghost use Rattle.vx_rows.specs.Items.{first_passes, fits_char, plain_item, starts, takes, takes_one};
 ghost use Rattle.vx_rules.specs.Patterns.{PatternItem, any_run, matches};
 
+use crate::character::Character;
 use crate::pattern::Item;
-use crate::text::{Character, Text};
 
 /// Whether a text matches items.
 ///
 /// A text that differs in front of the first `%` is told by its first characters.
-pub(crate) fn matches(items: &[Item], text: Text<'_>) -> bool
-    ensures { result ≡ matches (map plain_item items.now) (text_chars text.entry) }
+pub(crate) fn matches<C: Character>(items: &[Item], text: &[C]) -> bool
+    ensures { result ≡ matches (map plain_item items.now) (map C.code text.now) }
 {
     let Some(count) = fitting(items, text) else {
         return false;
@@ -24,16 +24,16 @@ pub(crate) fn matches(items: &[Item], text: Text<'_>) -> bool
     if count == items.len() {
         return text.len() == count;
     }
-    some_suffix_matches(&items[count + 1..], text.after(count))
+    some_suffix_matches(&items[count + 1..], &text[count..])
 }
 
 // How many items are in front of the first that is any characters, each of which fits one character of the text; None where one of
 // them doesn't.
-fn fitting(items: &[Item], text: Text<'_>) -> Option<usize>
+fn fitting<C: Character>(items: &[Item], text: &[C]) -> Option<usize>
     ensures in_items { IfSome result (λ count. count ≤ length items.now) }
-    ensures in_text { IfSome result (λ count. count ≤ length (text_chars text.entry)) }
+    ensures in_text { IfSome result (λ count. count ≤ length text.now) }
     ensures run { IfSome result (λ count. count < length items.now → drop count (map plain_item items.now) ≡ any_run ∷ drop (count + 1) (map plain_item items.now)) }
-    ensures same { MatchOption result (matches (map plain_item items.now) (text_chars text.entry) ≡ false) (λ count. matches (map plain_item items.now) (text_chars text.entry) ≡ matches (drop count (map plain_item items.now)) (drop count (text_chars text.entry))) }
+    ensures same { MatchOption result (matches (map plain_item items.now) (map C.code text.now) ≡ false) (λ count. matches (map plain_item items.now) (map C.code text.now) ≡ matches (drop count (map plain_item items.now)) (drop count (map C.code text.now))) }
 {
     for place in 0..items.len() {
         let wanted = match items[place] {
@@ -41,16 +41,24 @@ fn fitting(items: &[Item], text: Text<'_>) -> Option<usize>
             Item::AnyChar => None,
             Item::Exactly(wanted) => Some(wanted),
         };
-        if !text.fits(place, wanted) {
+        if !fits_at(text, place, wanted) {
             return None;
         }
     }
     Some(items.len())
 }
 
+// Whether there is a character at a place, and it is the wanted one or any is.
+#[inline(always)]
+fn fits_at<C: Character>(text: &[C], place: usize, wanted: Option<char>) -> bool
+    ensures { result ≡ first_passes (fits_char wanted) (drop place (map C.code text.now)) }
+{
+    place < text.len() && text[place].fits(wanted)
+}
+
 // Whether some suffix of a text matches items.
-fn some_suffix_matches(items: &[Item], text: Text<'_>) -> bool
-    ensures { result ≡ matches (any_run ∷ map plain_item items.now) (text_chars text.entry) }
+fn some_suffix_matches<C: Character>(items: &[Item], text: &[C]) -> bool
+    ensures { result ≡ matches (any_run ∷ map plain_item items.now) (map C.code text.now) }
 {
     let mut left = items;
     let mut rest = text;
@@ -61,7 +69,7 @@ fn some_suffix_matches(items: &[Item], text: Text<'_>) -> bool
         }
         match behind_leftmost(&left[..count], rest) {
             Some(end) => {
-                rest = rest.after(end);
+                rest = &rest[end..];
                 left = &left[count + 1..];
             }
             None => return false,
@@ -94,50 +102,25 @@ fn takes_one(item: Item) -> bool
 }
 
 // Whether a text ends with characters that a piece fits.
-fn ends_with(piece: &[Item], text: Text<'_>) -> bool
+fn ends_with<C: Character>(piece: &[Item], text: &[C]) -> bool
     requires { IsTrue (list_all takes_one (map plain_item piece.now)) }
-    ensures { result ≡ matches (any_run ∷ map plain_item piece.now) (text_chars text.entry) }
+    ensures { result ≡ matches (any_run ∷ map plain_item piece.now) (map C.code text.now) }
 {
     if text.len() < piece.len() {
         return false;
     }
-    text_starts_with(piece, text.after(text.len() - piece.len()))
+    starts_with(piece, &text[text.len() - piece.len()..])
 }
 
 // Behind the leftmost place of a text at which a piece fits; None where it fits nowhere.
-fn behind_leftmost(piece: &[Item], text: Text<'_>) -> Option<usize>
+fn behind_leftmost<C: Character>(piece: &[Item], text: &[C]) -> Option<usize>
     requires { IsTrue (list_all takes_one (map plain_item piece.now)) }
-    ensures in_text { IfSome result (λ end. end ≤ length (text_chars text.entry)) }
-    ensures same { (rest : List PatternItem) → MatchOption result (matches (any_run ∷ map plain_item piece.now ++ any_run ∷ rest) (text_chars text.entry) ≡ false) (λ end. matches (any_run ∷ map plain_item piece.now ++ any_run ∷ rest) (text_chars text.entry) ≡ matches (any_run ∷ rest) (drop end (text_chars text.entry))) }
+    ensures in_text { IfSome result (λ end. end ≤ length text.now) }
+    ensures same { (rest : List PatternItem) → MatchOption result (matches (any_run ∷ map plain_item piece.now ++ any_run ∷ rest) (map C.code text.now) ≡ false) (λ end. matches (any_run ∷ map plain_item piece.now ++ any_run ∷ rest) (map C.code text.now) ≡ matches (any_run ∷ rest) (drop end (map C.code text.now))) }
 {
-    match leftmost_in_text(piece, text) {
+    match leftmost(piece, text) {
         Some(place) => Some(place + piece.len()),
         None => None,
-    }
-}
-
-// `leftmost` in either kind of text.
-#[tactic(auto, using(crate::proofs::SearchLemmas::codes_same))]
-fn leftmost_in_text(piece: &[Item], text: Text<'_>) -> Option<usize>
-    ensures in_text { IfSome result (λ place. place + length piece.now ≤ length (text_chars text.entry)) }
-    ensures before { IfSome result (λ place. (k : ℕ) → k < place → starts (map plain_item piece.now) (drop k (text_chars text.entry)) ≡ false) }
-    ensures there { MatchOption result ((k : ℕ) → starts (map plain_item piece.now) (drop k (text_chars text.entry)) ≡ false) (λ place. starts (map plain_item piece.now) (drop place (text_chars text.entry)) ≡ true) }
-{
-    match text {
-        Text::Ascii(bytes) => leftmost(piece, bytes),
-        Text::Decoded(chars) => leftmost(piece, chars),
-    }
-}
-
-// `starts_with` of either kind of text.
-#[tactic(auto, using(crate::proofs::SearchLemmas::codes_same))]
-fn text_starts_with(piece: &[Item], text: Text<'_>) -> bool
-    requires { length piece.now ≤ length (text_chars text) }
-    ensures { result ≡ starts (map plain_item piece.now) (text_chars text.entry) }
-{
-    match text {
-        Text::Ascii(bytes) => starts_with(piece, bytes),
-        Text::Decoded(chars) => starts_with(piece, chars),
     }
 }
 

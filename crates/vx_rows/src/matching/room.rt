@@ -9,7 +9,6 @@ ghost use Rattle.vx_rules.specs.Patterns.{matches, pattern_items};
 
 use crate::pattern::{Item, read_pattern};
 use crate::searching::matches;
-use crate::text::Text;
 use std::alloc::{AllocError, Global};
 use vx_base::VortexResult;
 
@@ -37,16 +36,16 @@ impl Room {
     }
 
     /// Whether a text matches items. Only one with a character beyond ASCII is decoded.
+    #[tactic(auto, using(crate::proofs::SearchLemmas::codes_same))]
     pub(super) fn text_matches(&mut self, text: &[u8], items: &[Item]) -> VortexResult<bool>
         requires { IsTrue (is_utf8 text.now) }
         ensures { Answers result (matches (map plain_item items.now) (chars text.now)) }
     {
         if text.is_ascii() {
-            return Ok(matches(items, Text::Ascii(text)));
+            return Ok(matches(items, text));
         }
         read_characters(text, &mut self.chars)?;
-        let decoded = Text::Decoded(self.chars.as_slice());
-        Ok(matches(items, decoded))
+        Ok(matches(items, self.chars.as_slice()))
     }
 }
 

@@ -1,15 +1,21 @@
 use Rattle.std.proofs.Common.{◌∙◌, ◌-◌, ap, arith, length, map, sym}
-use Rattle.vx_rows.specs.Items.{plain_item, starts, text_chars}
-use Rattle.vx_rows.proofs.SearchLemmas.{at-end, length-plain, too-short}
+use Rattle.std.proofs.lemmas.List.{length-map}
+use Rattle.vx_rows.specs.Items.{plain_item, starts}
+use Rattle.vx_rows.proofs.SearchLemmas.{at-end, length-plain, rest-of, too-short}
 use Rattle.vx_rows.proofs.searching.ends_with.Goals as goal
 
-pub returns-then-len-piece : goal.returns-then-len-piece
-returns-then-len-piece c =
+pub returns-then-text-piece : goal.returns-then-text-piece
+returns-then-text-piece g c =
     let piece = c.args.piece.now in
-    sym (too-short (map plain_item piece) (text_chars c.args.text) c.requires (omega (arith, length-plain plain_item piece, c.len.ensures, c.if-len-piece.true)))
+    let text = c.args.text.now in
+    let code = g.C.Character.code in
+    sym (too-short (map plain_item piece) (map code text) c.requires (omega (arith, length-plain plain_item piece, length-map text code, c.if-text-piece.true)))
 
 pub returns : goal.returns
-returns c =
+returns g c =
     let piece = c.args.piece.now in
-    c.text_starts_with.ensures ∙ ap (starts (map plain_item piece)) c.after.ensures
-    ∙ sym (at-end (map plain_item piece) (text_chars c.args.text) (c.len-2.result - length piece) c.requires (omega (arith, length-plain plain_item piece, c.len.ensures, c.len-2.ensures, c.if-len-piece.false)))
+    let text = c.args.text.now in
+    let code = g.C.Character.code in
+    let first = length text - length piece in
+    c.starts_with.ensures ∙ ap (starts (map plain_item piece)) (rest-of code text first)
+    ∙ sym (at-end (map plain_item piece) (map code text) first c.requires (omega (arith, length-plain plain_item piece, length-map text code, c.if-text-piece.false)))
