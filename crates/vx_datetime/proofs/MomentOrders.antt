@@ -10,7 +10,6 @@ use Rattle.vx_base.specs.Integers.{lies_in}
 use Rattle.vx_base.specs.PlainValue.{truth, int}
 use Rattle.vx_rules.specs.declared.options.BetweenOptions.{BetweenOptions}
 use Rattle.vx_rules.specs.declared.options.CompareOperator.{CompareOperator}
-use Rattle.vx_rules.specs.declared.options.CompareOperator.TheVariants as ops
 use Rattle.vx_rules.specs.Comparisons.{bound_operator, compared, holds, within_bounds}
 use Rattle.vx_time.specs.CanonicalParts.{is_canonical, parts_cmp}
 use Rattle.vx_time.specs.declared.parts.TimestampParts.{TimestampParts}

@@ -19,17 +19,17 @@ use Rattle.vx_time.specs.CanonicalParts.{parts_cmp}
 use Rattle.vx_time.specs.PartsOf.{units_per_second}
 use Rattle.vx_values.specs.IntsOf.{wholes_of}
 use Rattle.vx_datetime.specs.declared.kernels.part_rows.PartRows.{PartRows}
-use Rattle.vx_datetime.specs.Moments.{parts_at, row_parts}
+use Rattle.vx_datetime.specs.Moments.{ArePartRows, parts_at, row_parts}
 use Rattle.vx_datetime.proofs.ChosenParts.{days_long}
 use Rattle.vx_datetime.proofs.FurtherNulls.{further-long}
-use Rattle.vx_datetime.proofs.ReadRows.{AreRowsOf, bits-accepted, bits-as-days, bits-rows, days-read, valid-of-days}
+use Rattle.vx_datetime.proofs.ReadRows.{bits-accepted, bits-as-days, bits-rows, days-read, valid-of-days}
 use Rattle.vx_datetime.proofs.RowPairs.{pairs-answered}
 use Rattle.vx_datetime.proofs.StampTypes.{same-stamp}
 
 module _ (k j : PlainTimestamp) (n m : Nullability) (days seconds subseconds other_days other_seconds other_subseconds : Tree)
     (w : WellFormed (datetime_parts k n days seconds subseconds)) (v : WellFormed (datetime_parts j m other_days other_seconds other_subseconds))
     (units : j.unit ≡ k.unit) (lengths : length (rows other_days) ≡ length (rows days))
-    (r o : PartRows) (own : AreRowsOf days seconds subseconds r) (others : AreRowsOf other_days other_seconds other_subseconds o)
+    (r o : PartRows) (own : ArePartRows days seconds subseconds r) (others : ArePartRows other_days other_seconds other_subseconds o)
     (op : CompareOperator) (bits : List Bool) (is_bits : bits ≡ below (λ i. holds op (parts_cmp (row_parts r i) (row_parts o i))) (length (wholes_of r.days.now))) (valid : Validity) (is_valid : valid ≡ r.valid.now) where
   size : length bits ≡ length (wholes_of r.days.now)
   size = ap length is_bits ∙ length-map-range_with_len _ 0 (length (wholes_of r.days.now))
@@ -39,7 +39,7 @@ module _ (k j : PlainTimestamp) (n m : Nullability) (days seconds subseconds oth
 
   pub pairs-long : IfSome o.valid.now (λ more. length more ≡ length (rows (bool bits (kept valid) (or_nullable n m))))
   pairs-long =
-      further-long days other_days bits valid o.valid.now (or_nullable n m) (bits-as-days k n days seconds subseconds w r own bits size valid is_valid) (valid-of-days k n days seconds subseconds w r own bits size valid is_valid) others.valid_is lengths
+      further-long days other_days bits valid o.valid.now (or_nullable n m) (bits-as-days k n days seconds subseconds w r own bits size valid is_valid) (valid-of-days k n days seconds subseconds w r own bits size valid is_valid) others.valid lengths
 
   pub pairs-rows : valid_rows o.valid.now (rows (bool bits (kept valid) (or_nullable n m)))
       ≡ each_pair (compared op) (rows (datetime_parts k n days seconds subseconds)) (rows (datetime_parts j m other_days other_seconds other_subseconds))
@@ -49,8 +49,8 @@ module _ (k j : PlainTimestamp) (n m : Nullability) (days seconds subseconds oth
       let first = w.3 in
       let second = v.3 in
       let canonical = ap (λ d. are_canonical d (rows other_days) (rows other_seconds) (rows other_subseconds)) (sym same) ∙ second.canonical in
-      let found = is_bits ∙ (λ x. below (λ i. holds op (parts_cmp (parts_at (own.days_are x) (own.seconds_are x) (own.subseconds_are x) i) (parts_at (others.days_are x) (others.seconds_are x) (others.subseconds_are x) i))) (days-read days seconds subseconds r own x)) in
-      (λ x. valid_rows (others.valid_is x) (bits-rows k n days seconds subseconds w r own bits size valid is_valid (or_nullable n m) x))
+      let found = is_bits ∙ (λ x. below (λ i. holds op (parts_cmp (parts_at (own.days x) (own.seconds x) (own.subseconds x) i) (parts_at (others.days x) (others.seconds x) (others.subseconds x) i))) (days-read days seconds subseconds r own x)) in
+      (λ x. valid_rows (others.valid x) (bits-rows k n days seconds subseconds w r own bits size valid is_valid (or_nullable n m) x))
       ∙ pairs-answered op e (rows days) (rows seconds) (rows subseconds) (rows other_days) (rows other_seconds) (rows other_subseconds) first.seconds_length first.subseconds_length lengths second.seconds_length second.subseconds_length first.canonical canonical bits found
       ∙ ap (λ d. each_pair (compared op) (rows (datetime_parts k n days seconds subseconds)) (below (combined_at d (rows other_days) (rows other_seconds) (rows other_subseconds)) (length (rows other_days)))) (sym same)
 

@@ -17,15 +17,15 @@ use Rattle.vx_rules.specs.Comparisons.{between}
 use Rattle.vx_time.specs.PartsOf.{units_per_second}
 use Rattle.vx_values.specs.IntsOf.{wholes_of}
 use Rattle.vx_datetime.specs.declared.kernels.part_rows.PartRows.{PartRows}
-use Rattle.vx_datetime.specs.Moments.{lie_within, parts_at, row_parts}
+use Rattle.vx_datetime.specs.Moments.{ArePartRows, lie_within, parts_at, row_parts}
 use Rattle.vx_datetime.proofs.FurtherNulls.{further-long}
-use Rattle.vx_datetime.proofs.ReadRows.{AreRowsOf, bits-accepted, bits-as-days, bits-rows, days-read, valid-of-days}
+use Rattle.vx_datetime.proofs.ReadRows.{bits-accepted, bits-as-days, bits-rows, days-read, valid-of-days}
 use Rattle.vx_datetime.proofs.RowTriples.{triples-answered}
 
 module _ (k a b : PlainTimestamp) (n l h : Nullability) (days seconds subseconds low_days low_seconds low_subseconds high_days high_seconds high_subseconds : Tree)
     (w : WellFormed (datetime_parts k n days seconds subseconds)) (low : WellFormed (datetime_parts a l low_days low_seconds low_subseconds)) (high : WellFormed (datetime_parts b h high_days high_seconds high_subseconds))
     (low_unit : a.unit ≡ k.unit) (high_unit : b.unit ≡ k.unit) (low_length : length (rows low_days) ≡ length (rows days)) (high_length : length (rows high_days) ≡ length (rows days))
-    (r f c : PartRows) (own : AreRowsOf days seconds subseconds r) (lows : AreRowsOf low_days low_seconds low_subseconds f) (highs : AreRowsOf high_days high_seconds high_subseconds c)
+    (r f c : PartRows) (own : ArePartRows days seconds subseconds r) (lows : ArePartRows low_days low_seconds low_subseconds f) (highs : ArePartRows high_days high_seconds high_subseconds c)
     (options : BetweenOptions) (bits : List Bool) (is_bits : bits ≡ below (λ i. lie_within options (row_parts r i) (row_parts f i) (row_parts c i)) (length (wholes_of r.days.now))) (valid : Validity) (is_valid : valid ≡ r.valid.now) where
   size : length bits ≡ length (wholes_of r.days.now)
   size = ap length is_bits ∙ length-map-range_with_len _ 0 (length (wholes_of r.days.now))
@@ -35,11 +35,11 @@ module _ (k a b : PlainTimestamp) (n l h : Nullability) (days seconds subseconds
 
   pub lows-long : IfSome f.valid.now (λ more. length more ≡ length (rows (bool bits (kept valid) (or_nullable n (or_nullable l h)))))
   lows-long =
-      further-long days low_days bits valid f.valid.now (or_nullable n (or_nullable l h)) (bits-as-days k n days seconds subseconds w r own bits size valid is_valid) (valid-of-days k n days seconds subseconds w r own bits size valid is_valid) lows.valid_is low_length
+      further-long days low_days bits valid f.valid.now (or_nullable n (or_nullable l h)) (bits-as-days k n days seconds subseconds w r own bits size valid is_valid) (valid-of-days k n days seconds subseconds w r own bits size valid is_valid) lows.valid low_length
 
   pub highs-long : IfSome c.valid.now (λ more. length more ≡ length (rows (bool bits (kept valid) (or_nullable n (or_nullable l h)))))
   highs-long =
-      further-long days high_days bits valid c.valid.now (or_nullable n (or_nullable l h)) (bits-as-days k n days seconds subseconds w r own bits size valid is_valid) (valid-of-days k n days seconds subseconds w r own bits size valid is_valid) highs.valid_is high_length
+      further-long days high_days bits valid c.valid.now (or_nullable n (or_nullable l h)) (bits-as-days k n days seconds subseconds w r own bits size valid is_valid) (valid-of-days k n days seconds subseconds w r own bits size valid is_valid) highs.valid high_length
 
   pub ranges-rows : valid_rows c.valid.now (valid_rows f.valid.now (rows (bool bits (kept valid) (or_nullable n (or_nullable l h)))))
       ≡ rows_within options (rows (datetime_parts k n days seconds subseconds)) (rows (datetime_parts a l low_days low_seconds low_subseconds)) (rows (datetime_parts b h high_days high_seconds high_subseconds))
@@ -52,8 +52,8 @@ module _ (k a b : PlainTimestamp) (n l h : Nullability) (days seconds subseconds
       let third = high.3 in
       let low_canonical = ap (λ d. are_canonical d (rows low_days) (rows low_seconds) (rows low_subseconds)) (sym low_same) ∙ second.canonical in
       let high_canonical = ap (λ d. are_canonical d (rows high_days) (rows high_seconds) (rows high_subseconds)) (sym high_same) ∙ third.canonical in
-      let found = is_bits ∙ (λ x. below (λ i. lie_within options (parts_at (own.days_are x) (own.seconds_are x) (own.subseconds_are x) i) (parts_at (lows.days_are x) (lows.seconds_are x) (lows.subseconds_are x) i) (parts_at (highs.days_are x) (highs.seconds_are x) (highs.subseconds_are x) i)) (days-read days seconds subseconds r own x)) in
-      (λ x. valid_rows (highs.valid_is x) (valid_rows (lows.valid_is x) (bits-rows k n days seconds subseconds w r own bits size valid is_valid (or_nullable n (or_nullable l h)) x)))
+      let found = is_bits ∙ (λ x. below (λ i. lie_within options (parts_at (own.days x) (own.seconds x) (own.subseconds x) i) (parts_at (lows.days x) (lows.seconds x) (lows.subseconds x) i) (parts_at (highs.days x) (highs.seconds x) (highs.subseconds x) i)) (days-read days seconds subseconds r own x)) in
+      (λ x. valid_rows (highs.valid x) (valid_rows (lows.valid x) (bits-rows k n days seconds subseconds w r own bits size valid is_valid (or_nullable n (or_nullable l h)) x)))
       ∙ triples-answered options e (rows days) (rows seconds) (rows subseconds) (rows low_days) (rows low_seconds) (rows low_subseconds) (rows high_days) (rows high_seconds) (rows high_subseconds)
       first.seconds_length first.subseconds_length low_length second.seconds_length second.subseconds_length high_length third.seconds_length third.subseconds_length first.canonical low_canonical high_canonical bits found
       ∙ (λ x. rows_within options (rows (datetime_parts k n days seconds subseconds)) (below (combined_at (sym low_same x) (rows low_days) (rows low_seconds) (rows low_subseconds)) (length (rows low_days))) (below (combined_at (sym high_same x) (rows high_days) (rows high_seconds) (rows high_subseconds)) (length (rows high_days))))

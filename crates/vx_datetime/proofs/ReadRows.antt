@@ -8,9 +8,8 @@ use Rattle.vx_base.specs.PlainType.{integer_of, or_nullable}
 use Rattle.vx_base.specs.PlainType as types
 use Rattle.vx_base.specs.PlainValue.{truth, whole_or_zero}
 use Rattle.vx_base.specs.Timestamps.{PlainTimestamp}
-use Rattle.vx_datetime.specs.declared.kernels.part_rows.DecodedParts.{DecodedParts}
 use Rattle.vx_datetime.specs.declared.kernels.part_rows.PartRows.{PartRows}
-use Rattle.vx_datetime.specs.Moments.{AreDecoded, ArePartRows, part_tree}
+use Rattle.vx_datetime.specs.Moments.{ArePartRows}
 use Rattle.vx_model.specs.Plain.{validity}
 use Rattle.vx_model.specs.Refusals.{kept, primitive_refusal, validity_length}
 use Rattle.vx_model.specs.Rows.{rows, valid_rows}
@@ -22,40 +21,25 @@ use Rattle.vx_rows.proofs.TruthLemmas.{kept-rows}
 use Rattle.vx_values.specs.IntsOf.{wholes_of}
 use Rattle.vx_datetime.proofs.AnswersColumn.{bits-admitted, bits_long}
 
--- the whole numbers and the validity of the rows that were read are those of the array's parts
-pub record AreRowsOf (days seconds subseconds : Tree) (r : PartRows) : Type 0 where
-  pub days_are : wholes_of r.days.now ≡ map whole_or_zero (rows days)
-  pub valid_is : r.valid.now ≡ validity (rows days)
-  pub seconds_are : wholes_of r.seconds.now ≡ map whole_or_zero (rows seconds)
-  pub subseconds_are : wholes_of r.subseconds.now ≡ map whole_or_zero (rows subseconds)
-
-pub rows-of : (days seconds subseconds : Tree) (read : DecodedParts) (r : PartRows) → AreDecoded days seconds subseconds read → ArePartRows (part_tree read.days) (part_tree read.seconds) (part_tree read.subseconds) r → AreRowsOf days seconds subseconds r
-rows-of days seconds subseconds read r decoded own = record {
-  days_are = own.days ∙ ap (λ c. map whole_or_zero c.values) decoded.days.same;
-  valid_is = own.valid ∙ ap (λ c. validity c.values) decoded.days.same;
-  seconds_are = own.seconds ∙ ap (λ c. map whole_or_zero c.values) decoded.seconds.same;
-  subseconds_are = own.subseconds ∙ ap (λ c. map whole_or_zero c.values) decoded.subseconds.same;
-}
-
 -- the rows that were read of one array, and of one with as many rows
-module _ (days seconds subseconds : Tree) (r : PartRows) (own : AreRowsOf days seconds subseconds r) where
+module _ (days seconds subseconds : Tree) (r : PartRows) (own : ArePartRows days seconds subseconds r) where
   pub days-read : length (wholes_of r.days.now) ≡ length (rows days)
-  days-read = ap length own.days_are ∙ length-map (rows days) whole_or_zero
+  days-read = ap length own.days ∙ length-map (rows days) whole_or_zero
 
   pub seconds-read : length (rows seconds) ≡ length (rows days) → length (wholes_of r.seconds.now) ≡ length (rows days)
-  seconds-read l = ap length own.seconds_are ∙ length-map (rows seconds) whole_or_zero ∙ l
+  seconds-read l = ap length own.seconds ∙ length-map (rows seconds) whole_or_zero ∙ l
 
   pub subseconds-read : length (rows subseconds) ≡ length (rows days) → length (wholes_of r.subseconds.now) ≡ length (rows days)
-  subseconds-read l = ap length own.subseconds_are ∙ length-map (rows subseconds) whole_or_zero ∙ l
+  subseconds-read l = ap length own.subseconds ∙ length-map (rows subseconds) whole_or_zero ∙ l
 
 -- a truth value for each row that was read, null where the day is
-module _ (k : PlainTimestamp) (n : Nullability) (days seconds subseconds : Tree) (w : WellFormed (datetime_parts k n days seconds subseconds)) (r : PartRows) (own : AreRowsOf days seconds subseconds r)
+module _ (k : PlainTimestamp) (n : Nullability) (days seconds subseconds : Tree) (w : WellFormed (datetime_parts k n days seconds subseconds)) (r : PartRows) (own : ArePartRows days seconds subseconds r)
     (bits : List Bool) (size : length bits ≡ length (wholes_of r.days.now)) (valid : Validity) (is_valid : valid ≡ r.valid.now) where
   pub bits-as-days : length bits ≡ length (rows days)
-  bits-as-days = size ∙ ap length own.days_are ∙ length-map (rows days) whole_or_zero
+  bits-as-days = size ∙ ap length own.days ∙ length-map (rows days) whole_or_zero
 
   pub valid-of-days : valid ≡ validity (rows days)
-  valid-of-days = is_valid ∙ own.valid_is
+  valid-of-days = is_valid ∙ own.valid
 
   pub bits-accepted : (m : Nullability) → primitive_refusal (length bits) valid (or_nullable n m) ≡ None
   bits-accepted m =

@@ -1,5 +1,6 @@
 -- A timestamp by its parts, which rows in parts are compared with, and rows in parts as lists of whole numbers.
-use Rattle.std.specs.Prelude.{◌≡◌, ◌&&◌, ℕ, ℤ, pos, Bool, if◌then◌else◌, List, map, slice_index_or}
+use Rattle.std.specs.Prelude.{◌≡◌, ◌&&◌, ℕ, ℤ, pos, Bool, IsTrue, if◌then◌else◌, List, map, slice_index_or}
+use Rattle.vx_base.specs.PlainType.{is_integer}
 use Rattle.vx_base.specs.PlainValue.{whole_or_zero}
 use Rattle.vx_datetime.specs.declared.kernels.moments.Moment.{Moment}
 use Rattle.vx_datetime.specs.declared.kernels.part_rows.DecodedParts.{DecodedParts}
@@ -10,6 +11,7 @@ use Rattle.vx_model.specs.Column.{column_of}
 use Rattle.vx_model.specs.Plain.{IsPlain, validity}
 use Rattle.vx_model.specs.Rows.{rows}
 use Rattle.vx_model.specs.Tree.{Tree}
+use Rattle.vx_model.specs.TreeType.{tree_type}
 use Rattle.vx_rules.specs.declared.options.BetweenOptions.{BetweenOptions}
 use Rattle.vx_rules.specs.declared.options.CompareOperator.{CompareOperator}
 use Rattle.vx_rules.specs.declared.options.CompareOperator.TheVariants as ops
@@ -54,6 +56,17 @@ pub record AreDecoded (d s u : Tree) (read : DecodedParts) : Type 0 where
   pub days : IsDecoded d (part_tree read.days)
   pub seconds : IsDecoded s (part_tree read.seconds)
   pub subseconds : IsDecoded u (part_tree read.subseconds)
+
+-- a plain column of whole numbers
+pub record IsReadable (tree : Tree) : Type 0 where
+  pub plain : IsPlain tree
+  pub integers : IsTrue (is_integer (tree_type tree))
+
+-- three of them
+pub record AreReadable (read : DecodedParts) : Type 0 where
+  pub days : IsReadable (part_tree read.days)
+  pub seconds : IsReadable (part_tree read.seconds)
+  pub subseconds : IsReadable (part_tree read.subseconds)
 
 -- what the rows of three columns are: whole numbers, 0 beneath nulls, and the validity of the days
 pub record ArePartRows (d s u : Tree) (r : PartRows) : Type 0 where

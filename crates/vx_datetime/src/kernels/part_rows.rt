@@ -1,13 +1,13 @@
 //! Rows in parts, read as integers where they stand plain, and else decoded first.
 
-ghost use Rattle.std.specs.Prelude.{◌≡◌, IsTrue, map};
+ghost use Rattle.std.specs.Prelude.{◌≡◌, map};
 ghost use Rattle.vx_base.specs.Answers.{OrMemory};
-ghost use Rattle.vx_base.specs.PlainType.{is_integer};
 ghost use Rattle.vx_base.specs.PlainValue.{whole_or_zero};
-ghost use Rattle.vx_datetime.specs.Moments.{AreDecoded, ArePartRows, IsDecoded, part_tree};
-ghost use Rattle.vx_model.specs.Plain.{IsPlain, validity};
+ghost use Rattle.vx_datetime.specs.Moments.{AreDecoded, ArePartRows, AreReadable, IsDecoded, IsReadable, part_tree};
+ghost use Rattle.vx_model.specs.Plain.{validity};
 ghost use Rattle.vx_model.specs.Rows.{rows};
-ghost use Rattle.vx_model.specs.TreeType.{tree_type};
+ghost use Rattle.vx_model.specs.Tree.{Tree, datetime_parts};
+ghost use Rattle.vx_model.specs.WellFormed.{WellFormed};
 ghost use Rattle.vx_values.specs.IntsOf.{wholes_of};
 
 use super::parts::Parts;
@@ -40,9 +40,11 @@ pub(super) struct PartRows<'a> {
     pub(super) subseconds: &'a Ints,
 }
 
-/// The parts, each decoded unless it is plain.
+/// The parts of an array, each decoded unless it is plain.
 pub(super) fn decoded_parts<'a>(alloc: Global, parts: &Parts<'a>) -> VortexResult<DecodedParts<'a>>
-    ensures { OrMemory result (λ read. AreDecoded parts.now.days.now parts.now.seconds.now parts.now.subseconds.now read) }
+    requires { WellFormed (datetime_parts parts.now.kind.now parts.now.nullability parts.now.days.now parts.now.seconds.now parts.now.subseconds.now) }
+    ensures decoded { OrMemory result (λ read. AreDecoded parts.now.days.now parts.now.seconds.now parts.now.subseconds.now read) }
+    ensures readable { OrMemory result (λ read. AreReadable read) }
 {
     let days = decoded_part(alloc, parts.days)?;
     let seconds = decoded_part(alloc, parts.seconds)?;
@@ -67,8 +69,7 @@ pub(super) fn decoded_part(alloc: Global, part: &ArrayRef) -> VortexResult<Plain
 
 /// The integers and the validity that a plain column stores.
 fn stored(column: &ArrayRef) -> (&Ints, &Option<Mask>)
-    requires plain { IsPlain column.now }
-    requires integers { IsTrue (is_integer (tree_type column.now)) }
+    requires { IsReadable column.now }
     ensures values { wholes_of result.0.now ≡ map whole_or_zero (rows column.now) }
     ensures valid { result.1.now ≡ validity (rows column.now) }
 {
@@ -90,13 +91,8 @@ impl PlainPart<'_> {
 impl DecodedParts<'_> {
     /// The integers.
     pub(super) fn rows(&self) -> PartRows<'_>
-        requires plain_days { IsPlain (part_tree self.now.days) }
-        requires plain_seconds { IsPlain (part_tree self.now.seconds) }
-        requires plain_subseconds { IsPlain (part_tree self.now.subseconds) }
-        requires days { IsTrue (is_integer (tree_type (part_tree self.now.days))) }
-        requires seconds { IsTrue (is_integer (tree_type (part_tree self.now.seconds))) }
-        requires subseconds { IsTrue (is_integer (tree_type (part_tree self.now.subseconds))) }
-        ensures { ArePartRows (part_tree self.now.days) (part_tree self.now.seconds) (part_tree self.now.subseconds) result }
+        requires { AreReadable self.now }
+        ensures { (d s u : Tree) → AreDecoded d s u self.now → ArePartRows d s u result }
     {
         let (days, valid) = stored(self.days.tree());
         let (seconds, _) = stored(self.seconds.tree());

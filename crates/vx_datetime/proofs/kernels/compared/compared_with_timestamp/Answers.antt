@@ -2,7 +2,7 @@ use Rattle.std.proofs.Common.{◌≡◌, ◌∙◌, ◌<ℤ◌, Bool, ap, pos, r
 use Rattle.std.specs.Int.{w64}
 use Rattle.std.proofs.lemmas.Int.{to_z-of_z}
 use Rattle.vx_base.specs.PlainValue.{PlainValue, int, truth}
-use Rattle.vx_datetime.specs.Moments.{moment_parts, part_tree}
+use Rattle.vx_datetime.specs.Moments.{moment_parts}
 use Rattle.vx_model.specs.Column.{column_of}
 use Rattle.vx_model.specs.Refusals.{kept, primitive_refusal}
 use Rattle.vx_model.specs.Tree.{bool}
@@ -12,46 +12,25 @@ use Rattle.vx_time.specs.CanonicalParts.{is_canonical, parts_cmp}
 use Rattle.vx_time.specs.declared.parts.TimestampParts.{TimestampParts}
 use Rattle.vx_time.specs.PartsOf.{parts_of, sum_of, units_per_second}
 use Rattle.vx_datetime.proofs.MomentOrders.{compared-moment}
-use Rattle.vx_datetime.proofs.PartReads.{days-integer, found-admitted, found-column, same-integer, seconds-integer, seconds-long, subseconds-integer, subseconds-long}
+use Rattle.vx_datetime.proofs.PartReads.{found-admitted, found-column, seconds-long, subseconds-long}
 use Rattle.vx_datetime.proofs.StampTypes.{divisor-is, divisor-positive}
 use Rattle.vx_datetime.proofs.kernels.compared.compared_with_timestamp.Goals as goal
+
+pub rows-rows-requires : goal.rows-rows-requires
+rows-rows-requires c = c.in_ok-read.ensures.readable
 
 pub moment_of-moment-requires : goal.moment_of-moment-requires
 moment_of-moment-requires c = subst (λ x. pos 0 <ℤ x) (sym (to_z-of_z w64 c.args.divisor c.ranges.divisor)) (divisor-positive c.args.parts.now.kind.now.unit c.args.divisor c.requires.divisor)
 
-pub rows-rows-requires-clause-plain_days : goal.rows-rows-requires-clause-plain_days
-rows-rows-requires-clause-plain_days c = c.in_ok-read.ensures.days.plain
-
-pub rows-rows-requires-clause-plain_seconds : goal.rows-rows-requires-clause-plain_seconds
-rows-rows-requires-clause-plain_seconds c = c.in_ok-read.ensures.seconds.plain
-
-pub rows-rows-requires-clause-plain_subseconds : goal.rows-rows-requires-clause-plain_subseconds
-rows-rows-requires-clause-plain_subseconds c = c.in_ok-read.ensures.subseconds.plain
-
-pub rows-rows-requires-clause-days : goal.rows-rows-requires-clause-days
-rows-rows-requires-clause-days c =
-    let p = c.args.parts.now in
-    same-integer p.days.now (part_tree c.in_ok-read.read.days) c.in_ok-read.ensures.days.same (days-integer p.kind.now p.nullability p.days.now p.seconds.now p.subseconds.now c.requires.well)
-
-pub rows-rows-requires-clause-seconds : goal.rows-rows-requires-clause-seconds
-rows-rows-requires-clause-seconds c =
-    let p = c.args.parts.now in
-    same-integer p.seconds.now (part_tree c.in_ok-read.read.seconds) c.in_ok-read.ensures.seconds.same (seconds-integer p.kind.now p.nullability p.days.now p.seconds.now p.subseconds.now c.requires.well)
-
-pub rows-rows-requires-clause-subseconds : goal.rows-rows-requires-clause-subseconds
-rows-rows-requires-clause-subseconds c =
-    let p = c.args.parts.now in
-    same-integer p.subseconds.now (part_tree c.in_ok-read.read.subseconds) c.in_ok-read.ensures.subseconds.same (subseconds-integer p.kind.now p.nullability p.days.now p.seconds.now p.subseconds.now c.requires.well)
-
 pub holds_at_each-requires-clause-seconds : goal.holds_at_each-requires-clause-seconds
 holds_at_each-requires-clause-seconds c =
     let p = c.args.parts.now in
-    seconds-long p.kind.now p.nullability c.args.nullability p.days.now p.seconds.now p.subseconds.now c.requires.well c.in_ok-read.read c.in_ok-read.ensures c.rows-rows.result c.rows-rows.ensures
+    seconds-long p.kind.now p.nullability c.args.nullability p.days.now p.seconds.now p.subseconds.now c.requires.well c.rows-rows.result (c.rows-rows.ensures p.days.now p.seconds.now p.subseconds.now c.in_ok-read.ensures.decoded)
 
 pub holds_at_each-requires-clause-subseconds : goal.holds_at_each-requires-clause-subseconds
 holds_at_each-requires-clause-subseconds c =
     let p = c.args.parts.now in
-    subseconds-long p.kind.now p.nullability c.args.nullability p.days.now p.seconds.now p.subseconds.now c.requires.well c.in_ok-read.read c.in_ok-read.ensures c.rows-rows.result c.rows-rows.ensures
+    subseconds-long p.kind.now p.nullability c.args.nullability p.days.now p.seconds.now p.subseconds.now c.requires.well c.rows-rows.result (c.rows-rows.ensures p.days.now p.seconds.now p.subseconds.now c.in_ok-read.ensures.decoded)
 
 pub bool_of-requires : goal.bool_of-requires
 bool_of-requires c =
@@ -68,7 +47,7 @@ bool_of-requires c =
     λ q h. compared-moment c.args.operator (units_per_second u) t moment q c.requires.held is_moment h
     in
     ap (primitive_refusal (length c.in_ok-bits.bits) c.in_ok-valid.valid) c.or.ensures
-    ∙ found-admitted p.kind.now p.nullability c.args.nullability p.days.now p.seconds.now p.subseconds.now c.requires.well c.in_ok-read.read c.in_ok-read.ensures c.rows-rows.result c.rows-rows.ensures found g refl of_parts c.in_ok-bits.bits c.in_ok-bits.ensures c.in_ok-valid.valid c.in_ok-valid.ensures
+    ∙ found-admitted p.kind.now p.nullability c.args.nullability p.days.now p.seconds.now p.subseconds.now c.requires.well c.rows-rows.result (c.rows-rows.ensures p.days.now p.seconds.now p.subseconds.now c.in_ok-read.ensures.decoded) found g refl of_parts c.in_ok-bits.bits c.in_ok-bits.ensures c.in_ok-valid.valid c.in_ok-valid.ensures
 
 pub returns : goal.returns
 returns c =
@@ -85,4 +64,4 @@ returns c =
     λ q h. compared-moment c.args.operator (units_per_second u) t moment q c.requires.held is_moment h
     in
     ap column_of (c.bool_of.ensures ∙ ap (bool c.in_ok-bits.bits (kept c.in_ok-valid.valid)) c.or.ensures)
-    ∙ found-column p.kind.now p.nullability c.args.nullability p.days.now p.seconds.now p.subseconds.now c.requires.well c.in_ok-read.read c.in_ok-read.ensures c.rows-rows.result c.rows-rows.ensures found g refl of_parts c.in_ok-bits.bits c.in_ok-bits.ensures c.in_ok-valid.valid c.in_ok-valid.ensures
+    ∙ found-column p.kind.now p.nullability c.args.nullability p.days.now p.seconds.now p.subseconds.now c.requires.well c.rows-rows.result (c.rows-rows.ensures p.days.now p.seconds.now p.subseconds.now c.in_ok-read.ensures.decoded) found g refl of_parts c.in_ok-bits.bits c.in_ok-bits.ensures c.in_ok-valid.valid c.in_ok-valid.ensures

@@ -3,7 +3,7 @@ use Rattle.std.specs.Int.{w64}
 use Rattle.std.specs.Prelude.{◌&&◌, length}
 use Rattle.std.proofs.lemmas.Int.{to_z-of_z}
 use Rattle.vx_base.specs.PlainValue.{PlainValue, int, truth}
-use Rattle.vx_datetime.specs.Moments.{floor_operator, moment_parts, part_tree}
+use Rattle.vx_datetime.specs.Moments.{floor_operator, moment_parts}
 use Rattle.vx_model.specs.Column.{column_of}
 use Rattle.vx_model.specs.Refusals.{kept, primitive_refusal}
 use Rattle.vx_model.specs.Tree.{bool}
@@ -13,9 +13,12 @@ use Rattle.vx_time.specs.declared.parts.TimestampParts.{TimestampParts}
 use Rattle.vx_time.specs.PartsOf.{parts_of, sum_of, units_per_second}
 use Rattle.vx_time.proofs.Held.{fits-I64}
 use Rattle.vx_datetime.proofs.MomentOrders.{within-moments}
-use Rattle.vx_datetime.proofs.PartReads.{days-integer, found-admitted, found-column, same-integer, seconds-integer, seconds-long, subseconds-integer, subseconds-long}
+use Rattle.vx_datetime.proofs.PartReads.{found-admitted, found-column, seconds-long, subseconds-long}
 use Rattle.vx_datetime.proofs.StampTypes.{divisor-is, divisor-positive}
 use Rattle.vx_datetime.proofs.kernels.within.within_timestamps.Goals as goal
+
+pub rows-rows-requires : goal.rows-rows-requires
+rows-rows-requires c = c.in_ok-read.ensures.readable
 
 pub moment_of-low-requires : goal.moment_of-low-requires
 moment_of-low-requires c = subst (λ x. pos 0 <ℤ x) (sym (to_z-of_z w64 c.args.divisor c.ranges.divisor)) (divisor-positive c.args.parts.now.kind.now.unit c.args.divisor c.requires.divisor)
@@ -23,39 +26,15 @@ moment_of-low-requires c = subst (λ x. pos 0 <ℤ x) (sym (to_z-of_z w64 c.args
 pub moment_of-high-requires : goal.moment_of-high-requires
 moment_of-high-requires c = subst (λ x. pos 0 <ℤ x) (sym (to_z-of_z w64 c.args.divisor c.ranges.divisor)) (divisor-positive c.args.parts.now.kind.now.unit c.args.divisor c.requires.divisor)
 
-pub rows-rows-requires-clause-plain_days : goal.rows-rows-requires-clause-plain_days
-rows-rows-requires-clause-plain_days c = c.in_ok-read.ensures.days.plain
-
-pub rows-rows-requires-clause-plain_seconds : goal.rows-rows-requires-clause-plain_seconds
-rows-rows-requires-clause-plain_seconds c = c.in_ok-read.ensures.seconds.plain
-
-pub rows-rows-requires-clause-plain_subseconds : goal.rows-rows-requires-clause-plain_subseconds
-rows-rows-requires-clause-plain_subseconds c = c.in_ok-read.ensures.subseconds.plain
-
-pub rows-rows-requires-clause-days : goal.rows-rows-requires-clause-days
-rows-rows-requires-clause-days c =
-    let p = c.args.parts.now in
-    same-integer p.days.now (part_tree c.in_ok-read.read.days) c.in_ok-read.ensures.days.same (days-integer p.kind.now p.nullability p.days.now p.seconds.now p.subseconds.now c.requires.well)
-
-pub rows-rows-requires-clause-seconds : goal.rows-rows-requires-clause-seconds
-rows-rows-requires-clause-seconds c =
-    let p = c.args.parts.now in
-    same-integer p.seconds.now (part_tree c.in_ok-read.read.seconds) c.in_ok-read.ensures.seconds.same (seconds-integer p.kind.now p.nullability p.days.now p.seconds.now p.subseconds.now c.requires.well)
-
-pub rows-rows-requires-clause-subseconds : goal.rows-rows-requires-clause-subseconds
-rows-rows-requires-clause-subseconds c =
-    let p = c.args.parts.now in
-    same-integer p.subseconds.now (part_tree c.in_ok-read.read.subseconds) c.in_ok-read.ensures.subseconds.same (subseconds-integer p.kind.now p.nullability p.days.now p.seconds.now p.subseconds.now c.requires.well)
-
 pub lies_at_each-requires-clause-seconds : goal.lies_at_each-requires-clause-seconds
 lies_at_each-requires-clause-seconds c =
     let p = c.args.parts.now in
-    seconds-long p.kind.now p.nullability c.args.nullability p.days.now p.seconds.now p.subseconds.now c.requires.well c.in_ok-read.read c.in_ok-read.ensures c.rows-rows.result c.rows-rows.ensures
+    seconds-long p.kind.now p.nullability c.args.nullability p.days.now p.seconds.now p.subseconds.now c.requires.well c.rows-rows.result (c.rows-rows.ensures p.days.now p.seconds.now p.subseconds.now c.in_ok-read.ensures.decoded)
 
 pub lies_at_each-requires-clause-subseconds : goal.lies_at_each-requires-clause-subseconds
 lies_at_each-requires-clause-subseconds c =
     let p = c.args.parts.now in
-    subseconds-long p.kind.now p.nullability c.args.nullability p.days.now p.seconds.now p.subseconds.now c.requires.well c.in_ok-read.read c.in_ok-read.ensures c.rows-rows.result c.rows-rows.ensures
+    subseconds-long p.kind.now p.nullability c.args.nullability p.days.now p.seconds.now p.subseconds.now c.requires.well c.rows-rows.result (c.rows-rows.ensures p.days.now p.seconds.now p.subseconds.now c.in_ok-read.ensures.decoded)
 
 pub bool_of-requires : goal.bool_of-requires
 bool_of-requires c =
@@ -77,7 +56,7 @@ bool_of-requires c =
     λ q h. within-moments c.args.options (units_per_second u) a b low high q c.requires.low c.requires.high is_low is_high h
     in
     ap (primitive_refusal (length c.in_ok-bits.bits) c.in_ok-valid.valid) c.or.ensures
-    ∙ found-admitted p.kind.now p.nullability c.args.nullability p.days.now p.seconds.now p.subseconds.now c.requires.well c.in_ok-read.read c.in_ok-read.ensures c.rows-rows.result c.rows-rows.ensures found g refl of_parts c.in_ok-bits.bits c.in_ok-bits.ensures c.in_ok-valid.valid c.in_ok-valid.ensures
+    ∙ found-admitted p.kind.now p.nullability c.args.nullability p.days.now p.seconds.now p.subseconds.now c.requires.well c.rows-rows.result (c.rows-rows.ensures p.days.now p.seconds.now p.subseconds.now c.in_ok-read.ensures.decoded) found g refl of_parts c.in_ok-bits.bits c.in_ok-bits.ensures c.in_ok-valid.valid c.in_ok-valid.ensures
 
 pub returns : goal.returns
 returns c =
@@ -99,4 +78,4 @@ returns c =
     λ q h. within-moments c.args.options (units_per_second u) a b low high q c.requires.low c.requires.high is_low is_high h
     in
     ap column_of (c.bool_of.ensures ∙ ap (bool c.in_ok-bits.bits (kept c.in_ok-valid.valid)) c.or.ensures)
-    ∙ found-column p.kind.now p.nullability c.args.nullability p.days.now p.seconds.now p.subseconds.now c.requires.well c.in_ok-read.read c.in_ok-read.ensures c.rows-rows.result c.rows-rows.ensures found g refl of_parts c.in_ok-bits.bits c.in_ok-bits.ensures c.in_ok-valid.valid c.in_ok-valid.ensures
+    ∙ found-column p.kind.now p.nullability c.args.nullability p.days.now p.seconds.now p.subseconds.now c.requires.well c.rows-rows.result (c.rows-rows.ensures p.days.now p.seconds.now p.subseconds.now c.in_ok-read.ensures.decoded) found g refl of_parts c.in_ok-bits.bits c.in_ok-bits.ensures c.in_ok-valid.valid c.in_ok-valid.ensures
