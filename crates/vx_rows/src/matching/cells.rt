@@ -33,6 +33,7 @@ pub(super) fn row_liked(
 }
 
 /// Whether a text matches the items of a pattern, None where it is null.
+#[inline(always)]
 pub(super) fn cell_liked(
     room: &mut Room,
     text: Cell<'_>,

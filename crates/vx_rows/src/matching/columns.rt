@@ -1,21 +1,27 @@
 //! Texts that are read where they stand and their patterns, row by row.
 
 ghost use Rattle.std.specs.List.{list_all};
-ghost use Rattle.std.specs.Prelude.{◌≡◌, IsTrue, length, map};
+ghost use Rattle.std.specs.Prelude.{◌≡◌, IsTrue, length, map, true};
 ghost use Rattle.std.specs.Str.{is_utf8};
 ghost use Rattle.vx_base.specs.Answers.{Answers};
 ghost use Rattle.vx_base.specs.PlainValue.{bytes};
+ghost use Rattle.vx_model.specs.Refusals.{validity_length};
+ghost use Rattle.vx_model.specs.Rows.{valid_rows};
+ghost use Rattle.vx_rows.specs.Items.{plain_item};
 ghost use Rattle.vx_rows.specs.Readable.{is_whole, lent_rows};
-ghost use Rattle.vx_rows.specs.Texts.{has_text, liked_rows};
+ghost use Rattle.vx_rows.specs.Texts.{has_text, liked_items, liked_rows};
 ghost use Rattle.vx_rules.specs.Patterns.{liked};
 
 use super::cells::{cell_liked, row_liked};
 use super::room::Room;
 use crate::lent::{Lent, same_bytes};
+use crate::pattern::Item;
 use crate::truths::{Truths, TruthsBuilder};
 use std::alloc::Global;
-use vx_base::VortexResult;
+use vx_base::{ByteRows, Mask, VortexResult};
+use vx_flat::view_at;
 use vx_rules::LikeOptions;
+use vx_values::copy_validity;
 
 /// Whether each text matches the pattern of its row. One pattern for all rows is read once.
 pub(super) fn liked_rows(
@@ -56,9 +62,51 @@ fn liked_by_one(
     let mut room = Room::new(alloc);
     let mut items = Vec::new(alloc);
     room.read_items(pattern, &mut items)?;
+    match texts {
+        Lent::Bytes(rows, valid) => {
+            stored_liked(alloc, &mut room, rows, valid, items.as_slice(), options)
+        }
+        _ => cells_liked(alloc, &mut room, texts, items.as_slice(), options),
+    }
+}
+
+// Whether each stored text matches the items of a pattern. The bit beneath a null is false, and not seen.
+fn stored_liked(
+    alloc: Global,
+    room: &mut Room,
+    rows: &ByteRows,
+    valid: &Option<Mask>,
+    items: &[Item],
+    options: LikeOptions,
+) -> VortexResult<Truths>
+    requires whole { validity_length valid.now (length rows.now) ≡ true }
+    requires utf8 { IsTrue (list_all has_text (valid_rows valid.now (map bytes rows.now))) }
+    ensures { Answers result (map (λ v. liked_items options v (map plain_item items.now)) (valid_rows valid.now (map bytes rows.now))) }
+{
+    let mut bits = vec![in alloc; false; rows.len() as usize]?;
+    for row in 0..rows.len() {
+        let found = cell_liked(room, view_at(rows, valid, row), items, options)?;
+        bits[row as usize] = found.unwrap_or(false);
+    }
+    let valid = copy_validity(alloc, valid)?;
+    Ok(Truths::new(Mask::from_bits(bits), valid))
+}
+
+// Whether each text matches the items of a pattern.
+fn cells_liked(
+    alloc: Global,
+    room: &mut Room,
+    texts: Lent<'_>,
+    items: &[Item],
+    options: LikeOptions,
+) -> VortexResult<Truths>
+    requires texts { IsTrue (is_whole texts) }
+    requires utf8 { IsTrue (list_all has_text (lent_rows texts)) }
+    ensures { Answers result (map (λ v. liked_items options v (map plain_item items.now)) (lent_rows texts.entry)) }
+{
     let mut truths = TruthsBuilder::nulls(alloc, texts.len())?;
     for row in 0..texts.len() {
-        let answer = cell_liked(&mut room, texts.cell(row), items.as_slice(), options)?;
+        let answer = cell_liked(room, texts.cell(row), items, options)?;
         truths.set(row, answer);
     }
     Ok(truths.finish())

@@ -1,32 +1,14 @@
-use Rattle.std.proofs.Common.{◌∙◌, ◌+◌, ap, arith, length, map, refl, take}
-use Rattle.std.proofs.lemmas.List.{length-replicate, length-set}
-use Rattle.vx_base.specs.PlainValue.{bytes, null}
-use Rattle.vx_model.proofs.FrameOfReferenceLemmas.{row_passes}
-use Rattle.vx_rules.specs.Patterns.{liked}
-use Rattle.vx_rows.specs.Readable.{lent_rows}
+use Rattle.std.proofs.Common.{◌∙◌, ap, map, refl, sym}
 use Rattle.vx_rows.specs.Items.{plain_item}
-use Rattle.vx_rows.specs.Texts.{has_text}
-use Rattle.vx_rows.proofs.PairLemmas.{maps-done, maps-set}
-use Rattle.vx_rows.proofs.TextLemmas.{liked-items}
+use Rattle.vx_rows.specs.Readable.{lent_rows}
+use Rattle.vx_rows.proofs.AnswerLemmas.{or-map}
+use Rattle.vx_rows.proofs.TextLemmas.{liked-alike}
 use Rattle.vx_rows.proofs.matching.columns.liked_by_one.Goals as goal
 
-pub loop-row-init : goal.loop-row-init
-loop-row-init c = record { long = ap length c.in_ok-truths.ensures ∙ length-replicate c.len.result null ∙ c.len.ensures; done = refl }
-
-pub cell_liked-requires : goal.cell_liked-requires
-cell_liked-requires c = ap has_text c.cell.ensures ∙ row_passes has_text (lent_rows c.args.texts) c.loop-row.row (omega (arith, c.len-row-end.ensures)) c.requires.utf8
-
-pub loop-row-preserved : goal.loop-row-preserved
-loop-row-preserved c =
-    let inv = c.loop-row.invariant in
-    let one = c.in_ok-answer.ensures ∙ liked-items c.args.options _ c.args.pattern.now _ (ap (map plain_item) c.as_slice.ensures.value ∙ c.in_ok-read_items.ensures) in
-    record {
-      long = ap length c.set.ensures ∙ length-set c.loop-row.truths c.loop-row.row _ ∙ inv.long;
-      done = ap (take (c.loop-row.row + 1)) c.set.ensures
-          ∙ maps-set (λ v. liked c.args.options v (bytes c.args.pattern.now)) (lent_rows c.args.texts) c.loop-row.truths c.loop-row.row _ _ (omega (arith, c.len-row-end.ensures)) inv.long c.cell.ensures one inv.done;
-    }
+pub returns-in-Bytes : goal.returns-in-Bytes
+returns-in-Bytes c =
+    or-map c.stored_liked.result _ _ (λ truths e. e ∙ liked-alike c.args.options c.args.pattern.now _ (ap (map plain_item) c.as_slice.ensures.value ∙ c.in_ok-read_items.ensures) _ _ (ap lent_rows (sym c.in-Bytes.is))) c.stored_liked.ensures
 
 pub returns : goal.returns
 returns c =
-    let inv = c.loop-row.invariant in
-    c.finish.ensures ∙ maps-done (λ v. liked c.args.options v (bytes c.args.pattern.now)) (lent_rows c.args.texts) c.loop-row.truths c.loop-row.row (omega (arith, c.len-row-end.ensures)) inv.long inv.done
+    or-map c.cells_liked.result _ _ (λ truths e. e ∙ liked-alike c.args.options c.args.pattern.now _ (ap (map plain_item) c.as_slice-in_default.ensures.value ∙ c.in_ok-read_items.ensures) _ _ refl) c.cells_liked.ensures
